@@ -1,0 +1,3 @@
+pub mod Xors
+pub mod XorSums
+pub mod Cycles
