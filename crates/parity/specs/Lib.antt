@@ -1,3 +1,4 @@
 pub mod Xor
 pub mod Count
 pub mod Cyclic
+pub mod Lists

@@ -1,0 +1,1 @@
+// Writing and data extraction.

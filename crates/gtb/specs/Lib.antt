@@ -1,0 +1,4 @@
+pub mod Shape
+pub mod Square
+pub mod Positions
+pub mod Answer

@@ -1,0 +1,44 @@
+-- Shapes: order q, directions n, width b (document 01, "The square and its checks").
+use mathlib.Core.Bool.{Bool, true, not, _&&_}
+use mathlib.Core.List.{List, [], _∷_}
+use mathlib.Core.Path.{_≡_}
+use Prim.Native.Nat.{ℕ, _+_, _-_, _*_, _/_, _%_}
+use lib.Dec.{leb, eqb}
+use lib.ListN.{getD}
+use Rattle.parity.specs.Count.{any, all}
+use Rattle.gtb.specs.declared.Shape.{Shape}
+
+-- the ten orders
+unfoldable pub orders : List ℕ
+orders = 3 ∷ 5 ∷ 7 ∷ 11 ∷ 13 ∷ 17 ∷ 19 ∷ 23 ∷ 29 ∷ 31 ∷ []
+
+-- q is one of them
+unfoldable pub isOrder : ℕ → Bool
+isOrder q = any 10 (λ k. eqb (getD orders k 0) q)
+
+-- the table's rule: odd, above 2, and no number from 2 to q - 1 divides it
+unfoldable pub oddPrime : ℕ → Bool
+oddPrime q = eqb (q % 2) 1 && leb 3 q && all (q - 2) (λ d. not (eqb (q % (d + 2)) 0))
+
+-- q is an order, n goes from 2 to the smaller of q and 8, b from 1 to 32
+unfoldable pub lawful : Shape → Bool
+lawful s = isOrder (s .q) && leb 2 (s .n) && leb (s .n) (s .q) && leb (s .n) 8 && leb 1 (s .b) && leb (s .b) 32
+
+abbrev pub Lawful : Shape → Type 0
+Lawful s = lawful s ≡ true
+
+-- N: the symbols of a word
+abbrev pub wordLength : Shape → ℕ
+wordLength s = s .q * s .q
+
+-- K: the information symbols of a word
+abbrev pub infoLength : Shape → ℕ
+infoLength s = (s .q - 1) * (s .q + 1 - s .n)
+
+-- the scratch: n × q rows of N bits, 32 to a value
+unfoldable pub scratchLength : Shape → ℕ
+scratchLength s = s .n * s .q * ((s .q * s .q + 31) / 32)
+
+-- the slope of direction t, from 1 on
+unfoldable pub slopeOf : Shape → ℕ → ℕ
+slopeOf s t = t - 1
