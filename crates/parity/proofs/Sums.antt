@@ -58,9 +58,9 @@ sum-only zero k f l h = absurd (not-suc-le-zero l)
 sum-only (suc n) k f l h =
     ⊎-elim
     (λ (e : k ≡ n).
-      ap₂ (λ (x y : ℕ). x + y) (sum-none n f (λ i li. h i (le-step li) (λ e′. absurd (omega arith)))) (ap f (sym e)) ∙ omega arith)
+    ap₂ (λ (x y : ℕ). x + y) (sum-none n f (λ i li. h i (le-step li) (λ e′. absurd (omega arith)))) (ap f (sym e)) ∙ omega arith)
     (λ (lt : k < n).
-      ap₂ (λ (x y : ℕ). x + y) (sum-only n k f lt (λ i li ne. h i (le-step li) ne)) (h n (lt-suc-self n) (λ e. omega arith)) ∙ omega arith)
+    ap₂ (λ (x y : ℕ). x + y) (sum-only n k f lt (λ i li ne. h i (le-step li) ne)) (h n (lt-suc-self n) (λ e. omega arith)) ∙ omega arith)
     (eq-or-lt-of-le (le-of-suc-le-suc l))
 
 -- a range in two parts
@@ -69,9 +69,9 @@ sum-split n zero f = ap (λ (k : ℕ). sum k f) (add-zero n) ∙ let h = sum-zer
 sum-split n (suc m) f =
     ap (λ (k : ℕ). sum k f) (add-suc n m)
     ∙ let a = sum-suc (n + m) f in
-      let b = sum-suc m (λ i. f (n + i)) in
-      let ih = sum-split n m f in
-      omega arith
+    let b = sum-suc m (λ i. f (n + i)) in
+    let ih = sum-split n m f in
+    omega arith
 
 -- rows of q
 pub sum-rows : (n q : ℕ) (f : ℕ → ℕ) → sum (n * q) f ≡ sum n (λ r. sum q (λ c. f (r * q + c)))
