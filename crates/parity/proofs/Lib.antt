@@ -1,6 +1,11 @@
 pub mod Xors
 pub mod XorSums
-pub mod Cycles
 pub mod Tests
 pub mod Sums
 pub mod Lists
+pub mod Cycles
+pub mod Orders
+pub mod Newton
+pub mod Kernel
+pub mod Walk
+pub mod Interpolate

@@ -1,0 +1,131 @@
+-- Steps of δ round a cycle of q places: a function whose difference over such a step is given.
+use mathlib.Core.Path.{_≡_, refl, sym, ap, ap₂, _∙_}
+use Prim.Native.Nat.{ℕ, suc, _+_, _*_, _/_, _%_, _^_, _<_}
+use native.Mathlib.Nat.{add-comm, mul-add, add-mul, mul-comm, mul-left-comm, mul-one, add-mod-mod, mod-eq-of-lt, mod-lt, zero-mul, zero-mod, add-mul-mod-self-left, add-mul-mod-self-right, div-add-mod'}
+use native.Mathlib.Numerals.{add-one}
+use lib.Dec.{eqb}
+use borrow.Author.Tests.{eq-eqb, ne-eqb}
+use Rattle.parity.specs.Xor.{_⊕_, xorSum, when}
+use Rattle.parity.specs.Cyclic.{Cyclic}
+use Rattle.parity.proofs.Xors.{self, zero-l, lt-pow, xors}
+use Rattle.parity.proofs.XorSums.{xs-zero, xs-suc, cong, linear, exchange, only, split, bound, const-odd}
+use Rattle.parity.proofs.Cycles.{turns, wrap, same}
+
+-- the XOR of d over the steps of δ from 0 to u; e is an inverse of δ modulo q
+unfoldable pub walk : ℕ → ℕ → ℕ → (ℕ → ℕ) → ℕ → ℕ
+walk q δ e d u = xorSum (u * e % q) (λ j. d (δ * j))
+
+-- the walk with its total added, so that its own total is zero
+unfoldable pub quotient : ℕ → ℕ → ℕ → (ℕ → ℕ) → ℕ → ℕ
+quotient q δ e d u = walk q δ e d u ⊕ xorSum q (walk q δ e d)
+
+when-eq : (a b x : ℕ) → a ≡ b → when (eqb a b) x ≡ x
+unfolding when
+when-eq a b x h = rw (eq-eqb a b h)
+
+when-ne : (a b x : ℕ) → (a ≡ b → ⊥) → when (eqb a b) x ≡ 0
+unfolding when
+when-ne a b x h = rw (ne-eqb a b h)
+
+-- p permutes the numbers below n, and r undoes it: the sum is the same
+permute : (n : ℕ) (f p r : ℕ → ℕ)
+    → ((j : ℕ) → j < n → p j < n) → ((c : ℕ) → c < n → r c < n)
+    → ((j : ℕ) → j < n → r (p j) ≡ j) → ((c : ℕ) → c < n → p (r c) ≡ c)
+    → xorSum n (λ j. f (p j)) ≡ xorSum n f
+permute n f p r p-lt r-lt rp pr =
+    cong n (λ j. f (p j)) (λ j. xorSum n (λ c. when (eqb (p j) c) (f c)))
+    (λ j l. sym (only n (p j) (λ c. when (eqb (p j) c) (f c)) (p-lt j l) (λ c lc ne. when-ne (p j) c (f c) (λ h. ne (sym h))) ∙ when-eq (p j) (p j) (f (p j)) refl))
+    ∙ exchange n n (λ j c. when (eqb (p j) c) (f c))
+    ∙ cong n (λ c. xorSum n (λ j. when (eqb (p j) c) (f c))) f
+    (λ c l. only n (r c) (λ j. when (eqb (p j) c) (f c)) (r-lt c l) (λ j lj ne. when-ne (p j) c (f c) (λ h. ne (sym (rp j lj) ∙ ap r h))) ∙ when-eq (p (r c)) c (f c) (pr c l))
+
+-- a factor may be reduced modulo q
+times-mod : (q a x : ℕ) → a * (x % q) % q ≡ a * x % q
+times-mod q a x =
+    wrap q (λ x. a * x % q) (λ x. ap (λ (k : ℕ). k % q) (mul-add a x q) ∙ add-mul-mod-self-right (a * x) a q) x
+
+pub walk-start : (q δ e : ℕ) (d : ℕ → ℕ) → walk q δ e d 0 ≡ 0
+unfolding walk
+walk-start q δ e d =
+    ap (λ (k : ℕ). xorSum k (λ j. d (δ * j))) (ap (λ (k : ℕ). k % q) (zero-mul e) ∙ zero-mod q) ∙ xs-zero (λ j. d (δ * j))
+
+pub walk-period : (q δ e : ℕ) (d : ℕ → ℕ) → 0 < q → (u : ℕ) → walk q δ e d (u + q) ≡ walk q δ e d u
+unfolding walk
+walk-period q δ e d pos u =
+    ap (λ (k : ℕ). xorSum k (λ j. d (δ * j))) (ap (λ (k : ℕ). k % q) (add-mul u q e) ∙ add-mul-mod-self-left (u * e) q e)
+
+module _ (q δ e : ℕ) (d : ℕ → ℕ) (pos : 0 < q) (inv : δ * e % q ≡ 1) where
+  -- δ and e cancel
+  cancels : (u : ℕ) → δ * (u * e) % q ≡ u % q
+  cancels u =
+      ap (λ (k : ℕ). k % q) (mul-left-comm δ u e)
+      ∙ sym (times-mod q u (δ * e)) ∙ ap (λ (k : ℕ). u * k % q) inv ∙ ap (λ (k : ℕ). k % q) (mul-one u)
+
+  back : (j : ℕ) → j < q → δ * j % q * e % q ≡ j
+  back j l =
+      ap (λ (k : ℕ). k % q) (mul-comm (δ * j % q) e) ∙ times-mod q e (δ * j)
+      ∙ ap (λ (k : ℕ). k % q) (mul-left-comm e δ j ∙ ap (λ (k : ℕ). δ * k) (mul-comm e j)) ∙ cancels j ∙ mod-eq-of-lt l
+
+  forth : (c : ℕ) → c < q → δ * (c * e % q) % q ≡ c
+  forth c l = times-mod q δ (c * e) ∙ cancels c ∙ mod-eq-of-lt l
+
+  module _ (cyc : Cyclic q d) where
+    -- q steps meet each place once
+    steps-total : xorSum q (λ j. d (δ * j)) ≡ 0
+    steps-total =
+        cong q (λ j. d (δ * j)) (λ j. d (δ * j % q)) (λ j l. sym (wrap q d (cyc .period) (δ * j)))
+        ∙ permute q d (λ j. δ * j % q) (λ c. c * e % q) (λ j l. mod-lt (δ * j) pos) (λ c l. mod-lt (c * e) pos) back forth
+        ∙ cyc .total
+
+    -- so q more steps change nothing
+    steps-period : (k : ℕ) → xorSum (k + q) (λ j. d (δ * j)) ≡ xorSum k (λ j. d (δ * j))
+    steps-period k =
+        ap (λ (n : ℕ). xorSum n (λ j. d (δ * j))) (add-comm k q) ∙ split q k (λ j. d (δ * j))
+        ∙ ap₂ (λ (x y : ℕ). x ⊕ y) steps-total
+        (cong k (λ j. d (δ * (q + j))) (λ j. d (δ * j)) (λ j l. ap d (mul-add δ q j ∙ add-comm (δ * q) (δ * j)) ∙ turns q d (cyc .period) δ (δ * j)))
+        ∙ zero-l (xorSum k (λ j. d (δ * j)))
+
+    -- the walk, with the number of steps not reduced
+    unreduced : (u : ℕ) → walk q δ e d u ≡ xorSum (u * e) (λ j. d (δ * j))
+    unfolding walk
+    unreduced u = wrap q (λ k. xorSum k (λ j. d (δ * j))) steps-period (u * e)
+
+    pub walk-step : (u : ℕ) → walk q δ e d (u + δ) ≡ walk q δ e d u ⊕ d u
+    walk-step u =
+        unreduced (u + δ)
+        ∙ same q (λ k. xorSum k (λ j. d (δ * j))) steps-period ((u + δ) * e) (suc (u * e)) one-more
+        ∙ xs-suc (u * e) (λ j. d (δ * j))
+        ∙ ap₂ (λ (x y : ℕ). x ⊕ y) (sym (unreduced u)) (same q d (cyc .period) (δ * (u * e)) u (cancels u))
+      where
+        one-more : (u + δ) * e % q ≡ suc (u * e) % q
+        one-more =
+            ap (λ (k : ℕ). k % q) (add-mul u δ e) ∙ sym (add-mod-mod (u * e) (δ * e) q)
+            ∙ ap (λ (k : ℕ). (u * e + k) % q) inv ∙ ap (λ (k : ℕ). k % q) (add-one (u * e))
+
+    pub quotient-step : (u : ℕ) → quotient q δ e d (u + δ) ≡ quotient q δ e d u ⊕ d u
+    unfolding quotient
+    quotient-step u = ap (λ (x : ℕ). x ⊕ xorSum q (walk q δ e d)) (walk-step u) ∙ simp xors
+
+pub quotient-cyclic : (q δ e : ℕ) (d : ℕ → ℕ) → 0 < q → q % 2 ≡ 1 → Cyclic q (quotient q δ e d)
+unfolding quotient
+quotient-cyclic q δ e d pos odd = record {
+  period = λ u. ap (λ (x : ℕ). x ⊕ xorSum q (walk q δ e d)) (walk-period q δ e d pos u);
+  total = linear q (walk q δ e d) (λ u. xorSum q (walk q δ e d))
+      ∙ ap (λ (x : ℕ). xorSum q (walk q δ e d) ⊕ x) (odd-times (xorSum q (walk q δ e d)))
+      ∙ self (xorSum q (walk q δ e d));
+}
+  where
+    halves : q ≡ q / 2 * 2 + 1
+    halves = sym (div-add-mod' q 2) ∙ ap (λ (k : ℕ). q / 2 * 2 + k) odd
+
+    odd-times : (x : ℕ) → xorSum q (λ u. x) ≡ x
+    odd-times x = ap (λ (n : ℕ). xorSum n (λ u. x)) halves ∙ const-odd (q / 2) x
+
+pub walk-lt : (q δ e k : ℕ) (d : ℕ → ℕ) → ((c : ℕ) → d c < 2 ^ k) → (u : ℕ) → walk q δ e d u < 2 ^ k
+unfolding walk
+walk-lt q δ e k d h u = bound k (u * e % q) (λ j. d (δ * j)) (λ j l. h (δ * j))
+
+pub quotient-lt : (q δ e k : ℕ) (d : ℕ → ℕ) → ((c : ℕ) → d c < 2 ^ k) → (u : ℕ) → quotient q δ e d u < 2 ^ k
+unfolding quotient
+quotient-lt q δ e k d h u =
+    lt-pow k (walk q δ e d u) (xorSum q (walk q δ e d)) (walk-lt q δ e k d h u) (bound k q (walk q δ e d) (λ c l. walk-lt q δ e k d h c))
