@@ -1,0 +1,100 @@
+-- An arrival (document 01, "The session"). What it brings is opened without the session; the session then decides.
+use mathlib.Core.Path.{_≡_}
+use mathlib.Core.Bool.{Bool, true, false, cond, _&&_, _||_}
+use mathlib.Core.List.{List}
+use Prim.Native.Nat.{ℕ, _-_, _≤_}
+use lib.Dec.{eqb}
+use lib.ListN.{length, getD, replicate}
+use Rattle.gtb.specs.declared.Shape.{Shape}
+use Rattle.gtb.specs.declared.Refusal.{Refusal}
+use Rattle.gtb.specs.Shape.{lawful, wordLength, scratchLength}
+use Rattle.gtb.specs.Square.{at, Word, Codeword}
+use Rattle.gtb.specs.Positions.{extractOf}
+use Rattle.gtb.specs.Answer as answer
+use Rattle.decoder.specs.declared.Decoded.{Decoded}
+use Rattle.decoder.specs.declared.Decoded.the-variants as decoded
+use Rattle.decoder.specs.Damage.{Unmasked, weight, damaged}
+use Rattle.decoder.specs.Decode.{decodeOf, restored}
+use Rattle.page.specs.declared.PageRead.{PageRead}
+use Rattle.page.specs.declared.PageRead.the-variants as page
+use Rattle.page.specs.Page.{pageOf, marksOf}
+use Rattle.session.specs.declared.Session.{Session}
+use Rattle.session.specs.declared.Outcome.{Outcome}
+use Rattle.session.specs.declared.Outcome.the-variants.{Taken, Again, Refused}
+use Rattle.session.specs.declared.Arrived.{Arrived}
+use Rattle.session.specs.Session.{overflows, recorded}
+
+-- a way of reading: its answer, the stored word that it gives, and the damage that it is to undo
+pub record Way : Type 1 where
+  pub answer : Shape → List ℕ → Decoded
+  pub word : Shape → List ℕ → List ℕ
+  pub Allowed : Shape → (ℕ → ℕ) → Type 0
+
+-- it gives, for every stored word and allowed damage, that word and the number of digits changed; it never refuses with 9
+pub record Sound (way : Way) (s : Shape) : Type 0 where
+  pub right : (v e : List ℕ) → Codeword s v → Word s e → way .Allowed s (at e)
+      → (way .answer s (damaged v e) ≡ decoded.Corrected (weight s (at e))) × (way .word s (damaged v e) ≡ v)
+  pub never : (w : List ℕ) → way .answer s w ≡ decoded.Refused Refusal.Overflow → ⊥
+
+-- reading as in document 01: clean damage to at most n - 1 digits
+abbrev pub clean : Way
+clean = record { answer = decodeOf; word = restored; Allowed = λ s e. Unmasked s e × (weight s e ≤ s .n - 1) }
+
+-- what an arrival brings: a page with its number, its marks and the digits changed, or what turns it down
+pub data Opened : Type 0 where
+  Page : ℕ → List ℕ → ℕ → Opened
+  Bad : Refusal → Opened
+
+abbrev pub unless : Bool → Refusal → Opened → Opened
+unless true e next = next
+unless false e next = Bad e
+
+-- the page in the information symbols
+abbrev pub openPage : Shape → List ℕ → ℕ → PageRead → Opened
+openPage s symbols k (page.Page number c) = Page number (marksOf s symbols) k
+openPage s symbols k (page.Refused e) = Bad e
+
+abbrev pub openWord : Shape → List ℕ → Decoded → Opened
+openWord s v (decoded.Corrected k) = openPage s (extractOf s v) k (pageOf s (extractOf s v))
+openWord s v (decoded.Refused e) = Bad e
+
+-- tests 1 to 8: the word is read, its data digits taken out, the page read
+unfoldable pub opened : Way → Shape → List ℕ → List ℕ → Opened
+opened way s word scratch =
+    unless (lawful s) Refusal.Shape
+    (unless (eqb (length word) (wordLength s) && eqb (length scratch) (scratchLength s)) Refusal.Length
+    (openWord s (way .word s word) (way .answer s word)))
+
+-- a marked page is again; then 9
+unfoldable pub outcomeOf : Session → Opened → Outcome
+outcomeOf σ (Page number marks k) =
+    cond (getD (σ .taken) number false) (Again number k) (cond (overflows (σ .calls) marks) (Refused Refusal.Overflow) (Taken number k))
+outcomeOf σ (Bad e) = Refused e
+
+-- the session after the answer: changed by taken alone
+abbrev pub sessionBy : Session → Opened → Outcome → Session
+sessionBy σ (Page number marks k) (Taken p c) = recorded σ number marks
+sessionBy σ (Page number marks k) (Again p c) = σ
+sessionBy σ (Page number marks k) (Refused e) = σ
+sessionBy σ (Bad e′) r = σ
+
+unfoldable pub sessionAfter : Session → Opened → Session
+sessionAfter σ o = sessionBy σ o (outcomeOf σ o)
+
+-- the word stands corrected after taken and again, and is the word that came after a refusal
+abbrev pub wordAfter : List ℕ → List ℕ → Outcome → List ℕ
+wordAfter word corrected (Taken p k) = corrected
+wordAfter word corrected (Again p k) = corrected
+wordAfter word corrected (Refused e) = word
+
+abbrev pub scratchAfter : List ℕ → Outcome → List ℕ
+scratchAfter scratch (Taken p k) = replicate (length scratch) 0
+scratchAfter scratch (Again p k) = replicate (length scratch) 0
+scratchAfter scratch (Refused e) = answer.scratchAfter e scratch
+
+-- what an arrival answers and leaves
+pub record Arriving (way : Way) (σ : Session) (word scratch word′ scratch′ : List ℕ) (r : Arrived) : Type 0 where
+  pub outcome : r .outcome ≡ outcomeOf σ (opened way (σ .shape) word scratch)
+  pub session : r .session ≡ sessionAfter σ (opened way (σ .shape) word scratch)
+  pub wordLeft : word′ ≡ wordAfter word (way .word (σ .shape) word) (r .outcome)
+  pub scratchLeft : scratch′ ≡ scratchAfter scratch (r .outcome)

@@ -1,0 +1,3 @@
+pub mod Session
+pub mod Arrival
+pub mod Recording

@@ -1,0 +1,56 @@
+-- The session, fresh and after a page (document 01, "The session").
+use mathlib.Core.Bool.{Bool, true, false}
+use mathlib.Core.List.{List, [], _∷_}
+use mathlib.Core.Path.{_≡_}
+use Prim.Native.Nat.{ℕ, _+_, _^_}
+use lib.Dec.{eqb, leb, ltb}
+use lib.ListN.{getD, set, replicate}
+use Rattle.parity.specs.Count.{bit, any}
+use Rattle.parity.specs.Lists.{tabulate}
+use Rattle.gtb.specs.declared.Shape.{Shape}
+use Rattle.gtb.specs.declared.Refusal.{Refusal}
+use Rattle.gtb.specs.declared.Status.{Status}
+use Rattle.gtb.specs.declared.Status.the-variants.{Done}
+use Rattle.gtb.specs.Shape.{lawful}
+use Rattle.gtb.specs.Answer as answer
+use Rattle.session.specs.declared.Session.{Session}
+use Rattle.session.specs.declared.Counted.{Counted}
+use Rattle.session.specs.declared.Counted.the-variants.{Calls, Refused}
+
+-- only no and zeros
+unfoldable pub freshOf : Shape → Session
+freshOf s = record { shape = s; taken = replicate 1024 false; calls = replicate 256 0 }
+
+-- making one tests 1
+unfoldable pub freshStatus : Shape → Status
+freshStatus s = answer.unless (lawful s) Refusal.Shape Done
+
+-- how many of the marks are for function f
+unfoldable pub countOf : ℕ → List ℕ → ℕ
+countOf f [] = 0
+countOf f (m ∷ marks) = bit (eqb m f) + countOf f marks
+
+-- each mark adds 1 to its function's count
+unfoldable pub added : List ℕ → List ℕ → List ℕ
+added calls marks = tabulate 256 (λ f. getD calls f 0 + countOf f marks)
+
+-- a count would pass 2^32 - 1
+unfoldable pub overflows : List ℕ → List ℕ → Bool
+overflows calls marks = any 256 (λ f. leb (2 ^ 32) (getD calls f 0 + countOf f marks))
+
+-- the number becomes yes, the marks are counted
+unfoldable pub recorded : Session → ℕ → List ℕ → Session
+recorded σ number marks = record { shape = σ .shape; taken = set (σ .taken) number true; calls = added (σ .calls) marks }
+
+-- a count query tests 1, then 7
+abbrev pub unless : Bool → Refusal → Counted → Counted
+unless true e next = next
+unless false e next = Refused e
+
+unfoldable pub countedOf : Session → ℕ → Counted
+countedOf σ f = unless (lawful (σ .shape)) Refusal.Shape (unless (ltb f 256) Refusal.Function (Calls (getD (σ .calls) f 0)))
+
+-- as one number, a refusal above all counts
+abbrev pub countedNumber : Counted → ℕ
+countedNumber (Calls k) = k
+countedNumber (Refused e) = 2 ^ 32 + answer.refusalNumber e
