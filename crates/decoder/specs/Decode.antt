@@ -2,7 +2,7 @@
 use mathlib.Core.Path.{_≡_}
 use mathlib.Core.Bool.{Bool, true, false, not, cond, _&&_}
 use mathlib.Core.List.{List}
-use Prim.Native.Nat.{ℕ, zero, suc, _-_, _<_, _≤_}
+use Prim.Native.Nat.{ℕ, zero, suc, _+_, _-_, _^_}
 use lib.Dec.{eqb, leb}
 use lib.ListN.{length}
 use Rattle.parity.specs.Xor.{_⊕_, when}
@@ -47,6 +47,11 @@ unfoldable pub correctable : Shape → List ℕ → Bool
 correctable s w =
     leb (count (wordLength s) (located s (at w))) (s .n - 1)
     && all (s .n) (λ t. all (s .q) (λ L. eqb (syndrome s (at (restored s w)) t L) 0))
+
+-- as one number: the digits changed, or 2^31 plus the refusal's number
+abbrev pub decodedNumber : Decoded → ℕ
+decodedNumber (Corrected k) = k
+decodedNumber (Refused e) = 2 ^ 31 + refusalNumber e
 
 abbrev pub unless : Bool → Refusal → Decoded → Decoded
 unless true e next = next

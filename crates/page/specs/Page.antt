@@ -2,7 +2,7 @@
 use mathlib.Core.Path.{_≡_}
 use mathlib.Core.Bool.{Bool, true, false, _&&_}
 use mathlib.Core.List.{List, [], _∷_, _++_}
-use Prim.Native.Nat.{ℕ, _+_, _-_, _^_}
+use Prim.Native.Nat.{ℕ, _+_, _-_, _*_, _^_}
 use lib.Dec.{eqb, leb, ltb}
 use lib.ListN.{length, getD, take, drop, replicate}
 use Rattle.parity.specs.Count.{all}
@@ -27,6 +27,11 @@ zeros xs = all (length xs) (λ i. eqb (getD xs i 0) 0)
 -- at most K - 2 marks
 abbrev pub most : Shape → ℕ
 most s = infoLength s - 2
+
+-- as one number: 1024 × page number + c, or 2^31 plus the refusal's number
+abbrev pub readNumber : PageRead → ℕ
+readNumber (Page number c) = 1024 * number + c
+readNumber (Refused e) = 2 ^ 31 + answer.refusalNumber e
 
 abbrev pub unless : Bool → Refusal → PageRead → PageRead
 unless true e next = next

@@ -1,7 +1,7 @@
 -- An arrival (document 01, "The session"). What it brings is opened without the session; the session then decides.
 use mathlib.Core.Path.{_≡_}
 use mathlib.Core.Bool.{Bool, true, false, cond, _&&_, _||_}
-use mathlib.Core.List.{List}
+use mathlib.Core.List.{List, [], _∷_}
 use Prim.Native.Nat.{ℕ, _-_, _≤_}
 use lib.Dec.{eqb}
 use lib.ListN.{length, getD, replicate}
@@ -23,6 +23,12 @@ use Rattle.session.specs.declared.Outcome.{Outcome}
 use Rattle.session.specs.declared.Outcome.the-variants.{Taken, Again, Refused}
 use Rattle.session.specs.declared.Arrived.{Arrived}
 use Rattle.session.specs.Session.{overflows, recorded}
+
+-- an answer's three values: 0 taken, 1 again, 2 refused; page or refusal number; digits changed
+abbrev pub outcomeValues : Outcome → List ℕ
+outcomeValues (Taken number k) = 0 ∷ number ∷ k ∷ []
+outcomeValues (Again number k) = 1 ∷ number ∷ k ∷ []
+outcomeValues (Refused e) = 2 ∷ answer.refusalNumber e ∷ 0 ∷ []
 
 -- a way of reading: its answer, the stored word that it gives, and the damage that it is to undo
 pub record Way : Type 1 where
