@@ -3,8 +3,10 @@ pub mod XorSums
 pub mod Tests
 pub mod Sums
 pub mod Lists
-pub mod Cycles
 pub mod Orders
+pub mod Modular
+pub mod Only
+pub mod Cycles
 pub mod Newton
 pub mod Kernel
 pub mod Walk
