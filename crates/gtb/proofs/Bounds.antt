@@ -30,7 +30,7 @@ and-parts a b h = (and-left a b h, and-right a b h)
 -- each entry of the table passes parity's test of an order
 order-rule : (q : ℕ) → isOrder q ≡ true → Order q
 unfolding orders all orderTest
-order-rule q o = order-of q (rw (each-order orderTest refl q o) tt)
+order-rule q o = order-of q (each-order orderTest refl q o)
 
 -- and is at least 3
 order-low : (q : ℕ) → isOrder q ≡ true → 3 ≤ q

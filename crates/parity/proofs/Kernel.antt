@@ -1,13 +1,13 @@
 -- Cyclic rows that vanish at as many different shifts as there are rows are zero.
 use mathlib.Core.Path.{_≡_, sym, ap, ap₂, _∙_}
 use mathlib.Core.Logic.{⊎-elim}
-use Prim.Native.Nat.{ℕ, zero, suc, _+_, _*_, _-_, _/_, _%_, _<_, suc-le-suc}
+use Prim.Native.Nat.{ℕ, zero, suc, _+_, _*_, _-_, _%_, _<_, suc-le-suc}
 use native.Mathlib.Nat.{add-assoc, add-zero, add-suc, suc-add, sub-zero, sub-self, mul-suc, mul-comm, mul-assoc, zero-add, one-mul, mod-add-mod, add-mul-mod-self-right, le-step, lt-suc-self, ne-of-lt, eq-or-lt-of-le, le-of-suc-le-suc, not-suc-le-zero}
 use native.Mathlib.Omega.{arith}
 use Rattle.parity.specs.Xor.{_⊕_, xorSum}
 use Rattle.parity.specs.Cyclic.{Cyclic, Order, Apart, eval}
 use Rattle.parity.proofs.Xors.{xors, zero-l, zero-r, self, eq-of-zero}
-use Rattle.parity.proofs.XorSums.{xs-zero, cong, const-odd}
+use Rattle.parity.proofs.XorSums.{xs-zero, cong, odd-total}
 use Rattle.parity.proofs.Cycles.{turns, same}
 use Rattle.parity.proofs.Newton.{eval-cyclic, horner, newton}
 use Rattle.parity.proofs.Orders.{mod-mul-mod, order-pos}
@@ -50,10 +50,6 @@ level : (q d : ℕ) → Order q → (d % q ≡ 0 → ⊥) → (f : ℕ → ℕ) 
 level q d o ne f p s c =
     let (e, one) = o .inverse d ne in
     same q f p c (0 + e * c * d) (reach q d e c one) ∙ turns d f s (e * c) 0
-
--- an odd number of equal values XORs to the value
-odd-total : (q x : ℕ) → q % 2 ≡ 1 → xorSum q (λ i. x) ≡ x
-odd-total q x odd = ap (λ (n : ℕ). xorSum n (λ i. x)) (omega arith) ∙ const-odd (q / 2) x
 
 -- a cyclic function that is the same moved by a and moved by x is zero
 pub constant : (q : ℕ) → Order q → (f : ℕ → ℕ) → Cyclic q f → (a x : ℕ) → (a % q ≡ x % q → ⊥) → ((c : ℕ) → f (c + a) ≡ f (c + x)) → (c : ℕ) → f c ≡ 0

@@ -89,7 +89,7 @@ pub any-zero : (p : ℕ → Bool) → any 0 p ≡ false
 unfolding any
 any-zero p = refl
 
-or-cases : (a b : Bool) → (a || b) ≡ true → (a ≡ true) ⊎ (b ≡ true)
+pub or-cases : (a b : Bool) → (a || b) ≡ true → (a ≡ true) ⊎ (b ≡ true)
 or-cases true b h = inl refl
 or-cases false b h = inr h
 

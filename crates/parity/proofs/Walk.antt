@@ -1,15 +1,16 @@
 -- Steps of δ round a cycle of q places: a function whose difference over such a step is given.
 use mathlib.Core.Path.{_≡_, refl, sym, ap, ap₂, _∙_}
-use Prim.Native.Nat.{ℕ, suc, _+_, _*_, _/_, _%_, _^_, _<_}
-use native.Mathlib.Nat.{add-comm, mul-add, add-mul, mul-comm, mul-left-comm, mul-one, add-mod-mod, mod-eq-of-lt, mod-lt, zero-mul, zero-mod, add-mul-mod-self-left, add-mul-mod-self-right, div-add-mod'}
+use Prim.Native.Nat.{ℕ, suc, _+_, _*_, _%_, _^_, _<_}
+use native.Mathlib.Nat.{add-comm, mul-add, add-mul, mul-comm, mul-left-comm, mul-one, add-mod-mod, mod-eq-of-lt, mod-lt, zero-mul, zero-mod, add-mul-mod-self-left}
 use native.Mathlib.Numerals.{add-one}
 use lib.Dec.{eqb}
 use borrow.Author.Tests.{eq-eqb, ne-eqb}
 use Rattle.parity.specs.Xor.{_⊕_, xorSum, when}
 use Rattle.parity.specs.Cyclic.{Cyclic}
 use Rattle.parity.proofs.Xors.{self, zero-l, lt-pow, xors}
-use Rattle.parity.proofs.XorSums.{xs-zero, xs-suc, cong, linear, exchange, only, split, bound, const-odd}
+use Rattle.parity.proofs.XorSums.{xs-zero, xs-suc, cong, linear, exchange, only, split, bound, odd-total}
 use Rattle.parity.proofs.Cycles.{turns, wrap, same}
+use Rattle.parity.proofs.Orders.{mod-mul-mod}
 
 -- the XOR of d over the steps of δ from 0 to u; e is an inverse of δ modulo q
 unfoldable pub walk : ℕ → ℕ → ℕ → (ℕ → ℕ) → ℕ → ℕ
@@ -42,7 +43,7 @@ permute n f p r p-lt r-lt rp pr =
 -- a factor may be reduced modulo q
 times-mod : (q a x : ℕ) → a * (x % q) % q ≡ a * x % q
 times-mod q a x =
-    wrap q (λ x. a * x % q) (λ x. ap (λ (k : ℕ). k % q) (mul-add a x q) ∙ add-mul-mod-self-right (a * x) a q) x
+    ap (λ (k : ℕ). k % q) (mul-comm a (x % q)) ∙ mod-mul-mod x a q ∙ ap (λ (k : ℕ). k % q) (mul-comm x a)
 
 pub walk-start : (q δ e : ℕ) (d : ℕ → ℕ) → walk q δ e d 0 ≡ 0
 unfolding walk
@@ -111,15 +112,9 @@ unfolding quotient
 quotient-cyclic q δ e d pos odd = record {
   period = λ u. ap (λ (x : ℕ). x ⊕ xorSum q (walk q δ e d)) (walk-period q δ e d pos u);
   total = linear q (walk q δ e d) (λ u. xorSum q (walk q δ e d))
-      ∙ ap (λ (x : ℕ). xorSum q (walk q δ e d) ⊕ x) (odd-times (xorSum q (walk q δ e d)))
+      ∙ ap (λ (x : ℕ). xorSum q (walk q δ e d) ⊕ x) (odd-total q (xorSum q (walk q δ e d)) odd)
       ∙ self (xorSum q (walk q δ e d));
 }
-  where
-    halves : q ≡ q / 2 * 2 + 1
-    halves = sym (div-add-mod' q 2) ∙ ap (λ (k : ℕ). q / 2 * 2 + k) odd
-
-    odd-times : (x : ℕ) → xorSum q (λ u. x) ≡ x
-    odd-times x = ap (λ (n : ℕ). xorSum n (λ u. x)) halves ∙ const-odd (q / 2) x
 
 pub walk-lt : (q δ e k : ℕ) (d : ℕ → ℕ) → ((c : ℕ) → d c < 2 ^ k) → (u : ℕ) → walk q δ e d u < 2 ^ k
 unfolding walk

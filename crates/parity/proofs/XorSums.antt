@@ -2,7 +2,7 @@
 use mathlib.Core.Path.{_≡_, refl, sym, ap, ap₂, _∙_, subst}
 use mathlib.Core.Bool.{Bool, true, false}
 use mathlib.Core.Logic.{⊎-elim}
-use Prim.Native.Nat.{ℕ, zero, suc, _+_, _*_, _%_, _^_, _<_, _≤_}
+use Prim.Native.Nat.{ℕ, zero, suc, _+_, _*_, _/_, _%_, _^_, _<_, _≤_}
 use native.Mathlib.Nat.{add-suc, add-zero, eq-or-lt-of-le, le-of-suc-le-suc, not-suc-le-zero, lt-suc-self, le-step, lt-of-lt-of-le, ne-of-lt, suc-mul, zero-mul}
 use native.Mathlib.Numerals.{add-one}
 use native.Mathlib.Omega.{arith}
@@ -94,12 +94,15 @@ when-sum true n f = refl
 when-sum false n f = sym (none n (λ i. 0) (λ i l. refl))
 
 -- an even number of equal terms cancels, an odd number is the term
-pub const-even : (k x : ℕ) → xorSum (k * 2) (λ i. x) ≡ 0
+const-even : (k x : ℕ) → xorSum (k * 2) (λ i. x) ≡ 0
 const-even zero x = xs-zero (λ i. x)
 const-even (suc k) x =
     ap (λ (n : ℕ). xorSum n (λ i. x)) (suc-mul k 2) ∙ split (k * 2) 2 (λ i. x)
     ∙ ap₂ (λ (a b : ℕ). a ⊕ b) (const-even k x) (xs-suc 1 (λ i. x) ∙ ap (λ (a : ℕ). a ⊕ x) (xs-suc 0 (λ i. x) ∙ ap (λ (a : ℕ). a ⊕ x) (xs-zero (λ i. x)) ∙ zero-l x) ∙ self x)
     ∙ self 0
 
-pub const-odd : (k x : ℕ) → xorSum (k * 2 + 1) (λ i. x) ≡ x
+const-odd : (k x : ℕ) → xorSum (k * 2 + 1) (λ i. x) ≡ x
 const-odd k x = sym (more (k * 2) (λ i. x) (sym (const-even k x))) ∙ zero-l x
+
+pub odd-total : (q x : ℕ) → q % 2 ≡ 1 → xorSum q (λ i. x) ≡ x
+odd-total q x odd = ap (λ (n : ℕ). xorSum n (λ i. x)) (omega arith) ∙ const-odd (q / 2) x
