@@ -3,3 +3,9 @@ pub mod Bounds
 pub mod Slopes
 pub mod Lines
 pub mod Rows
+pub mod Words
+pub mod Information
+pub mod Silence
+pub mod Codewords
+pub mod Positions
+pub mod Crossing

@@ -6,6 +6,7 @@ pub mod Lists
 pub mod Orders
 pub mod Modular
 pub mod Only
+pub mod Pigeon
 pub mod Cycles
 pub mod Newton
 pub mod Kernel

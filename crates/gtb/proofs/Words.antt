@@ -1,0 +1,44 @@
+-- Words of N symbols below 2^b: by the test, and by their symbols.
+use mathlib.Core.Path.{_≡_}
+use mathlib.Core.Bool.{true}
+use mathlib.Core.List.{List}
+use Prim.Native.Nat.{ℕ, _^_, _<_}
+use native.Mathlib.Decide.{decLt}
+use native.Mathlib.Omega.{arith}
+use lib.Dec.{ltb}
+use lib.ListN.{length, List·getD-eq-default}
+use lib.Pow.{pow-pos}
+use borrow.Author.Tests.{lt-ltb, ltb-true}
+use Rattle.parity.specs.Lists.{tabulate}
+use Rattle.parity.proofs.Tests.{all-elim, all-intro}
+use Rattle.parity.proofs.Lists.{length-tabulate, at-tabulate}
+use Rattle.gtb.specs.declared.Shape.{Shape}
+use Rattle.gtb.specs.Shape.{wordLength}
+use Rattle.gtb.specs.Square.{at, narrow, Word}
+
+-- past its end a list shows 0, which is below 2^b
+beyond : (b : ℕ) (w : List ℕ) → ((j : ℕ) → j < length w → at w j < 2 ^ b) → (j : ℕ) → at w j < 2 ^ b
+beyond b w h j =
+    elim (decLt j (length w)) [
+      | yes l ↦ h j l
+      | no l ↦ rw (List·getD-eq-default w 0 {n = j} (omega arith)) (pow-pos b)
+    ]
+
+pub word-narrow : (s : Shape) (w : List ℕ) → Word s w → narrow (s .b) w ≡ true
+unfolding narrow
+word-narrow s w h = all-intro (length w) (λ j. ltb (at w j) (2 ^ s .b)) (λ j l. lt-ltb (at w j) (2 ^ s .b) (h .width j))
+
+pub narrow-word : (s : Shape) (w : List ℕ) → length w ≡ wordLength s → narrow (s .b) w ≡ true → Word s w
+unfolding narrow
+narrow-word s w size h = record {
+  size = size;
+  width = beyond (s .b) w (λ j l. ltb-true (at w j) (2 ^ s .b) (all-elim (length w) (λ j. ltb (at w j) (2 ^ s .b)) h j l));
+}
+
+pub tabulate-word : (s : Shape) (f : ℕ → ℕ) → ((j : ℕ) → j < wordLength s → f j < 2 ^ s .b) → Word s (tabulate (wordLength s) f)
+tabulate-word s f h = record {
+  size = length-tabulate (wordLength s) f;
+  width =
+      beyond (s .b) (tabulate (wordLength s) f)
+      (λ j l. let lj : j < wordLength s = rw length-tabulate at l in rw (at-tabulate (wordLength s) f j lj) (h j lj));
+}
