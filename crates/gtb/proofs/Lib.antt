@@ -4,6 +4,8 @@ pub mod Slopes
 pub mod Lines
 pub mod Rows
 pub mod Words
+pub mod Sweeps
+pub mod Directions
 pub mod Information
 pub mod Silence
 pub mod Codewords

@@ -2,3 +2,4 @@ pub mod Shape
 pub mod Square
 pub mod Positions
 pub mod Answer
+pub mod Sweep

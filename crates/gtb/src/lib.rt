@@ -1,6 +1,11 @@
 // The code of the trace square: its shape, the answers that every entry gives, and the syndromes of a word.
+pub mod syndrome;
+
 ghost use mathlib.Core.Path.{_≡_};
-ghost use Rattle.gtb.specs.Shape.{slopeOf};
+ghost use Prim.Native.Nat.{_≤_};
+ghost use lib.ListN.{length, replicate};
+ghost use Rattle.gtb.specs.Shape.{slopeOf, isOrder, lawful};
+ghost use Rattle.gtb.specs.Square.{narrow};
 
 // (q, n, b): order, directions and width in bits. A caller's shape may hold any numbers.
 pub struct Shape {
@@ -34,4 +39,55 @@ pub fn slope(shape: Shape, t: usize) -> usize
     ensures { λ r. ⌜ r ≡ slopeOf shape t ⌝ }
 {
     if t == 0 { 0 } else { t - 1 }
+}
+
+const ORDERS: [u32; 10] = [3, 5, 7, 11, 13, 17, 19, 23, 29, 31];
+
+// q is one of the ten orders.
+fn is_order(q: u32) -> bool
+    ensures { λ r. ⌜ r ≡ isOrder q ⌝ }
+{
+    let table = ORDERS;
+    for k in 0..10 {
+        if table[k] == q {
+            return true;
+        }
+    }
+    false
+}
+
+// The tests on a caller's shape.
+pub fn is_lawful(shape: Shape) -> bool
+    ensures { λ r. ⌜ r ≡ lawful shape ⌝ }
+{
+    is_order(shape.q)
+        && 2 <= shape.n
+        && shape.n <= shape.q
+        && shape.n <= 8
+        && 1 <= shape.b
+        && shape.b <= 32
+}
+
+// Every symbol is below 2^b.
+pub fn is_narrow(symbols: &[u32], b: u32) -> bool
+    requires { ⌜ b ≤ 32 ⌝ }
+    ensures { λ r. ⌜ r ≡ narrow b (now (symbols .entry)) ⌝ }
+{
+    let top = ((1u64 << b) - 1) as u32;
+    let mut fits = true;
+    for i in 0..symbols.len() {
+        if symbols[i] > top {
+            fits = false;
+        }
+    }
+    fits
+}
+
+// Sets every value to 0.
+pub fn clear(values: &mut [u32])
+    ensures { λ _. ⌜ now (values .exit) ≡ replicate (length (now (values .entry))) 0 ⌝ }
+{
+    for i in 0..values.len() {
+        values[i] = 0;
+    }
 }

@@ -1,0 +1,91 @@
+// The syndromes of a word. Each row of the square is XORed, rotated, onto the q entries of a direction, so that no symbol needs a remainder.
+use crate::Shape;
+use crate::slope;
+ghost use mathlib.Core.Path.{_≡_};
+ghost use Prim.Native.Nat.{_+_, _*_, _%_, _≤_, _<_};
+ghost use lib.ListN.{length};
+ghost use Rattle.parity.specs.Xor.{xorSum};
+ghost use Rattle.gtb.specs.Shape.{Lawful, wordLength};
+ghost use Rattle.gtb.specs.Square.{at, Syndromes};
+ghost use Rattle.gtb.specs.Sweep.{Added};
+
+// The entries from `to` on take up `count` symbols of the word, from place `from` on.
+fn add_run(syn: &mut [u32; 248], word: &[u32], to: usize, from: usize, count: usize)
+    requires { ⌜ (length (now syn) ≡ 248) × (to + count ≤ 248) × (from + count ≤ length (now word)) ⌝ }
+    ensures { λ _. ⌜ Added to count (λ i. at (now (word .entry)) (from + i)) (now (syn .entry)) (now (syn .exit)) ⌝ }
+{
+    for i in 0..count {
+        syn[to + i] ^= word[from + i];
+    }
+}
+
+// The row of q symbols that starts at `from`, rotated: entry L from `to` on takes up column (L + place) mod q.
+fn add_row(syn: &mut [u32; 248], word: &[u32], to: usize, from: usize, place: usize, q: usize)
+    requires { ⌜ (length (now syn) ≡ 248) × (to + q ≤ 248) × (from + q ≤ length (now word)) × (place < q) ⌝ }
+    ensures { λ _. ⌜ Added to q (λ L. at (now (word .entry)) (from + (L + place) % q)) (now (syn .entry)) (now (syn .exit)) ⌝ }
+{
+    let rest = q - place;
+    add_run(syn, word, to, from + place, rest);
+    add_run(syn, word, to + rest, from, place);
+}
+
+// (place + step) mod q.
+fn turned(place: usize, step: usize, q: usize) -> usize
+    requires { ⌜ (place < q) × (step ≤ q) × (q ≤ 31) ⌝ }
+    ensures { λ r. ⌜ r ≡ (place + step) % q ⌝ }
+{
+    let next = place + step;
+    if next < q {
+        return next;
+    }
+    next - q
+}
+
+// One direction: row r is rotated by step × r, and each row is XORed onto the q entries from `to` on.
+fn sweep(syn: &mut [u32; 248], word: &[u32], to: usize, step: usize, q: usize)
+    requires { ⌜ (length (now syn) ≡ 248) × (to + q ≤ 248) × (length (now word) ≡ q * q) × (step ≤ q) × (q ≤ 31) ⌝ }
+    ensures { λ _. ⌜ Added to q (λ L. xorSum q (λ r. at (now (word .entry)) (r * q + (L + step * r) % q))) (now (syn .entry)) (now (syn .exit)) ⌝ }
+{
+    let mut place: usize = 0;
+    for r in 0..q {
+        add_row(syn, word, to, r * q, place, q);
+        place = turned(place, step, q);
+    }
+}
+
+// The XOR of `count` symbols of the word, from place `from` on.
+fn run_sum(word: &[u32], from: usize, count: usize) -> u32
+    requires { ⌜ from + count ≤ length (now word) ⌝ }
+    ensures { λ r. ⌜ r ≡ xorSum count (λ i. at (now (word .entry)) (from + i)) ⌝ }
+{
+    let mut sum: u32 = 0;
+    for i in 0..count {
+        sum ^= word[from + i];
+    }
+    sum
+}
+
+// Direction 0: entry r takes up the whole of row r.
+fn add_rows(syn: &mut [u32; 248], word: &[u32], q: usize)
+    requires { ⌜ (length (now syn) ≡ 248) × (length (now word) ≡ q * q) × (q ≤ 31) ⌝ }
+    ensures { λ _. ⌜ Added 0 q (λ r. xorSum q (λ c. at (now (word .entry)) (r * q + c))) (now (syn .entry)) (now (syn .exit)) ⌝ }
+{
+    for r in 0..q {
+        syn[r] ^= run_sum(word, r * q, q);
+    }
+}
+
+// The values of all n × q checks, check t × q + L for line L of direction t; the entries after them are 0.
+pub fn syndromes(shape: Shape, word: &[u32]) -> [u32; 248]
+    requires { ⌜ (Lawful shape) × (length (now word) ≡ wordLength shape) ⌝ }
+    ensures { λ r. ⌜ Syndromes shape (now (word .entry)) r ⌝ }
+{
+    let q = shape.q as usize;
+    let n = shape.n as usize;
+    let mut syn = [0u32; 248];
+    add_rows(&mut syn, word, q);
+    for t in 1..n {
+        sweep(&mut syn, word, t * q, q - slope(shape, t), q);
+    }
+    syn
+}
