@@ -24,7 +24,7 @@ use Rattle.gtb.proofs.Bounds.{bounds}
 use Rattle.gtb.proofs.Lines.{line-lt}
 use Rattle.gtb.proofs.Rows.{syndrome-cong, syndrome-linear, syndrome-width}
 use Rattle.gtb.proofs.Crossing.{eqb-xor}
-use Rattle.gtb.proofs.Words.{word-narrow, narrow-word, tabulate-word}
+use Rattle.gtb.proofs.Words.{word-narrow, narrow-word, tabulate-word, silentTest, test-silent}
 use Rattle.decoder.specs.declared.Decoded.the-variants.{Corrected, Refused}
 use Rattle.decoder.specs.Damage.{Unmasked, weight, damaged, Explains}
 use Rattle.decoder.specs.Decode.{onCheck, located, errorAt, restored, correctable, unless, decodeOf, wordAfter, Decoding}
@@ -106,14 +106,8 @@ module _ (s : Shape) (law : Lawful s) (w : List ℕ) (hw : Word s w) (ok : corre
   few = leb-true (count (wordLength s) (located s (at w))) (s .n - 1) (and-left _ _ ok)
 
   quiet : Silent s (at (restored s w))
-  unfolding correctable
-  quiet = record {
-    silent = λ t L lt lL.
-        eqb-true (syndrome s (at (restored s w)) t L) 0
-        (all-elim (s .q) (λ L. eqb (syndrome s (at (restored s w)) t L) 0)
-        (all-elim (s .n) (λ t. all (s .q) (λ L. eqb (syndrome s (at (restored s w)) t L) 0))
-        (and-right (leb (count (wordLength s) (located s (at w))) (s .n - 1)) _ ok) t lt) L lL);
-  }
+  unfolding correctable silentTest
+  quiet = test-silent s (at (restored s w)) (and-right (leb (count (wordLength s) (located s (at w))) (s .n - 1)) _ ok)
 
   -- the error at a located position is the value of one of its checks
   error-shown : (j : ℕ) → j < wordLength s → located s (at w) j ≡ true → (t : ℕ) × (t < s .n) × (errorAt s (at w) j ≡ onCheck s (at w) j t)

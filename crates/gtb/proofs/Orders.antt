@@ -1,12 +1,12 @@
 -- The table of orders: what a computed test shows of each entry, and the rule that makes the table.
 use mathlib.Core.Path.{_≡_, refl, sym, ap, _∙_}
-use mathlib.Core.Bool.{Bool, true, false, Bool·beq}
+use mathlib.Core.Bool.{Bool, true, Bool·beq}
 use Prim.Native.Nat.{ℕ, _≤_, suc-le-suc}
 use lib.Dec.{eqb, leb}
 use lib.ListN.{getD}
 use borrow.Author.Tests.{eqb-true, leb-true}
 use Rattle.parity.specs.Count.{any, all}
-use Rattle.parity.proofs.Tests.{all-elim, any-elim}
+use Rattle.parity.proofs.Tests.{all-elim, any-elim, agree}
 use Rattle.gtb.specs.Shape.{orders, isOrder, oddPrime}
 
 -- what holds at each entry of the table holds of each order
@@ -20,13 +20,6 @@ each-order p h q o =
 pub order-range : (q : ℕ) → isOrder q ≡ true → q ≤ 31
 unfolding orders all
 order-range q o = leb-true q 31 (each-order (λ q. leb q 31) refl q o)
-
--- two tests that agree are equal
-agree : (a b : Bool) → Bool·beq a b ≡ true → a ≡ b
-agree true true h = refl
-agree true false h = sym h
-agree false true h = h
-agree false false h = refl
 
 -- up to 31 the table holds exactly the numbers that meet its rule
 pub orders-rule : (q : ℕ) → q ≤ 31 → isOrder q ≡ oddPrime q

@@ -1,20 +1,21 @@
--- Words of N symbols below 2^b: by the test, and by their symbols.
+-- Words of N symbols below 2^b and silent checks: by the test, and by their symbols.
 use mathlib.Core.Path.{_≡_}
-use mathlib.Core.Bool.{true}
+use mathlib.Core.Bool.{Bool, true}
 use mathlib.Core.List.{List}
 use Prim.Native.Nat.{ℕ, _^_, _<_}
 use native.Mathlib.Decide.{decLt}
 use native.Mathlib.Omega.{arith}
-use lib.Dec.{ltb}
+use lib.Dec.{eqb, ltb}
 use lib.ListN.{length, List·getD-eq-default}
 use lib.Pow.{pow-pos}
-use borrow.Author.Tests.{lt-ltb, ltb-true}
+use borrow.Author.Tests.{lt-ltb, ltb-true, eqb-true}
+use Rattle.parity.specs.Count.{all}
 use Rattle.parity.specs.Lists.{tabulate}
 use Rattle.parity.proofs.Tests.{all-elim, all-intro}
 use Rattle.parity.proofs.Lists.{length-tabulate, at-tabulate}
 use Rattle.gtb.specs.declared.Shape.{Shape}
 use Rattle.gtb.specs.Shape.{wordLength}
-use Rattle.gtb.specs.Square.{at, narrow, Word}
+use Rattle.gtb.specs.Square.{at, narrow, syndrome, Word, Silent}
 
 -- past its end a list shows 0, which is below 2^b
 beyond : (b : ℕ) (w : List ℕ) → ((j : ℕ) → j < length w → at w j < 2 ^ b) → (j : ℕ) → at w j < 2 ^ b
@@ -41,4 +42,16 @@ tabulate-word s f h = record {
   width =
       beyond (s .b) (tabulate (wordLength s) f)
       (λ j l. let lj : j < wordLength s = rw length-tabulate at l in rw (at-tabulate (wordLength s) f j lj) (h j lj));
+}
+
+-- every check value is zero, as a test
+unfoldable pub silentTest : Shape → (ℕ → ℕ) → Bool
+silentTest s f = all (s .n) (λ t. all (s .q) (λ L. eqb (syndrome s f t L) 0))
+
+pub test-silent : (s : Shape) (f : ℕ → ℕ) → silentTest s f ≡ true → Silent s f
+unfolding silentTest
+test-silent s f h = record {
+  silent = λ t L lt lL.
+      eqb-true (syndrome s f t L) 0
+      (all-elim (s .q) (λ L. eqb (syndrome s f t L) 0) (all-elim (s .n) (λ t. all (s .q) (λ L. eqb (syndrome s f t L) 0)) h t lt) L lL);
 }

@@ -1,6 +1,6 @@
 -- Tests joined by && and over a range, taken apart and put together.
 use mathlib.Core.Path.{_≡_, refl, sym, ap, ap₂, _∙_, subst}
-use mathlib.Core.Bool.{Bool, true, false, not, _&&_, _||_}
+use mathlib.Core.Bool.{Bool, true, false, not, Bool·beq, _&&_, _||_}
 use mathlib.Core.Logic.{_⊎_, inl, inr, ⊎-elim}
 use Prim.Native.Nat.{ℕ, zero, suc, _+_, _<_}
 use native.Mathlib.Nat.{not-suc-le-zero, le-of-suc-le-suc, eq-or-lt-of-le, le-step, lt-suc-self}
@@ -19,6 +19,13 @@ code false = 0
 
 pub clash : {b : Bool} → b ≡ true → b ≡ false → ⊥
 clash t f = let z : _≡_ {A = ℕ} 1 0 = ap code (sym t ∙ f) in omega arith
+
+-- two tests that agree are equal
+pub agree : (a b : Bool) → Bool·beq a b ≡ true → a ≡ b
+agree true true h = refl
+agree true false h = sym h
+agree false true h = h
+agree false false h = refl
 
 pub and-left : (a b : Bool) → (a && b) ≡ true → a ≡ true
 and-left true b h = refl
