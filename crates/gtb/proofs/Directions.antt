@@ -24,53 +24,63 @@ pub record Directions (s : Shape) (w : List ℕ) (t : ℕ) (syn : List ℕ) : Ty
   pub entry : (u : ℕ) → u < t → (L : ℕ) → L < s .q → at syn (u * s .q + L) ≡ syndrome s (at w) u L
   pub rest : (e : ℕ) → t * s .q ≤ e → at syn e ≡ 0
 
+-- what a sweep of direction t with the slope k does
+abbrev Swept : Shape → List ℕ → ℕ → ℕ → List ℕ → List ℕ → Type 0
+Swept s w t k old new =
+    Added (t * s .q) (s .q) (λ L. xorSum (s .q) (λ r. at w (r * s .q + (L + (s .q - k) * r) % s .q))) old new
+
+-- the entries of each direction are among the 248
+pub direction-room : (s : Shape) → Lawful s → (t : ℕ) → t < s .n → t * s .q + s .q ≤ 248
+direction-room s h t l =
+    subst (λ (k : ℕ). k ≤ 248) (suc-mul t (s .q)) (mul-le-mul (le-trans l (bounds s h .n8)) (bounds s h .q31))
+
 zeros : (n e : ℕ) → at (replicate n 0) e ≡ 0
 zeros zero e = refl
 zeros (suc n) zero = refl
 zeros (suc n) (suc e) = zeros n e
 
--- what an entry that was 0 has taken up
+-- what an entry holds that was 0 and has taken up v
 taken-up : {x y v : ℕ} → y ≡ x ⊕ v → x ≡ 0 → y ≡ v
 taken-up {v = v} h z = h ∙ ap (λ (k : ℕ). k ⊕ v) z ∙ zero-l v
 
--- what a sweep of direction t with the slope k does
-abbrev Swept : Shape → List ℕ → ℕ → ℕ → List ℕ → List ℕ → Type 0
-Swept s w t k old new = Added (t * s .q) (s .q) (λ L. xorSum (s .q) (λ r. at w (r * s .q + (L + (s .q - k) * r) % s .q))) old new
-
--- the entries of each direction are among the 248
-pub direction-room : (s : Shape) → Lawful s → (t : ℕ) → t < s .n → t * s .q + s .q ≤ 248
-direction-room s h t l = subst (λ (k : ℕ). k ≤ 248) (suc-mul t (s .q)) (mul-le-mul (le-trans l (bounds s h .n8)) (bounds s h .q31))
-
 module _ (s : Shape) (lawful : Lawful s) (w : List ℕ) where
-  pub direction-first : (new : List ℕ) → Added 0 (s .q) (λ r. xorSum (s .q) (λ i. at w (r * s .q + i))) (replicate 248 0) new → Directions s w 1 new
+  -- direction 0, on entries that are 0
+  pub direction-first : (new : List ℕ) → Added 0 (s .q) (λ r. xorSum (s .q) (λ i. at w (r * s .q + i))) (replicate 248 0) new
+      → Directions s w 1 new
   direction-first new h = record {
     size = h .size;
     entry = λ u lu L l.
         subst⁻¹ (λ (k : ℕ). at new (k * s .q + L) ≡ syndrome s (at w) k L) (lt-one lu)
-        (ap (λ (k : ℕ). at new (k + L)) (zero-mul (s .q)) ∙ taken-up (h .inside L l) (zeros 248 (0 + L)) ∙ sym (syndrome-row s lawful (at w) L l));
+        (ap (λ (k : ℕ). at new (k + L)) (zero-mul (s .q)) ∙ taken-up (h .inside L l) (zeros 248 (0 + L))
+        ∙ sym (syndrome-row s lawful (at w) L l));
     rest = λ e l. h .above e (omega (arith, one-mul (s .q))) ∙ zeros 248 e;
   }
 
-  -- direction t + 1
-  direction-here : (t k : ℕ) (old new : List ℕ) → suc t < s .n → k ≡ slopeOf s (suc t) → Directions s w (suc t) old → Swept s w (suc t) k old new →
-      (L : ℕ) → L < s .q → at new (suc t * s .q + L) ≡ syndrome s (at w) (suc t) L
+  -- the entries of direction t + 1 after its sweep
+  swept : (t k : ℕ) (old new : List ℕ) → suc t < s .n → k ≡ slopeOf s (suc t) → Directions s w (suc t) old
+      → Swept s w (suc t) k old new → (L : ℕ) → L < s .q → at new (suc t * s .q + L) ≡ syndrome s (at w) (suc t) L
   unfolding shiftOf
-  direction-here t k old new lt e d h L l =
+  swept t k old new lt e d h L l =
       taken-up (h .inside L l) (d .rest _ (omega arith))
       ∙ ap (λ (x : ℕ). xorSum (s .q) (λ r. at w (r * s .q + (L + (s .q - x) * r) % s .q))) e
       ∙ sym (syndrome-rows s lawful (at w) t L lt l)
 
-  pub direction-next : (t k : ℕ) (old new : List ℕ) → 1 ≤ t → t < s .n → k ≡ slopeOf s t → Directions s w t old → Swept s w t k old new → Directions s w (t + 1) new
+  -- one direction more
+  pub direction-next : (t k : ℕ) (old new : List ℕ) → 1 ≤ t → t < s .n → k ≡ slopeOf s t → Directions s w t old
+      → Swept s w t k old new → Directions s w (t + 1) new
   direction-next zero k old new one lt e d h = absurd (not-suc-le-zero one)
   direction-next (suc t) k old new one lt e d h = record {
     size = h .size;
-    entry = below-more (λ u. (L : ℕ) → L < s .q → at new (u * s .q + L) ≡ syndrome s (at w) u L) (suc t)
-        (λ u lu L l. h .below _ (digits-lt lu l) ∙ d .entry u lu L l) (direction-here t k old new lt e d h);
+    entry =
+        below-more (λ u. (L : ℕ) → L < s .q → at new (u * s .q + L) ≡ syndrome s (at w) u L) (suc t)
+        (λ u lu L l. h .below _ (digits-lt lu l) ∙ d .entry u lu L l) (swept t k old new lt e d h);
     rest = λ p l.
-        let past : suc t * s .q + s .q ≤ p = subst (λ (x : ℕ). x ≤ p) (ap (λ (x : ℕ). x * s .q) (add-one (suc t)) ∙ suc-mul (suc t) (s .q)) l in
+        let past : suc t * s .q + s .q ≤ p =
+        subst (λ (x : ℕ). x ≤ p) (ap (λ (x : ℕ). x * s .q) (add-one (suc t)) ∙ suc-mul (suc t) (s .q)) l in
         h .above p past ∙ d .rest p (omega arith);
   }
 
+  -- all n directions
   pub direction-last : (t : ℕ) (syn : List ℕ) → t ≡ s .n → Directions s w t syn → Syndromes s w syn
   direction-last t syn e d = record {
     size = d .size;

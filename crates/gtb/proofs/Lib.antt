@@ -5,6 +5,7 @@ pub mod Lines
 pub mod Rows
 pub mod Words
 pub mod Sweeps
+pub mod Turns
 pub mod Directions
 pub mod Information
 pub mod Silence

@@ -3,10 +3,9 @@ use borrow.Author.Count.{below-none, below-more}
 use borrow.Author.Tests.{ltb-true, ltb-false}
 use mathlib.Core.List.{List}
 use mathlib.Core.Logic.{_⊎_, inl, inr, ⊎-elim}
-use mathlib.Core.Path.{_≡_, _∙_, refl, sym, ap, ap₂, subst, subst₂, subst⁻¹}
-use Prim.Native.Nat.{ℕ, zero-le, _+_, _-_, _*_, _%_, _≤_, _<_}
-use native.Mathlib.Nat.{zero-add, mul-zero, zero-mod, suc-mul, mul-suc, lt-of-le-of-lt, mod-lt, mod-add-mod, add-mod-mod, mul-le-mul, mul-le-mul-right, lt-trans, mod-eq-of-lt, add-mod-right}
-use native.Mathlib.Numerals.{add-one}
+use mathlib.Core.Path.{_≡_, _∙_, refl, sym, ap, ap₂, subst, subst₂}
+use Prim.Native.Nat.{ℕ, _+_, _-_, _%_, _≤_, _<_}
+use native.Mathlib.Nat.{zero-add, lt-trans, mod-eq-of-lt, add-mod-right}
 use native.Mathlib.Omega.{arith}
 use lib.Dec.{ltb}
 use lib.ListN.{length, set, length-set}
@@ -18,10 +17,7 @@ use Rattle.parity.proofs.XorSums.{xs-zero, more}
 use Rattle.gtb.specs.Square.{at}
 use Rattle.gtb.specs.Sweep.{Added}
 
-pub lt-or-le : (a b : ℕ) → (a < b) ⊎ (b ≤ a)
-lt-or-le a b = ⊎-elim (λ t. inl (ltb-true a b t)) (λ f. inr (ltb-false a b f)) (either (ltb a b))
-
--- no entry has taken up anything
+-- entry after entry: none yet
 pub added-none : (base : ℕ) (f : ℕ → ℕ) (xs : List ℕ) → length xs ≡ 248 → Added base 0 f xs xs
 added-none base f xs size = record {
   size = size;
@@ -30,12 +26,15 @@ added-none base f xs size = record {
   above = λ e l. refl;
 }
 
--- one entry more
-pub added-more : (base n : ℕ) (f : ℕ → ℕ) (old new : List ℕ) → Added base n f old new → base + n < 248 → Added base (n + 1) f old (set new (base + n) (at new (base + n) ⊕ f n))
+-- one more
+pub added-more : (base n : ℕ) (f : ℕ → ℕ) (old new : List ℕ) → Added base n f old new → base + n < 248
+    → Added base (n + 1) f old (set new (base + n) (at new (base + n) ⊕ f n))
 added-more base n f old new h room = record {
   size = length-set new (base + n) v ∙ h .size;
-  inside = below-more (λ i. at after (base + i) ≡ at old (base + i) ⊕ f i) n (λ i l. other (base + i) (omega arith) ∙ h .inside i l)
-      (getD-set-same new (base + n) v 0 (omega (arith, h .size)) ∙ ap (λ (x : ℕ). x ⊕ f n) (h .above (base + n) (omega arith)));
+  inside =
+      below-more (λ i. at after (base + i) ≡ at old (base + i) ⊕ f i) n (λ i l. other (base + i) (omega arith) ∙ h .inside i l)
+      (getD-set-same new (base + n) v 0 (omega (arith, h .size))
+      ∙ ap (λ (x : ℕ). x ⊕ f n) (h .above (base + n) (omega arith)));
   below = λ e l. other e (omega arith) ∙ h .below e l;
   above = λ e l. other e (omega arith) ∙ h .above e (omega arith);
 }
@@ -49,19 +48,51 @@ added-more base n f old new h room = record {
     other : (e : ℕ) → (e ≡ base + n → ⊥) → at after e ≡ at new e
     other e ne = getD-set-other new (base + n) e v 0 ne
 
--- at the end of a loop over the entries
+-- the same from entry 0 on, with a value v that is f n
+pub added-entry : (n : ℕ) (f : ℕ → ℕ) {v : ℕ} (old new : List ℕ) → Added 0 n f old new → v ≡ f n → n < 248
+    → Added 0 (n + 1) f old (set new n (at new n ⊕ v))
+added-entry n f old new h same room =
+    subst₂ (λ (m x : ℕ). Added 0 (n + 1) f old (set new m (at new m ⊕ x))) (zero-add n) (sym same)
+    (added-more 0 n f old new h (omega arith))
+
+-- all n
 pub added-end : {base m n : ℕ} {f : ℕ → ℕ} {old new : List ℕ} → Added base m f old new → m ≡ n → Added base n f old new
 added-end {base} {f = f} {old} {new} h e = subst (λ (k : ℕ). Added base k f old new) e h
 
--- the same of the stretch from 0 on, with the value at hand
-pub added-entry : (n : ℕ) (f : ℕ → ℕ) {v : ℕ} (old new : List ℕ) → Added 0 n f old new → v ≡ f n → n < 248 → Added 0 (n + 1) f old (set new n (at new n ⊕ v))
-added-entry n f old new h same room =
-    subst₂ (λ (m x : ℕ). Added 0 (n + 1) f old (set new m (at new m ⊕ x))) (zero-add n) (sym same) (added-more 0 n f old new h (omega arith))
+-- round after round over one stretch: none yet
+pub rounds-none : (base n : ℕ) (f : ℕ → ℕ → ℕ) (xs : List ℕ) → length xs ≡ 248 → Added base n (λ i. xorSum 0 (f i)) xs xs
+rounds-none base n f xs size = record {
+  size = size;
+  inside = λ i l. sym (ap (λ (x : ℕ). at xs (base + i) ⊕ x) (xs-zero (f i)) ∙ zero-r (at xs (base + i)));
+  below = λ e l. refl;
+  above = λ e l. refl;
+}
+
+-- one more
+pub rounds-more : (base n k : ℕ) (f : ℕ → ℕ → ℕ) (g : ℕ → ℕ) (old mid new : List ℕ) → Added base n (λ i. xorSum k (f i)) old mid
+    → Added base n g mid new → ((i : ℕ) → g i ≡ f i k) → Added base n (λ i. xorSum (k + 1) (f i)) old new
+rounds-more base n k f g old mid new first second same = record {
+  size = second .size;
+  inside = λ i l.
+      second .inside i l ∙ ap₂ (λ (x y : ℕ). x ⊕ y) (first .inside i l) (same i)
+      ∙ assoc (at old (base + i)) (xorSum k (f i)) (f i k)
+      ∙ ap (λ (x : ℕ). at old (base + i) ⊕ x) (more k (f i) refl);
+  below = λ e l. second .below e l ∙ first .below e l;
+  above = λ e l. second .above e l ∙ first .above e l;
+}
+
+-- all m
+pub rounds-end : {base n k m : ℕ} (f : ℕ → ℕ → ℕ) {old new : List ℕ} → Added base n (λ i. xorSum k (f i)) old new → k ≡ m
+    → Added base n (λ i. xorSum m (f i)) old new
+rounds-end {base} {n} f {old} {new} h e = subst (λ (j : ℕ). Added base n (λ i. xorSum j (f i)) old new) e h
+
+lt-or-le : (a b : ℕ) → (a < b) ⊎ (b ≤ a)
+lt-or-le a b = ⊎-elim (λ t. inl (ltb-true a b t)) (λ f. inr (ltb-false a b f)) (either (ltb a b))
 
 -- a stretch, and the one after it
-pub added-join : (base a b : ℕ) (f g h : ℕ → ℕ) (old mid new : List ℕ) → Added base a f old mid → Added (base + a) b g mid new →
-    ((i : ℕ) → i < a → f i ≡ h i) → ((i : ℕ) → i < b → g i ≡ h (a + i)) → Added base (a + b) h old new
-added-join base a b f g h old mid new first second ef eg = record {
+join : (base a b : ℕ) (f g h : ℕ → ℕ) (old mid new : List ℕ) → Added base a f old mid → Added (base + a) b g mid new
+    → ((i : ℕ) → i < a → f i ≡ h i) → ((i : ℕ) → i < b → g i ≡ h (a + i)) → Added base (a + b) h old new
+join base a b f g h old mid new first second ef eg = record {
   size = second .size;
   inside = λ i l. ⊎-elim (λ (s : i < a). low i s) (λ (s : a ≤ i). high i s l) (lt-or-le i a);
   below = λ e l. second .below e (omega arith) ∙ first .below e l;
@@ -76,69 +107,22 @@ added-join base a b f g h old mid new first second ef eg = record {
         let k = i - a in
         let e : base + a + k ≡ base + i = omega arith in
         let u : a + k ≡ i = omega arith in
-        ap (λ (m : ℕ). at new m) (sym e) ∙ second .inside k (omega arith)
-        ∙ ap₂ (λ (x y : ℕ). x ⊕ y) (ap (λ (m : ℕ). at mid m) e ∙ first .above (base + i) (omega arith)) (eg k (omega arith) ∙ ap h u)
+        ap (at new) (sym e) ∙ second .inside k (omega arith)
+        ∙ ap₂ (λ (x y : ℕ). x ⊕ y) (ap (at mid) e ∙ first .above (base + i) (omega arith)) (eg k (omega arith) ∙ ap h u)
 
--- a stretch once more
-pub added-round : (base n k : ℕ) (f : ℕ → ℕ → ℕ) (g : ℕ → ℕ) (old mid new : List ℕ) → Added base n (λ i. xorSum k (f i)) old mid → Added base n g mid new →
-    ((i : ℕ) → g i ≡ f i k) → Added base n (λ i. xorSum (k + 1) (f i)) old new
-added-round base n k f g old mid new first second same = record {
-  size = second .size;
-  inside = λ i l. second .inside i l ∙ ap₂ (λ (x y : ℕ). x ⊕ y) (first .inside i l) (same i) ∙ assoc (at old (base + i)) (xorSum k (f i)) (f i k)
-      ∙ ap (λ (x : ℕ). at old (base + i) ⊕ x) (more k (f i) refl);
-  below = λ e l. second .below e l ∙ first .below e l;
-  above = λ e l. second .above e l ∙ first .above e l;
-}
-
--- before the first round
-pub added-start : (base n : ℕ) (f : ℕ → ℕ → ℕ) (xs : List ℕ) → length xs ≡ 248 → Added base n (λ i. xorSum 0 (f i)) xs xs
-added-start base n f xs size = record {
-  size = size;
-  inside = λ i l. sym (ap (λ (x : ℕ). at xs (base + i) ⊕ x) (xs-zero (f i)) ∙ zero-r (at xs (base + i)));
-  below = λ e l. refl;
-  above = λ e l. refl;
-}
-
--- after the last round
-pub added-rounds : {base n k m : ℕ} (f : ℕ → ℕ → ℕ) {old new : List ℕ} → Added base n (λ i. xorSum k (f i)) old new → k ≡ m → Added base n (λ i. xorSum m (f i)) old new
-added-rounds {base} {n} f {old} {new} h e = subst (λ (j : ℕ). Added base n (λ i. xorSum j (f i)) old new) e h
-
--- the two runs of a rotated row
-pub added-row : (to from place q : ℕ) (w old mid new : List ℕ) → place < q → Added to (q - place) (λ i. at w (from + place + i)) old mid →
-    Added (to + (q - place)) place (λ i. at w (from + i)) mid new → Added to q (λ L. at w (from + (L + place) % q)) old new
+-- a row in two runs: entry L takes up column (L + place) mod q
+pub added-row : (to from place q : ℕ) (w old mid new : List ℕ) → place < q → Added to (q - place) (λ i. at w (from + place + i)) old mid
+    → Added (to + (q - place)) place (λ i. at w (from + i)) mid new → Added to q (λ L. at w (from + (L + place) % q)) old new
 added-row to from place q w old mid new l first second =
-    let whole : q - place + place ≡ q = omega arith in
-    subst (λ (m : ℕ). Added to m (λ L. at w (from + (L + place) % q)) old new) whole
-    (added-join to (q - place) place _ _ (λ L. at w (from + (L + place) % q)) old mid new first second (λ i h. ap (at w) (unturned i (omega arith)))
-    (λ i h. ap (at w) (turned-back i h)))
+    added-end
+    (join to (q - place) place _ _ (λ L. at w (from + (L + place) % q)) old mid new first second
+    (λ i h. ap (at w) (ahead i (omega arith))) (λ i h. ap (at w) (around i h)))
+    (omega arith)
   where
-    unturned : (i : ℕ) → i + place < q → from + place + i ≡ from + (i + place) % q
-    unturned i h = let e = mod-eq-of-lt h in omega arith
+    ahead : (i : ℕ) → i + place < q → from + place + i ≡ from + (i + place) % q
+    ahead i h = omega (arith, mod-eq-of-lt h)
 
-    turned-back : (i : ℕ) → i < place → from + i ≡ from + (q - place + i + place) % q
-    turned-back i h =
+    around : (i : ℕ) → i < place → from + i ≡ from + (q - place + i + place) % q
+    around i h =
         let s : q - place + i + place ≡ i + q = omega arith in
-        let e : (q - place + i + place) % q ≡ i = ap (λ (x : ℕ). x % q) s ∙ add-mod-right i q ∙ mod-eq-of-lt (lt-trans h l) in
-        omega arith
-
--- row r lies within the word
-pub row-in : (r q : ℕ) → r < q → r * q + q ≤ q * q
-row-in r q l = subst (λ (x : ℕ). x ≤ q * q) (suc-mul r q) (mul-le-mul-right q l)
-
--- a word has at most 961 symbols
-pub square-le : (q : ℕ) → q ≤ 31 → q * q ≤ 961
-square-le q h = mul-le-mul h h
-
--- row r is turned by step × r
-pub turn-start : (step q : ℕ) → 0 ≡ step * 0 % q
-turn-start step q = sym (ap (λ (x : ℕ). x % q) (mul-zero step) ∙ zero-mod q)
-
-pub turn-next : (step r q place next : ℕ) → place ≡ step * r % q → next ≡ (place + step) % q → next ≡ step * (r + 1) % q
-turn-next step r q place next h e =
-    e ∙ ap (λ (x : ℕ). (x + step) % q) h ∙ mod-add-mod (step * r) q step ∙ ap (λ (x : ℕ). x % q) (sym (mul-suc step r) ∙ ap (λ (x : ℕ). step * x) (sym (add-one r)))
-
-pub turn-lt : (step r q place : ℕ) → place ≡ step * r % q → r < q → place < q
-turn-lt step r q place h l = subst⁻¹ (λ (x : ℕ). x < q) h (mod-lt (step * r) (lt-of-le-of-lt zero-le l))
-
-pub turn-column : (w : List ℕ) (from step r q place L : ℕ) → place ≡ step * r % q → at w (from + (L + place) % q) ≡ at w (from + (L + step * r) % q)
-turn-column w from step r q place L h = ap (λ (x : ℕ). at w (from + x)) (ap (λ (x : ℕ). (L + x) % q) h ∙ add-mod-mod L (step * r) q)
+        omega (arith, ap (λ (x : ℕ). x % q) s ∙ add-mod-right i q ∙ mod-eq-of-lt (lt-trans h l))

@@ -1,10 +1,9 @@
 -- What the steps of the syndromes' computation do: new is old with symbols of a word XORed onto a stretch of its entries.
 use mathlib.Core.Path.{_≡_}
 use mathlib.Core.List.{List}
-use mathlib.Core.Logic.{_⊎_}
-use Prim.Native.Nat.{ℕ, _+_, _*_, _%_, _≤_, _<_}
+use Prim.Native.Nat.{ℕ, _+_, _≤_, _<_}
 use lib.ListN.{length}
-use Rattle.parity.specs.Xor.{_⊕_, xorSum}
+use Rattle.parity.specs.Xor.{_⊕_}
 use Rattle.gtb.specs.Square.{at}
 
 -- f 0 .. f (count - 1) are XORed onto the entries from base on; the other entries stay

@@ -41,6 +41,7 @@ pub fn slope(shape: Shape, t: usize) -> usize
     if t == 0 { 0 } else { t - 1 }
 }
 
+// The orders, as specs/Shape.antt has them.
 const ORDERS: [u32; 10] = [3, 5, 7, 11, 13, 17, 19, 23, 29, 31];
 
 // q is one of the ten orders.
@@ -68,7 +69,7 @@ pub fn is_lawful(shape: Shape) -> bool
         && shape.b <= 32
 }
 
-// Every symbol is below 2^b.
+// Every symbol is below 2^b. The loop has no early exit, so that it is compiled for several symbols at once.
 pub fn is_narrow(symbols: &[u32], b: u32) -> bool
     requires { ⌜ b ≤ 32 ⌝ }
     ensures { λ r. ⌜ r ≡ narrow b (now (symbols .entry)) ⌝ }

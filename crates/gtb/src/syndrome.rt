@@ -41,10 +41,11 @@ fn turned(place: usize, step: usize, q: usize) -> usize
     next - q
 }
 
-// One direction: row r is rotated by step × r, and each row is XORed onto the q entries from `to` on.
+// One direction: each row is XORed onto the q entries from `to` on, row r rotated by step × r.
 fn sweep(syn: &mut [u32; 248], word: &[u32], to: usize, step: usize, q: usize)
     requires { ⌜ (length (now syn) ≡ 248) × (to + q ≤ 248) × (length (now word) ≡ q * q) × (step ≤ q) × (q ≤ 31) ⌝ }
-    ensures { λ _. ⌜ Added to q (λ L. xorSum q (λ r. at (now (word .entry)) (r * q + (L + step * r) % q))) (now (syn .entry)) (now (syn .exit)) ⌝ }
+    ensures { λ _.
+        ⌜ Added to q (λ L. xorSum q (λ r. at (now (word .entry)) (r * q + (L + step * r) % q))) (now (syn .entry)) (now (syn .exit)) ⌝ }
 {
     let mut place: usize = 0;
     for r in 0..q {
@@ -75,7 +76,8 @@ fn add_rows(syn: &mut [u32; 248], word: &[u32], q: usize)
     }
 }
 
-// The values of all n × q checks, check t × q + L for line L of direction t; the entries after them are 0.
+// The values of all checks, that of line L of direction t at t × q + L.
+// Where the slope is k, line L has of row r the column L - k × r modulo q, which is L + (q - k) × r.
 pub fn syndromes(shape: Shape, word: &[u32]) -> [u32; 248]
     requires { ⌜ (Lawful shape) × (length (now word) ≡ wordLength shape) ⌝ }
     ensures { λ r. ⌜ Syndromes shape (now (word .entry)) r ⌝ }

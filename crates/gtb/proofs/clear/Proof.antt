@@ -1,16 +1,14 @@
 -- `gtb::clear` meets its contract. The loop's invariant: the first i values are 0, the others are as they were.
 use borrow.Author.Needs.{needs}
-use borrow.Author.Fill.{fill-none, fill-more}
-use mathlib.Core.Path.{_≡_, _∙_, refl, ap}
+use borrow.Author.Fill.{fill-more}
+use mathlib.Core.Path.{_≡_, _∙_}
 use mathlib.Core.List.{_++_, append-nil}
 use native.Mathlib.Omega.{arith}
 use Prim.Native.Nat.{_≤_, _-_}
-use lib.ListN.{length, drop, replicate, set, length-set}
+use lib.ListN.{length, drop, replicate, length-set}
 use lib.Seq.{drop-length}
 use Rattle.gtb.proofs.clear.Statement.{statement}
 use Rattle.gtb.proofs.clear.Tie as tie
-use Rattle.gtb.proofs.clear.Reads as reads
-use Rattle.gtb.proofs.clear.Lts as lts
 
 abbrev Inv-loop : tie.InvT-loop
 Inv-loop values₀ i₀ i-end values i =

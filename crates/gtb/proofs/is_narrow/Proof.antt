@@ -1,7 +1,7 @@
 -- `gtb::is_narrow` meets its contract. The loop's invariant: `top` is 2^b - 1, and `fits` says whether the symbols passed are below 2^b.
 use borrow.Author.Needs.{needs}
 use borrow.Author.Tests.{lt-ltb, le-ltb}
-use mathlib.Core.Bool.{Bool, true, false, _&&_, and-true, and-false}
+use mathlib.Core.Bool.{Bool, false, _&&_, and-true, and-false}
 use mathlib.Core.Logic.{⊎-elim}
 use mathlib.Core.Path.{_≡_, _∙_, sym, ap}
 use Prim.Native.Nat.{ℕ, _+_, _-_, _*_, _%_, _^_, _≤_, _<_}
@@ -15,8 +15,6 @@ use Rattle.parity.proofs.Tests.{all-more, all-zero}
 use Rattle.gtb.specs.Square.{at, narrow}
 use Rattle.gtb.proofs.is_narrow.Statement.{statement}
 use Rattle.gtb.proofs.is_narrow.Tie as tie
-use Rattle.gtb.proofs.is_narrow.Reads as reads
-use Rattle.gtb.proofs.is_narrow.Lts as lts
 
 -- the code's 1 << b is 2^b, a number from 1 to 2^32
 bound : (b : ℕ) → b ≤ 32 → 1 * 2 ^ b % 2 ^ 64 ≡ 2 ^ b
@@ -28,10 +26,11 @@ bound-le b h = rw (bound b h) (pow-mono h)
 bound-pos : (b : ℕ) → b ≤ 32 → 1 ≤ 1 * 2 ^ b % 2 ^ 64
 bound-pos b h = rw (bound b h) (pow-pos b)
 
--- a symbol above `top` is too wide, one up to it is not
+-- a symbol above `top` is too wide
 wide : (fits : Bool) (x top b : ℕ) → top + 1 ≡ 2 ^ b → top < x → false ≡ (fits && ltb x (2 ^ b))
 wide fits x top b e l = sym (ap (λ (t : Bool). fits && t) (le-ltb x (2 ^ b) (omega arith)) ∙ and-false fits)
 
+-- one up to it is not
 slim : (fits : Bool) (x top b : ℕ) → top + 1 ≡ 2 ^ b → x ≤ top → fits ≡ (fits && ltb x (2 ^ b))
 slim fits x top b e l = sym (ap (λ (t : Bool). fits && t) (lt-ltb x (2 ^ b) (omega arith)) ∙ and-true fits)
 
@@ -56,7 +55,12 @@ cast-top : tie.Need-cast-top Inv-loop μ-loop
 cast-top c = omega (arith, bound-le (c .args .b) (c .pre), bound-pos (c .args .b) (c .pre))
 
 loop-holds : tie.Need-loop-holds Inv-loop μ-loop
-loop-holds c = (search needs, search needs, omega (arith, bound (c .args .b) (c .pre), bound-pos (c .args .b) (c .pre)), sym (all-zero _))
+loop-holds c = (
+  search needs,
+  search needs,
+  omega (arith, bound (c .args .b) (c .pre), bound-pos (c .args .b) (c .pre)),
+  sym (all-zero _),
+)
 
 mul-if1 : tie.Need-mul-if1 Inv-loop μ-loop
 mul-if1 c = search needs
@@ -71,19 +75,21 @@ loop-less : tie.Need-loop-less Inv-loop μ-loop
 loop-less c = search needs
 
 loop-again : tie.Need-loop-again Inv-loop μ-loop
-loop-again c = (
-  search needs,
-  search needs,
-  search needs,
-  turn _ _ (c .before .before .before .loop .inv .3)
-      (⊎-elim (λ w. w .1 ∙ wide (c .before .before .before .loop .fits) _ _ _ (c .before .before .before .loop .inv .2) (w .0 .taken))
-      (λ w. w .1 ∙ slim (c .before .before .before .loop .fits) _ _ _ (c .before .before .before .loop .inv .2) (w .0 .left))
-      (c .if1 .came)),
-)
+loop-again c =
+    let l = c .before .before .before .loop in (
+      search needs,
+      search needs,
+      search needs,
+      turn _ _ (l .inv .3)
+          (⊎-elim (λ w. w .1 ∙ wide (l .fits) _ _ _ (l .inv .2) (w .0 .taken)) (λ w. w .1 ∙ slim (l .fits) _ _ _ (l .inv .2) (w .0 .left))
+          (c .if1 .came)),
+    )
 
 returns : tie.Need-returns Inv-loop μ-loop
 unfolding narrow
-returns c = c .before .loop .inv .3 ∙ ap (λ (m : ℕ). all m (λ j. ltb (at (c .before .before .args .symbols .now) j) (2 ^ c .before .before .args .b))) (omega arith)
+returns c =
+    let a = c .before .before .args in
+    c .before .loop .inv .3 ∙ ap (λ (m : ℕ). all m (λ j. ltb (at (a .symbols .now) j) (2 ^ a .b))) (omega arith)
 
 pub is-narrow-spec : {M : Type 1} → statement M
 is-narrow-spec =

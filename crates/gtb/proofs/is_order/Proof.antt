@@ -13,22 +13,25 @@ use Rattle.parity.proofs.Tests.{any-intro, any-more}
 use Rattle.gtb.specs.Shape.{orders, isOrder}
 use Rattle.gtb.proofs.is_order.Statement.{statement}
 use Rattle.gtb.proofs.is_order.Tie as tie
-use Rattle.gtb.proofs.is_order.Reads as reads
-use Rattle.gtb.proofs.is_order.Lts as lts
 
 -- the test that `isOrder` makes at a place of the table
 abbrev test : ℕ → ℕ → Bool
 test q j = eqb (getD orders j 0) q
 
+-- q stands at place k
 hit : (xs : List ℕ) (q k : ℕ) → xs ≡ orders → k < 10 → getD xs k 0 ≡ q → true ≡ isOrder q
 unfolding isOrder
-hit xs q k same l h = sym (any-intro 10 (test q) k l (eq-eqb (getD orders k 0) q (ap (λ (ys : List ℕ). getD ys k 0) (sym same) ∙ h)))
+hit xs q k same l h =
+    sym
+    (any-intro 10 (test q) k l (eq-eqb (getD orders k 0) q (ap (λ (ys : List ℕ). getD ys k 0) (sym same) ∙ h)))
 
+-- it does not
 miss : (xs : List ℕ) (q k : ℕ) → xs ≡ orders → any k (test q) ≡ false → (getD xs k 0 ≡ q → ⊥) → any (k + 1) (test q) ≡ false
 miss xs q k same n h =
     any-more k (test q)
     ∙ ap₂ (λ (a b : Bool). a || b) n (ne-eqb (getD orders k 0) q (λ e. h (ap (λ (ys : List ℕ). getD ys k 0) same ∙ e)))
 
+-- it stands at no place
 end : (q k : ℕ) → k ≤ 10 → 10 ≤ k → any k (test q) ≡ false → false ≡ isOrder q
 unfolding isOrder
 end q k l g n = sym n ∙ ap (λ (m : ℕ). any m (test q)) (omega arith)

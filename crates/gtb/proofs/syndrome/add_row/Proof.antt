@@ -4,35 +4,27 @@ use native.Mathlib.Omega.{arith}
 use Rattle.gtb.proofs.Sweeps.{added-row}
 use Rattle.gtb.proofs.syndrome.add_row.Statement.{statement}
 use Rattle.gtb.proofs.syndrome.add_row.Tie as tie
-use Rattle.gtb.proofs.syndrome.add_row.Reads as reads
-use Rattle.gtb.proofs.syndrome.add_row.Lts as lts
-use Rattle.gtb.proofs.syndrome.add_run.Reads as add-run-reads
 
--- src/syndrome.rt:27:16
 sub-rest : tie.Need-sub-rest
 sub-rest c = search needs
 
--- src/syndrome.rt:28:28
 add-add-run : tie.Need-add-add-run
 add-add-run c = search needs
 
--- src/syndrome.rt:28:5
 add-run-requires : tie.Need-add-run-requires
 add-run-requires c κs = search needs
 
--- src/syndrome.rt:29:24
 add-add-run-2 : tie.Need-add-add-run-2
 add-add-run-2 c = search needs
 
--- src/syndrome.rt:29:5
 add-run-requires-2 : tie.Need-add-run-requires-2
 add-run-requires-2 c κs = search needs
 
--- src/syndrome.rt:23:1
 returns : tie.Need-returns
 returns c =
     let a = c .before .before .before .before .before .args in
-    added-row (a .to) (a .from) (a .place) (a .q) (a .word .now) (a .syn .now) _ _ (omega arith) (c .before .before .add-run .ensures) (c .add-run2 .ensures)
+    added-row (a .to) (a .from) (a .place) (a .q) (a .word .now) (a .syn .now) _ _ (omega arith)
+    (c .before .before .add-run .ensures) (c .add-run2 .ensures)
 
 pub add-row-spec : {M : Type 1} → statement M
 add-row-spec =

@@ -1,16 +1,14 @@
 -- `gtb::syndrome::add_rows` meets its contract, which with r for the first q is the loop's invariant.
 use borrow.Author.Needs.{needs}
-use Prim.Native.Nat.{ℕ, _+_, _-_, _*_, _≤_}
+use Prim.Native.Nat.{_+_, _-_, _*_, _≤_}
 use native.Mathlib.Omega.{arith}
 use Rattle.parity.specs.Xor.{_⊕_, xorSum}
 use Rattle.gtb.specs.Square.{at}
 use Rattle.gtb.specs.Sweep.{Added}
-use Rattle.gtb.proofs.Sweeps.{added-none, added-end, added-entry, row-in, square-le}
+use Rattle.gtb.proofs.Sweeps.{added-none, added-entry, added-end}
+use Rattle.gtb.proofs.Turns.{row-in, square-le}
 use Rattle.gtb.proofs.syndrome.add_rows.Statement.{statement}
 use Rattle.gtb.proofs.syndrome.add_rows.Tie as tie
-use Rattle.gtb.proofs.syndrome.add_rows.Reads as reads
-use Rattle.gtb.proofs.syndrome.add_rows.Lts as lts
-use Rattle.gtb.proofs.syndrome.run_sum.Reads as run-sum-reads
 
 abbrev Inv-loop : tie.InvT-loop
 Inv-loop syn₀ word q r₀ syn r = (r ≤ q) × Added 0 r (λ k. xorSum q (λ i. at word (k * q + i))) syn₀ syn
@@ -18,46 +16,36 @@ Inv-loop syn₀ word q r₀ syn r = (r ≤ q) × Added 0 r (λ k. xorSum q (λ i
 abbrev μ-loop : tie.MeasureT-loop
 μ-loop syn₀ word q r₀ syn r = q - r
 
--- src/syndrome.rt:73:5
 loop-holds : tie.Need-loop-holds Inv-loop μ-loop
 loop-holds c = (search needs, added-none _ _ _ (c .before .pre .0))
 
--- src/syndrome.rt:74:33
 mul-run-sum : tie.Need-mul-run-sum Inv-loop μ-loop
 mul-run-sum c =
     let q = c .before .before .before .args .q in
     omega (arith, row-in (c .before .loop .r) q (c .loop-test .taken), square-le q (c .before .before .before .pre .2))
 
--- src/syndrome.rt:74:19
 run-sum-requires : tie.Need-run-sum-requires Inv-loop μ-loop
 run-sum-requires c κs = omega (arith, row-in (c .before .loop .r) (c .before .before .before .args .q) (c .loop-test .taken))
 
--- src/syndrome.rt:74:9
 mul-syn : tie.Need-mul-syn Inv-loop μ-loop
 mul-syn c = search needs
 
--- src/syndrome.rt:74:9
 element-copy-out-syn : tie.Need-element-copy-out-syn Inv-loop μ-loop
 element-copy-out-syn c = search needs
 
--- src/syndrome.rt:74:9
 element-write-syn : tie.Need-element-write-syn Inv-loop μ-loop
 element-write-syn c = search needs
 
--- src/syndrome.rt:73:9
 add-r : tie.Need-add-r Inv-loop μ-loop
 add-r c = search needs
 
--- src/syndrome.rt:73:5
 loop-less : tie.Need-loop-less Inv-loop μ-loop
 loop-less c = search needs
 
--- src/syndrome.rt:73:5
 loop-again : tie.Need-loop-again Inv-loop μ-loop
 unfolding _⊕_
 loop-again c = (search needs, added-entry _ _ _ _ (c .before .before .before .loop .inv .1) (c .before .run-sum .ensures) (omega arith))
 
--- src/syndrome.rt:69:1
 returns : tie.Need-returns Inv-loop μ-loop
 returns c = added-end (c .before .loop .inv .1) (omega arith)
 

@@ -1,6 +1,6 @@
 -- `gtb::syndrome::add_run` meets its contract, which with i for `count` is the loop's invariant.
 use borrow.Author.Needs.{needs}
-use Prim.Native.Nat.{ℕ, _+_, _-_, _≤_}
+use Prim.Native.Nat.{_+_, _-_, _≤_}
 use native.Mathlib.Omega.{arith}
 use Rattle.parity.specs.Xor.{_⊕_}
 use Rattle.gtb.specs.Square.{at}
@@ -8,8 +8,6 @@ use Rattle.gtb.specs.Sweep.{Added}
 use Rattle.gtb.proofs.Sweeps.{added-none, added-end, added-more}
 use Rattle.gtb.proofs.syndrome.add_run.Statement.{statement}
 use Rattle.gtb.proofs.syndrome.add_run.Tie as tie
-use Rattle.gtb.proofs.syndrome.add_run.Reads as reads
-use Rattle.gtb.proofs.syndrome.add_run.Lts as lts
 
 abbrev Inv-loop : tie.InvT-loop
 Inv-loop syn₀ word to from count i₀ syn i = (i ≤ count) × Added to i (λ k. at word (from + k)) syn₀ syn

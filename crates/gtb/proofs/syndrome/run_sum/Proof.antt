@@ -1,15 +1,13 @@
 -- `gtb::syndrome::run_sum` meets its contract, which with i for `count` is the loop's invariant.
 use borrow.Author.Needs.{needs}
 use mathlib.Core.Path.{_≡_, sym}
-use Prim.Native.Nat.{ℕ, _+_, _-_, _≤_}
+use Prim.Native.Nat.{_+_, _-_, _≤_}
 use native.Mathlib.Omega.{arith}
 use Rattle.parity.specs.Xor.{_⊕_, xorSum}
 use Rattle.parity.proofs.XorSums.{xs-zero, more}
 use Rattle.gtb.specs.Square.{at}
 use Rattle.gtb.proofs.syndrome.run_sum.Statement.{statement}
 use Rattle.gtb.proofs.syndrome.run_sum.Tie as tie
-use Rattle.gtb.proofs.syndrome.run_sum.Reads as reads
-use Rattle.gtb.proofs.syndrome.run_sum.Lts as lts
 
 abbrev Inv-loop : tie.InvT-loop
 Inv-loop word from count sum₀ i₀ sum i = (i ≤ count) × (sum ≡ xorSum i (λ k. at word (from + k)))
@@ -17,36 +15,28 @@ Inv-loop word from count sum₀ i₀ sum i = (i ≤ count) × (sum ≡ xorSum i 
 abbrev μ-loop : tie.MeasureT-loop
 μ-loop word from count sum₀ i₀ sum i = count - i
 
--- src/syndrome.rt:62:5
 loop-holds : tie.Need-loop-holds Inv-loop μ-loop
 loop-holds c = (search needs, sym (xs-zero _))
 
--- src/syndrome.rt:63:21
 add-sum : tie.Need-add-sum Inv-loop μ-loop
 add-sum c = search needs
 
--- src/syndrome.rt:63:16
 mul-sum : tie.Need-mul-sum Inv-loop μ-loop
 mul-sum c = search needs
 
--- src/syndrome.rt:63:16
 shared-slice-read-sum : tie.Need-shared-slice-read-sum Inv-loop μ-loop
 shared-slice-read-sum c = search needs
 
--- src/syndrome.rt:62:9
 add-i : tie.Need-add-i Inv-loop μ-loop
 add-i c = search needs
 
--- src/syndrome.rt:62:5
 loop-less : tie.Need-loop-less Inv-loop μ-loop
 loop-less c = search needs
 
--- src/syndrome.rt:62:5
 loop-again : tie.Need-loop-again Inv-loop μ-loop
 unfolding _⊕_
 loop-again c = (search needs, more _ _ (c .before .before .loop .inv .1))
 
--- src/syndrome.rt:57:1
 returns : tie.Need-returns Inv-loop μ-loop
 returns c =
     let e : c .before .loop .i ≡ c .before .before .args .count = omega arith in

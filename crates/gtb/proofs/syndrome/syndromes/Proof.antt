@@ -1,18 +1,13 @@
 -- `gtb::syndrome::syndromes` meets its contract. The loop's invariant: the first t directions are done.
 use borrow.Author.Needs.{needs}
 use mathlib.Core.Path.{refl}
-use Prim.Native.Nat.{ℕ, _+_, _-_, _*_, _≤_}
+use Prim.Native.Nat.{_-_, _≤_}
 use native.Mathlib.Omega.{arith}
 use Rattle.gtb.proofs.Bounds.{bounds}
 use Rattle.gtb.proofs.Slopes.{slope-lt}
 use Rattle.gtb.proofs.Directions.{Directions, direction-room, direction-first, direction-next, direction-last}
 use Rattle.gtb.proofs.syndrome.syndromes.Statement.{statement}
 use Rattle.gtb.proofs.syndrome.syndromes.Tie as tie
-use Rattle.gtb.proofs.syndrome.syndromes.Reads as reads
-use Rattle.gtb.proofs.syndrome.syndromes.Lts as lts
-use Rattle.gtb.proofs.slope.Reads as slope-reads
-use Rattle.gtb.proofs.syndrome.add_rows.Reads as add-rows-reads
-use Rattle.gtb.proofs.syndrome.sweep.Reads as sweep-reads
 
 abbrev Inv-loop : tie.InvT-loop
 Inv-loop shape word q n syn₀ t₀ syn t = (1 ≤ t) × (t ≤ n) × Directions shape word t syn
@@ -20,42 +15,36 @@ Inv-loop shape word q n syn₀ t₀ syn t = (1 ≤ t) × (t ≤ n) × Directions
 abbrev μ-loop : tie.MeasureT-loop
 μ-loop shape word q n syn₀ t₀ syn t = n - t
 
--- src/syndrome.rt:83:13
 cast-q : tie.Need-cast-q Inv-loop μ-loop
 cast-q c = search needs
 
--- src/syndrome.rt:84:13
 cast-n : tie.Need-cast-n Inv-loop μ-loop
 cast-n c = search needs
 
--- src/syndrome.rt:86:5
 add-rows-requires : tie.Need-add-rows-requires Inv-loop μ-loop
 add-rows-requires c κs =
     let k = c .before .before .before .before in
     (refl, k .pre .1, bounds _ (k .pre .0) .q31)
 
--- src/syndrome.rt:87:5
 loop-holds : tie.Need-loop-holds Inv-loop μ-loop
 loop-holds c =
     let k = c .before .before .before .before .before in
     let b = bounds _ (k .pre .0) in
     (omega arith, omega arith, direction-first _ (k .pre .0) _ _ (c .add-rows .ensures))
 
--- src/syndrome.rt:88:31
 mul-sweep : tie.Need-mul-sweep Inv-loop μ-loop
-mul-sweep c = omega (arith, direction-room _ (c .before .before .before .before .before .before .before .before .pre .0) _ (c .before .loop-test .taken))
+mul-sweep c =
+    let k = c .before .before .before .before .before .before .before .before in
+    omega (arith, direction-room _ (k .pre .0) _ (c .before .loop-test .taken))
 
--- src/syndrome.rt:88:42
 slope-requires : tie.Need-slope-requires Inv-loop μ-loop
 slope-requires c κs = search needs
 
--- src/syndrome.rt:88:38
 sub-sweep : tie.Need-sub-sweep Inv-loop μ-loop
 sub-sweep c =
     let k = c .before .before .before .before .before .before .before .before .before in
     omega (arith, c .slope .ensures, slope-lt _ (k .pre .0) _ (c .before .before .before .loop .inv .0) (c .before .before .loop-test .taken))
 
--- src/syndrome.rt:88:9
 sweep-requires : tie.Need-sweep-requires Inv-loop μ-loop
 sweep-requires c κs =
     let k = c .before .before .before .before .before .before .before .before .before in (
@@ -66,27 +55,26 @@ sweep-requires c κs =
       bounds _ (k .pre .0) .q31,
     )
 
--- src/syndrome.rt:87:9
 add-t : tie.Need-add-t Inv-loop μ-loop
 add-t c = search needs
 
--- src/syndrome.rt:87:5
 loop-less : tie.Need-loop-less Inv-loop μ-loop
 loop-less c = search needs
 
--- src/syndrome.rt:87:5
 loop-again : tie.Need-loop-again Inv-loop μ-loop
 loop-again c =
     let k = c .before .before .before .before .before .before .before .before .before .before in
     let l = c .before .before .before .before .loop in (
       omega arith,
       omega arith,
-      direction-next _ (k .pre .0) _ _ _ _ _ (l .inv .0) (c .before .before .before .loop-test .taken) (c .before .slope .ensures) (l .inv .2) (c .sweep .ensures),
+      direction-next _ (k .pre .0) _ _ _ _ _ (l .inv .0) (c .before .before .before .loop-test .taken) (c .before .slope .ensures)
+          (l .inv .2) (c .sweep .ensures),
     )
 
--- src/syndrome.rt:79:1
 returns : tie.Need-returns Inv-loop μ-loop
-returns c = direction-last _ (c .before .before .before .before .before .before .before .pre .0) _ _ _ (omega arith) (c .before .loop .inv .2)
+returns c =
+    let k = c .before .before .before .before .before .before .before in
+    direction-last _ (k .pre .0) _ _ _ (omega arith) (c .before .loop .inv .2)
 
 pub syndromes-spec : {M : Type 1} → statement M
 syndromes-spec =
