@@ -1,0 +1,61 @@
+-- `page::read_page` meets its contract.
+use borrow.Author.Needs.{needs}
+use borrow.Author.Tests.{eq-eqb, ne-eqb, not-true, not-false}
+use mathlib.Core.Path.{sym, _∙_}
+use Rattle.gtb.proofs.Bounds.{bounds}
+use Rattle.page.specs.Page.{pageOf}
+use Rattle.page.proofs.Pages.{sized}
+use Rattle.page.proofs.read_page.Statement.{statement}
+use Rattle.page.proofs.read_page.Tie as tie
+
+is-lawful-requires : tie.Need-is-lawful-requires
+is-lawful-requires c κs = search needs
+
+returns : tie.Need-returns
+unfolding pageOf
+returns c = rw (sym (c .before .is-lawful .ensures) ∙ not-true _ (c .if1 .taken))
+
+info-length-requires : tie.Need-info-length-requires
+info-length-requires c κs = sym (c .before .is-lawful .ensures) ∙ not-false _ (c .if1 .left)
+
+returns-2 : tie.Need-returns-2
+unfolding pageOf
+returns-2 c =
+    rw (
+      sym (c .before .before .before .is-lawful .ensures) ∙ not-false _ (c .before .before .if1 .left),
+      ne-eqb _ _ (λ e. c .if2 .taken (e ∙ sym (c .before .info-length .ensures))),
+    )
+
+is-narrow-requires : tie.Need-is-narrow-requires
+is-narrow-requires c κs = bounds _ (sym (c .before .before .before .is-lawful .ensures) ∙ not-false _ (c .before .before .if1 .left)) .b32
+
+returns-3 : tie.Need-returns-3
+unfolding pageOf
+returns-3 c =
+    rw (
+      sym (c .before .before .before .before .before .is-lawful .ensures) ∙ not-false _ (c .before .before .before .before .if1 .left),
+      eq-eqb _ _ (c .before .before .if2 .left ∙ c .before .before .before .info-length .ensures),
+      sym (c .before .is-narrow .ensures) ∙ not-true _ (c .if3 .taken),
+    )
+
+read-narrow-requires : tie.Need-read-narrow-requires
+read-narrow-requires c κs = (
+  sized _ _ (sym (c .before .before .before .before .before .is-lawful .ensures) ∙ not-false _ (c .before .before .before .before .if1 .left)) (c .before .before .if2 .left ∙ c .before .before .before .info-length .ensures),
+  sym (c .before .is-narrow .ensures) ∙ not-false _ (c .if3 .left),
+)
+
+returns-4 : tie.Need-returns-4
+returns-4 c = search needs
+
+pub read-page-spec : {M : Type 1} → statement M
+read-page-spec =
+    tie.close
+    (tie.spec
+    is-lawful-requires
+    returns
+    info-length-requires
+    returns-2
+    is-narrow-requires
+    returns-3
+    read-narrow-requires
+    returns-4)

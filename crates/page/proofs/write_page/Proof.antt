@@ -1,0 +1,83 @@
+-- `page::write_page` meets its contract.
+use borrow.Author.Needs.{needs}
+use borrow.Author.Tests.{ne-eqb, not-true, not-false}
+use mathlib.Core.Path.{refl, sym, _∙_}
+use Rattle.page.specs.Page.{writeStatus}
+use Rattle.page.proofs.Pages.{sized, writable}
+use Rattle.page.proofs.write_page.Statement.{statement}
+use Rattle.page.proofs.write_page.Tie as tie
+
+is-lawful-requires : tie.Need-is-lawful-requires
+is-lawful-requires c κs = search needs
+
+returns : tie.Need-returns
+unfolding writeStatus
+returns c = record { answer = rw (sym (c .before .is-lawful .ensures) ∙ not-true _ (c .if1 .taken)); written = refl }
+
+info-length-requires : tie.Need-info-length-requires
+info-length-requires c κs = sym (c .before .is-lawful .ensures) ∙ not-false _ (c .if1 .left)
+
+returns-2 : tie.Need-returns-2
+unfolding writeStatus
+returns-2 c =
+    record {
+      answer =
+          rw (
+            sym (c .before .before .before .is-lawful .ensures) ∙ not-false _ (c .before .before .if1 .left),
+            ne-eqb _ _ (λ e. c .if2 .taken (e ∙ sym (c .before .info-length .ensures))),
+          );
+      written = refl;
+    }
+
+status-requires : tie.Need-status-requires
+status-requires c κs = sym (c .before .before .before .is-lawful .ensures) ∙ not-false _ (c .before .before .if1 .left)
+
+enum-told : tie.Need-enum-told
+enum-told c = search needs
+
+fill-requires : tie.Need-fill-requires
+fill-requires c κs =
+    let s = c .before .before .before .before .before .before .before .before .before .before in
+    let size = c .before .before .before .before .if2 .left ∙ c .before .before .before .before .before .info-length .ensures in (
+      sized _ _ (sym (c .before .before .before .before .before .before .before .is-lawful .ensures) ∙ not-false _ (c .before .before .before .before .before .before .if1 .left)) size,
+      writable (s .args .shape) (s .args .number) (s .args .marks .now) (s .args .symbols .now)
+          (sym (c .before .before .before .status .ensures (s .args .symbols .now) size) ∙ c .before .enum-told .given .1) .few,
+    )
+
+enum-known-e : tie.Need-enum-known-e
+enum-known-e c = search needs
+
+same-length : tie.Need-same-length
+same-length c = search needs
+
+returns-3 : tie.Need-returns-3
+returns-3 c =
+    let s = c .before .before .before .before .before .before .before .before .before .before .before .before .before in
+    record {
+      answer = sym (c .before .before .before .before .enum-told .given .1) ∙ c .before .before .before .before .before .before .status .ensures (s .args .symbols .now) (c .before .before .before .before .before .before .before .if2 .left ∙ c .before .before .before .before .before .before .before .before .info-length .ensures);
+      written = c .before .before .fill .ensures;
+    }
+
+returns-4 : tie.Need-returns-4
+returns-4 c =
+    let s = c .before .before .before .before .before .before .before .before .before .before in
+    record {
+      answer = sym (c .before .e .given .1) ∙ c .before .before .before .status .ensures (s .args .symbols .now) (c .before .before .before .before .if2 .left ∙ c .before .before .before .before .before .info-length .ensures);
+      written = refl;
+    }
+
+pub write-page-spec : {M : Type 1} → statement M
+write-page-spec =
+    tie.close
+    (tie.spec
+    is-lawful-requires
+    returns
+    info-length-requires
+    returns-2
+    status-requires
+    enum-told
+    fill-requires
+    enum-known-e
+    same-length
+    returns-3
+    returns-4)
