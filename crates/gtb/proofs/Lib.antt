@@ -1,10 +1,12 @@
 pub mod Orders
 pub mod Bounds
+pub mod Sizes
 pub mod Slopes
 pub mod Lines
 pub mod Rows
 pub mod Words
 pub mod Sweeps
+pub mod Copies
 pub mod Turns
 pub mod Directions
 pub mod Information

@@ -1,9 +1,11 @@
 // The code of the trace square: its shape, the answers that every entry gives, and the syndromes of a word.
+pub mod size;
 pub mod syndrome;
 
 ghost use mathlib.Core.Path.{_≡_};
+ghost use mathlib.Core.List.{_++_};
 ghost use Prim.Native.Nat.{_≤_};
-ghost use lib.ListN.{length, replicate};
+ghost use lib.ListN.{length, drop, replicate};
 ghost use Rattle.gtb.specs.Shape.{slopeOf, isOrder, lawful};
 ghost use Rattle.gtb.specs.Square.{narrow};
 
@@ -90,5 +92,15 @@ pub fn clear(values: &mut [u32])
 {
     for i in 0..values.len() {
         values[i] = 0;
+    }
+}
+
+// Copies `from` to the front of `to`.
+pub fn copy(from: &[u32], to: &mut [u32])
+    requires { ⌜ length (now from) ≤ length (now to) ⌝ }
+    ensures { λ _. ⌜ now (to .exit) ≡ now (from .entry) ++ drop (length (now (from .entry))) (now (to .entry)) ⌝ }
+{
+    for i in 0..from.len() {
+        to[i] = from[i];
     }
 }

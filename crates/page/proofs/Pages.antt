@@ -3,7 +3,6 @@ use mathlib.Core.Path.{_≡_, refl, sym, ap, _∙_}
 use mathlib.Core.Bool.{Bool, true, false}
 use mathlib.Core.List.{List, [], _∷_, _++_}
 use Prim.Native.Nat.{ℕ, _+_, _-_, _≤_, _<_}
-use native.Mathlib.Nat.{mul-le-mul}
 use native.Mathlib.Omega.{arith}
 use lib.Dec.{eqb, leb, ltb}
 use lib.ListN.{length, getD, take, drop, replicate, length-append, length-replicate, length-drop, take-append-drop}
@@ -16,32 +15,17 @@ use Rattle.gtb.specs.declared.Status.the-variants.{Done}
 use Rattle.gtb.specs.Shape.{lawful, Lawful, infoLength}
 use Rattle.gtb.specs.Square.{narrow}
 use Rattle.gtb.specs.Answer as answer
-use Rattle.gtb.proofs.Bounds.{bounds}
+use Rattle.gtb.proofs.Sizes.{sizes}
 use Rattle.page.specs.declared.PageRead.{PageRead}
 use Rattle.page.specs.declared.PageRead.the-variants.{Page, Refused}
 use Rattle.page.specs.Page.{functions, zeros, most, unless, pageOf, marksIn, marksOf, writeStatus, pageSymbols}
 use Rattle.page.specs.Steps.{Sized}
 use Rattle.page.proofs.Entries.{narrow-tail, zeros-replicate, zeros-are, function-at}
 
--- room for page number and count
-pub info-two : (s : Shape) → Lawful s → 2 ≤ infoLength s
-info-two s h =
-    let b = bounds s h in
-    let q : 2 ≤ s .q - 1 = omega arith in
-    let n : 1 ≤ s .q + 1 - s .n = omega arith in
-    mul-le-mul q n
-
-pub info-most : (s : Shape) → Lawful s → infoLength s ≤ 900
-info-most s h =
-    let b = bounds s h in
-    let q : s .q - 1 ≤ 30 = omega arith in
-    let n : s .q + 1 - s .n ≤ 30 = omega arith in
-    mul-le-mul q n
-
 pub sized : (s : Shape) (symbols : List ℕ) → Lawful s → length symbols ≡ infoLength s → Sized s symbols
 sized s symbols h size =
-    let least = info-two s h in
-    let largest = info-most s h in
+    let least = sizes s h .least in
+    let largest = sizes s h .info in
     record { legal = h; size = size; least = omega arith; largest = omega arith }
 
 -- the code's test on the count, over the number k of symbols, as the specification makes it
@@ -115,7 +99,7 @@ page-facts s symbols number c h =
     let size : length symbols ≡ infoLength s = eqb-true _ _ (p .size) in
     let page : number < 1024 = omega (arith, ltb-true (getD symbols 0 0) 1024 (p .page)) in
     let few : c ≤ most s = omega (arith, leb-true (getD symbols 1 0) (most s) (p .few)) in
-    let two = info-two s (p .legal) in
+    let two = sizes s (p .legal) .least in
     let m : marksOf s symbols ≡ take c (drop 2 symbols) = marks-of s symbols number c h in
     let long : length (marksOf s symbols) ≡ c = rw m (length-take-le c (drop 2 symbols) (rw length-drop (omega arith))) in
     let calls : functions (marksOf s symbols) ≡ true = rw m (rw e₁ at (p .calls)) in
@@ -135,7 +119,7 @@ page-facts s symbols number c h =
 pub marks-within : (s : Shape) (symbols : List ℕ) (number c : ℕ) → pageOf s symbols ≡ Page number c → 2 + c ≤ length symbols
 marks-within s symbols number c h =
     let f = page-facts s symbols number c h in
-    let two = info-two s (f .lawful) in
+    let two = sizes s (f .lawful) .least in
     omega arith
 
 -- a page is K symbols long
@@ -169,7 +153,7 @@ written-passed s number marks w =
     let k : ℕ = most s - length marks in
     record {
       legal = w .legal;
-      size = eq-eqb _ _ (page-length s number marks (info-two s (w .legal)) (w .few));
+      size = eq-eqb _ _ (page-length s number marks (sizes s (w .legal) .least) (w .few));
       width = narrow-tail (s .b) (number ∷ length marks ∷ marks) k ∙ w .width;
       page = w .page;
       few = le-leb _ _ (w .few);
@@ -198,7 +182,7 @@ page-whole : (s : Shape) (symbols : List ℕ) (number c : ℕ) → pageOf s symb
 unfolding pageSymbols
 page-whole s symbols number c h =
     let f = page-facts s symbols number c h in
-    let two = info-two s (f .lawful) in
+    let two = sizes s (f .lawful) .least in
     let e : drop c (drop 2 symbols) ≡ drop (2 + c) symbols = drop-drop c 2 symbols in
     let tail : zeros (drop (2 + c) symbols) ≡ true = rw (f .count) at (read-passed s symbols number c h .0 .tail) in
     let long : length (drop (2 + c) symbols) ≡ most s - c = rw length-drop (omega arith) in

@@ -25,17 +25,6 @@ put-rest : (a : ℕ) (xs ys : List ℕ) → putMid a (length xs - a) xs ys ≡ t
 put-rest a xs ys = ap (λ (zs : List ℕ). take a xs ++ (ys ++ zs)) (drop-of-length-le (drop a xs) (le-of-eq (length-drop a xs)))
     ∙ ap (λ (zs : List ℕ). take a xs ++ zs) (append-nil ys)
 
--- i marks are copied, and one more is
-pub copied : (marks old : List ℕ) (i : ℕ) {now : List ℕ} → now ≡ take i marks ++ drop i old → i < length marks → i < length old →
-    set now i (getD marks i 0) ≡ take (i + 1) marks ++ drop (i + 1) old
-copied marks old i e l m =
-    rw (e, add-one i, drop-cons old i 0 m, take-suc marks i 0 l, append-snoc)
-    (set-at (take i marks) (getD old i 0) (drop (suc i) old) (getD marks i 0) i (length-take-le i marks (omega arith)))
-
-pub all-copied : (marks old : List ℕ) (i : ℕ) {now : List ℕ} → now ≡ take i marks ++ drop i old → i ≡ length marks →
-    now ≡ marks ++ drop (length marks) old
-all-copied marks old i e l = e ∙ rw (l, take-length)
-
 -- page number, number of marks and marks are written
 abbrev pub headed : ℕ → List ℕ → List ℕ → List ℕ
 headed number marks old = set (set old 0 number) 1 (length marks)

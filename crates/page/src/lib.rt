@@ -2,6 +2,7 @@
 use gtb::Refusal;
 use gtb::Shape;
 use gtb::Status;
+use gtb::size::info_length;
 ghost use mathlib.Core.Bool.{true};
 ghost use mathlib.Core.List.{List, _∷_, _++_};
 ghost use mathlib.Core.Path.{_≡_};
@@ -16,16 +17,6 @@ ghost use Rattle.page.specs.Steps.{Sized};
 pub enum PageRead {
     Page(u32, u32),
     Refused(Refusal),
-}
-
-// K, the information symbols of a word.
-fn info_length(shape: Shape) -> usize
-    requires { ⌜ Lawful shape ⌝ }
-    ensures { λ r. ⌜ r ≡ infoLength shape ⌝ }
-{
-    let q = shape.q as usize;
-    let n = shape.n as usize;
-    (q - 1) * (q + 1 - n)
 }
 
 // Every mark is a function number.
@@ -143,16 +134,6 @@ fn status(shape: Shape, number: u32, marks: &[u32]) -> Status
     Status::Done
 }
 
-// Copies `from` to the front of `to`.
-fn copy(from: &[u32], to: &mut [u32])
-    requires { ⌜ length (now from) ≤ length (now to) ⌝ }
-    ensures { λ _. ⌜ now (to .exit) ≡ now (from .entry) ++ drop (length (now (from .entry))) (now (to .entry)) ⌝ }
-{
-    for i in 0..from.len() {
-        to[i] = from[i];
-    }
-}
-
 // Writes a page.
 fn fill(shape: Shape, number: u32, marks: &[u32], symbols: &mut [u32])
     requires { ⌜ (Sized shape (now symbols)) × (length (now marks) ≤ most shape) ⌝ }
@@ -161,7 +142,7 @@ fn fill(shape: Shape, number: u32, marks: &[u32], symbols: &mut [u32])
     let c = marks.len();
     symbols[0] = number;
     symbols[1] = c as u32;
-    copy(marks, &mut symbols[2..]);
+    gtb::copy(marks, &mut symbols[2..]);
     let rest = 2 + c;
     gtb::clear(&mut symbols[rest..]);
 }

@@ -6,8 +6,9 @@ use native.Mathlib.Omega.{arith}
 use lib.Dec.{ltb}
 use lib.ListN.{length}
 use Rattle.gtb.proofs.Bounds.{bounds}
+use Rattle.gtb.proofs.Sizes.{sizes}
 use Rattle.page.specs.Page.{writeStatus}
-use Rattle.page.proofs.Pages.{info-two, many-marks, few-marks}
+use Rattle.page.proofs.Pages.{many-marks, few-marks}
 use Rattle.page.proofs.status.Statement.{statement}
 use Rattle.page.proofs.status.Tie as tie
 
@@ -24,7 +25,7 @@ info-length-requires : tie.Need-info-length-requires
 info-length-requires c κs = search needs
 
 sub-if2 : tie.Need-sub-if2
-sub-if2 c = omega (arith, info-two _ (c .before .before .before .before .pre))
+sub-if2 c = omega (arith, sizes _ (c .before .before .before .before .pre) .least)
 
 returns-2 : tie.Need-returns-2
 unfolding writeStatus

@@ -1,10 +1,10 @@
--- `page::info_length` meets its contract.
+-- `gtb::size::info_length` meets its contract.
 use borrow.Author.Needs.{needs}
 use native.Mathlib.Omega.{arith}
 use Rattle.gtb.proofs.Bounds.{bounds}
-use Rattle.page.proofs.Pages.{info-most}
-use Rattle.page.proofs.info_length.Statement.{statement}
-use Rattle.page.proofs.info_length.Tie as tie
+use Rattle.gtb.proofs.Sizes.{sizes}
+use Rattle.gtb.proofs.size.info_length.Statement.{statement}
+use Rattle.gtb.proofs.size.info_length.Tie as tie
 
 cast-q : tie.Need-cast-q
 cast-q c = search needs
@@ -22,7 +22,7 @@ sub-result-2 : tie.Need-sub-result-2
 sub-result-2 c = let b = bounds (c .before .before .args .shape) (c .before .before .pre) in omega arith
 
 mul-result : tie.Need-mul-result
-mul-result c = omega (arith, info-most (c .before .before .args .shape) (c .before .before .pre))
+mul-result c = let b = sizes (c .before .before .args .shape) (c .before .before .pre) in omega arith
 
 returns : tie.Need-returns
 returns c = search needs

@@ -1,13 +1,13 @@
--- `page::copy` meets its contract. The loop's invariant: the symbols passed are copied, the others are as they were.
+-- `gtb::copy` meets its contract. The loop's invariant: the symbols passed are copied, the others are as they were.
 use borrow.Author.Needs.{needs}
 use mathlib.Core.Path.{_≡_}
 use mathlib.Core.List.{_++_}
 use Prim.Native.Nat.{_-_, _≤_}
 use native.Mathlib.Omega.{arith}
 use lib.ListN.{length, take, drop}
-use Rattle.page.proofs.Parts.{copied, all-copied}
-use Rattle.page.proofs.copy.Statement.{statement}
-use Rattle.page.proofs.copy.Tie as tie
+use Rattle.gtb.proofs.Copies.{copied, all-copied}
+use Rattle.gtb.proofs.copy.Statement.{statement}
+use Rattle.gtb.proofs.copy.Tie as tie
 
 abbrev Inv-loop : tie.InvT-loop
 Inv-loop from to₀ i₀ i-end to i =

@@ -1,0 +1,32 @@
+// The lengths that a shape asks of what is lent.
+use crate::Shape;
+ghost use mathlib.Core.Path.{_≡_};
+ghost use Rattle.gtb.specs.Shape.{Lawful, wordLength, infoLength, scratchLength};
+
+// N, the symbols of a word.
+pub fn word_length(shape: Shape) -> usize
+    requires { ⌜ Lawful shape ⌝ }
+    ensures { λ r. ⌜ r ≡ wordLength shape ⌝ }
+{
+    let q = shape.q as usize;
+    q * q
+}
+
+// K, its information symbols.
+pub fn info_length(shape: Shape) -> usize
+    requires { ⌜ Lawful shape ⌝ }
+    ensures { λ r. ⌜ r ≡ infoLength shape ⌝ }
+{
+    let q = shape.q as usize;
+    let n = shape.n as usize;
+    (q - 1) * (q + 1 - n)
+}
+
+pub fn scratch_length(shape: Shape) -> usize
+    requires { ⌜ Lawful shape ⌝ }
+    ensures { λ r. ⌜ r ≡ scratchLength shape ⌝ }
+{
+    let q = shape.q as usize;
+    let n = shape.n as usize;
+    n * q * ((q * q + 31) / 32)
+}
