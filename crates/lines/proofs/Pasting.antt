@@ -1,0 +1,95 @@
+-- Texts written one after another into a list.
+use mathlib.Core.Path.{_≡_, refl, sym, ap, _∙_, subst}
+use mathlib.Core.List.{List, [], _∷_, _++_, append-assoc}
+use Prim.Native.Nat.{ℕ, zero, suc, _+_, _^_, _/_, _%_, _≤_, _<_}
+use native.Mathlib.Nat.{add-assoc}
+use native.Mathlib.Numerals.{add-one}
+use native.Mathlib.Omega.{arith}
+use lib.ListN.{length, getD, take, drop, set, length-append, length-set}
+use lib.Seq.{paste, paste-suc, take-length, length-take-le, set-split, append-snoc, take-at, drop-at, drop-drop}
+use Rattle.lines.specs.Text.{space, newline, ascii, digit, decimal, outcomeName, countText, outcomeText, pasted, Put}
+use Rattle.lines.proofs.Decimals.{decimal-more, length-more, at-most-ten}
+
+-- one byte
+pub put-one : (old : List ℕ) (at b : ℕ) → at < length old → Put old at (b ∷ []) (set old at b) (at + 1)
+unfolding pasted
+put-one old at b l =
+    record {
+      written = set-split old at b l ∙ sym (append-snoc (take at old) b (drop (suc at) old)) ∙ ap (λ (k : ℕ). take at old ++ (b ∷ []) ++ drop k old) (sym (add-one at));
+      next = refl;
+      room = rw length-set (omega arith);
+    }
+
+-- one turn of copying a text
+pub copy-more : (old : List ℕ) (at : ℕ) (text new : List ℕ) (i : ℕ) → at + i < length old → i < length text → new ≡ paste old at text i
+    → set new (at + i) (getD text i 0) ≡ paste old at text (i + 1)
+copy-more old at text new i l m e = rw (e, add-one i) (paste-suc old at text i 0 l m)
+
+-- the whole text has been copied
+pub copy-all : (old : List ℕ) (at : ℕ) (text new : List ℕ) (i : ℕ) → i ≡ length text → at + i ≤ length new → new ≡ paste old at text i → Put old at text new (at + i)
+unfolding pasted
+copy-all old at text new i all fits e = record { written = e ∙ rw (all, take-length); next = ap (λ (k : ℕ). at + k) all; room = fits }
+
+module _ (old a b : List ℕ) (at : ℕ) (fits : at + length a ≤ length old) where
+  head : length (take at old ++ a) ≡ at + length a
+  head = rw (length-append, length-take-le at old (omega arith))
+
+  pasted-pasted : pasted (pasted old at a) (at + length a) b ≡ pasted old at (a ++ b)
+  unfolding pasted
+  pasted-pasted =
+      rw (
+        take-at (take at old ++ a) (drop (at + length a) old) (at + length a) head,
+        ← drop-drop (length b) (at + length a) (take at old ++ a ++ drop (at + length a) old),
+        drop-at (take at old ++ a) (drop (at + length a) old) (at + length a) head,
+        drop-drop (length b) (at + length a) old,
+        length-append a b,
+        ← add-assoc at (length a) (length b),
+        append-assoc (take at old) a b,
+      )
+
+-- one text and then another
+pub put-both : {old mid new a b : List ℕ} {at m r : ℕ} → at + length a ≤ length old → Put old at a mid m → Put mid m b new r → Put old at (a ++ b) new r
+put-both {old} {mid} {new} {a} {b} {at} {m} {r} fits p q =
+    record {
+      written = q .written ∙ rw (p .written, p .next) (pasted-pasted old a b at fits);
+      next = rw (q .next, p .next, length-append) (omega arith);
+      room = q .room;
+    }
+
+-- a number's last digit after the others
+pub put-more : {old mid new : List ℕ} {at m r n : ℕ} → 10 ≤ n → at + length (decimal n) ≤ length old → Put old at (decimal (n / 10)) mid m
+    → Put mid m (digit (n % 10) ∷ []) new r → Put old at (decimal n) new r
+put-more {n = n} l fits p q = rw (decimal-more n l) (put-both (omega (arith, length-more n l)) p q)
+
+-- ---- the lines of the output
+pub put-pair : {old text₁ text₂ text₃ new : List ℕ} {at r₁ r₂ r₃ r : ℕ} (a b : ℕ) → a < 2 ^ 32 → b < 2 ^ 32 → at + 22 ≤ length old
+    → Put old at (decimal a) text₁ r₁ → Put text₁ r₁ (space ∷ []) text₂ r₂ → Put text₂ r₂ (decimal b) text₃ r₃ → Put text₃ r₃ (newline ∷ []) new r
+    → Put old at (countText a b) new r
+unfolding countText
+put-pair {at = at} a b la lb fits p q s t =
+    let x = at-most-ten a la in
+    let y = at-most-ten b lb in
+    rw (← append-snoc (decimal a) space (decimal b))
+    (put-both (simp length-append (omega arith)) (put-both (simp length-append (omega arith)) (put-both (omega arith) p q) s) t)
+
+-- the outcomes' names have at most seven letters
+pub name-length : (kind : ℕ) → length (outcomeName kind) ≤ 7
+unfolding outcomeName
+name-length zero = omega arith
+name-length (suc zero) = omega arith
+name-length (suc (suc k)) = omega arith
+
+pub name-refused : (kind : ℕ) → (kind ≡ 0 → ⊥) → (kind ≡ 1 → ⊥) → outcomeName kind ≡ ascii "refused"
+unfolding outcomeName
+name-refused zero p q = absurd (p refl)
+name-refused (suc zero) p q = absurd (q refl)
+name-refused (suc (suc k)) p q = refl
+
+pub put-named : {old text₁ text₂ new : List ℕ} {at r₁ r₂ r : ℕ} (kind number fixed : ℕ) → at + 40 ≤ length old → Put old at (outcomeName kind) text₁ r₁
+    → Put text₁ r₁ (space ∷ []) text₂ r₂ → Put text₂ r₂ (countText number fixed) new r → Put old at (outcomeText kind number fixed) new r
+unfolding outcomeText countText
+put-named {old} {new = new} {at = at} {r = r} kind number fixed fits p q s =
+    let x = name-length kind in
+    let same : outcomeName kind ++ (space ∷ []) ++ countText number fixed ≡ outcomeText kind number fixed = simp append-assoc in
+    subst (λ (t : List ℕ). Put old at t new r) same
+    (put-both (simp length-append (omega arith)) (put-both (omega arith) p q) s)

@@ -1,0 +1,28 @@
+-- `lines::put_outcome` meets its contract: a name of at most seven letters, a space and two numbers.
+use borrow.Author.Needs.{needs}
+use native.Mathlib.Omega.{arith}
+use Rattle.lines.proofs.Pasting.{name-length, put-named}
+use Rattle.lines.proofs.put_outcome.Statement.{statement}
+use Rattle.lines.proofs.put_outcome.Tie as tie
+
+put-kind-requires : tie.Need-put-kind-requires
+put-kind-requires c κs = search needs
+
+put-byte-requires : tie.Need-put-byte-requires
+put-byte-requires c κs = omega (arith, name-length (c .before .before .before .before .before .before .args .kind))
+
+put-count-requires : tie.Need-put-count-requires
+put-count-requires c κs = omega (arith, name-length (c .before .before .before .before .before .before .before .before .before .before .args .kind))
+
+same-length : tie.Need-same-length
+same-length c = search needs
+
+returns : tie.Need-returns
+returns c =
+    let start = c .before .before .before .before .before .before .before .before .before .before .before .before .before in
+    put-named (start .args .kind) (start .args .number) (start .args .fixed) (start .pre) (c .before .before .before .before .before .before .before .before .before .before .put-kind .ensures) (c .before .before .before .before .before .before .put-byte .ensures)
+    (c .before .before .put-count .ensures)
+
+pub put-outcome-spec : {M : Type 1} → statement M
+put-outcome-spec =
+    tie.close (tie.spec put-kind-requires put-byte-requires put-count-requires same-length returns)
