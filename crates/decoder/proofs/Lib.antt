@@ -1,2 +1,10 @@
+pub mod Decided
+pub mod Numbers
+pub mod Toggles
+pub mod Listing
+pub mod Private
+pub mod Silence
+pub mod Reading
+pub mod Answers
 pub mod Clean
 pub mod Meaning

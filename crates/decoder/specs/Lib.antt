@@ -1,2 +1,3 @@
 pub mod Damage
 pub mod Decode
+pub mod Steps

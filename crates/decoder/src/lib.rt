@@ -1,8 +1,33 @@
 // Reading a damaged word.
+mod cancel;
+mod checks;
+mod correct;
+mod error;
+mod locate;
+
 use gtb::Refusal;
+use gtb::Shape;
+ghost use Rattle.decoder.specs.Decode.{Decoding};
 
 // The answer of reading: the number of symbols changed, or a refusal.
 pub enum Decoded {
     Corrected(u32),
     Refused(Refusal),
+}
+
+// Reading: tests 1, 2, 3, then the work.
+pub fn decode(shape: Shape, word: &mut [u32]) -> Decoded
+    ensures { λ r. ⌜ Decoding shape (now (word .entry)) (now (word .exit)) r ⌝ }
+{
+    if !gtb::is_lawful(shape) {
+        return Decoded::Refused(Refusal::Shape);
+    }
+    let q = shape.q as usize;
+    if word.len() != q * q {
+        return Decoded::Refused(Refusal::Length);
+    }
+    if !gtb::is_narrow(word, shape.b) {
+        return Decoded::Refused(Refusal::Width);
+    }
+    correct::correct(shape, word)
 }

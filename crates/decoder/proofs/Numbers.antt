@@ -1,0 +1,71 @@
+-- The numbers of the checks, and their bounds.
+use mathlib.Core.Path.{_≡_, refl, sym, ap, ap₂, _∙_}
+use mathlib.Core.Bool.{true, false, not}
+use mathlib.Core.List.{List}
+use Prim.Native.Nat.{ℕ, zero, suc, _+_, _*_, _/_, _%_, _<_, _≤_}
+use native.Mathlib.Nat.{zero-mul, suc-mul, zero-add, mul-le-mul, lt-of-lt-of-le, div-lt-iff-lt-mul}
+use native.Mathlib.Numerals.{add-one}
+use native.Mathlib.Omega.{arith}
+use lib.Arith.{digits-lt, digits-div}
+use lib.Dec.{eqb}
+use borrow.Author.Tests.{eq-eqb, ne-eqb}
+use Rattle.parity.proofs.Tests.{all-no}
+use Rattle.gtb.specs.declared.Shape.{Shape}
+use Rattle.gtb.specs.Shape.{Lawful, wordLength, slopeOf}
+use Rattle.gtb.specs.Square.{lineOf, at}
+use Rattle.gtb.proofs.Bounds.{bounds}
+use Rattle.gtb.proofs.Slopes.{slope-lt}
+use Rattle.gtb.proofs.Lines.{line-lt, line-zero, line-suc}
+use Rattle.decoder.specs.Steps.{checkOf, judged}
+
+pub positive : (s : Shape) → Lawful s → 0 < s .q
+positive s h = let b = bounds s h in omega arith
+
+-- the table holds all n × q checks
+pub checks-fit : (s : Shape) → Lawful s → s .n * s .q ≤ 248
+checks-fit s h = mul-le-mul (bounds s h .n8) (bounds s h .q31)
+
+pub check-lt : (s : Shape) → Lawful s → (t L : ℕ) → t < s .n → L < s .q → t * s .q + L < 248
+check-lt s h t L lt lL = lt-of-lt-of-le (digits-lt lt lL) (checks-fit s h)
+
+-- check_number: direction 0, and the others
+pub check-row : (s : Shape) (t j : ℕ) → t ≡ 0 → j / s .q ≡ checkOf s j t
+check-row s t j e = rw e (sym (ap₂ (λ (x y : ℕ). x + y) (zero-mul (s .q)) (line-zero s j) ∙ zero-add (j / s .q)))
+
+pub check-line : (s : Shape) (t j : ℕ) → (t ≡ 0 → ⊥) → t * s .q + (j % s .q + slopeOf s t * (j / s .q)) % s .q ≡ checkOf s j t
+check-line s zero j ne = absurd (ne refl)
+check-line s (suc t) j ne = ap (λ (x : ℕ). suc t * s .q + x) (sym (line-suc s t j))
+
+-- slope × row fits
+pub offset-le : (s : Shape) → Lawful s → (t j : ℕ) → (t ≡ 0 → ⊥) → t < s .n → j < wordLength s → slopeOf s t * (j / s .q) ≤ 961
+offset-le s h t j ne lt lj =
+    let b = bounds s h in
+    let slope = slope-lt s h t (omega arith) lt in
+    let row : j / s .q < s .q = div-lt-iff-lt-mul (positive s h) .1 lj in
+    mul-le-mul {n₂ = 31} {m₂ = 31} (omega arith) (omega arith)
+
+-- a position's check number is below 248
+pub check-fits : (s : Shape) → Lawful s → (t j : ℕ) → t < s .n → j < wordLength s → checkOf s j t < 248
+check-fits s h t j lt lj = check-lt s h t (lineOf s t j) lt (line-lt s h t j lt lj)
+
+-- what an entry shows, read at an equal place
+pub loud : (xs : List ℕ) {x y : ℕ} → x ≡ y → (at xs x ≡ 0 → ⊥) → not (eqb (at xs y) 0) ≡ true
+loud xs {x} {y} e ne = ap not (ne-eqb (at xs y) 0 (λ z. ne (ap (at xs) e ∙ z)))
+
+pub silent : (xs : List ℕ) {x y : ℕ} → x ≡ y → at xs x ≡ 0 → not (eqb (at xs y) 0) ≡ false
+silent xs {x} {y} e z = ap not (eq-eqb (at xs y) 0 (sym (ap (at xs) e) ∙ z))
+
+-- ---- rows
+-- position row × q + c is in the word
+pub in-word : (s : Shape) {row c : ℕ} → row < s .q → c < s .q → row * s .q + c < wordLength s
+in-word s lr lc = digits-lt lr lc
+
+pub next-row : (row q : ℕ) → (row + 1) * q ≡ row * q + q
+next-row row q = ap (λ (x : ℕ). x * q) (add-one row) ∙ suc-mul row q
+
+-- no position of a row whose own check is silent is located
+pub silent-row : (s : Shape) → Lawful s → (syn : List ℕ) (row : ℕ) → at syn row ≡ 0 → (c : ℕ) → c < s .q → judged s syn (row * s .q + c) ≡ false
+unfolding judged
+silent-row s h syn row z c l =
+    all-no (s .n) _ 0 (let b = bounds s h in omega arith)
+    (silent syn (sym (digits-div row l) ∙ check-row s 0 (row * s .q + c) refl) z)

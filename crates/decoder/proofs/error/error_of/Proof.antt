@@ -1,0 +1,84 @@
+-- `decoder::error::error_of` meets its contract. The loop's invariant: no check passed has j alone on it.
+use mathlib.Core.Path.{_≡_, sym, ap, _∙_}
+use mathlib.Core.Bool.{false}
+use Prim.Native.Nat.{ℕ, _-_, _<_, _≤_}
+use Rattle.gtb.specs.Square.{at}
+use Rattle.decoder.specs.Steps.{aloneAmong, errorAmong}
+use native.Mathlib.Nat.{le-antisymm}
+use native.Mathlib.Omega.{arith}
+use borrow.Author.Count.{below-none, below-more}
+use borrow.Author.Needs.{needs}
+use Rattle.decoder.proofs.Numbers.{check-fits}
+use Rattle.decoder.proofs.Private.{first-at, first-none}
+use Rattle.decoder.proofs.error.error_of.Statement.{statement}
+use Rattle.decoder.proofs.error.error_of.Tie as tie
+
+abbrev Inv-loop : tie.InvT-loop
+Inv-loop shape syn places count j n t₀ t = (t ≤ n) × ((u : ℕ) → u < t → aloneAmong shape places count j u ≡ false)
+
+abbrev μ-loop : tie.MeasureT-loop
+μ-loop shape syn places count j n t₀ t = n - t
+
+cast-n : tie.Need-cast-n Inv-loop μ-loop
+cast-n c = search needs
+
+loop-holds : tie.Need-loop-holds Inv-loop μ-loop
+loop-holds c = (search needs, below-none _)
+
+is-alone-requires : tie.Need-is-alone-requires Inv-loop μ-loop
+is-alone-requires c κs = search needs
+
+check-number-requires : tie.Need-check-number-requires Inv-loop μ-loop
+check-number-requires c κs = search needs
+
+-- the check is in the table
+inside : (c : tie.After-check-number Inv-loop μ-loop) → c .check-number .result < 248
+inside c =
+    let s = c .before .before .before .before .before .before in
+    rw (c .check-number .ensures) (check-fits (s .args .shape) (s .pre .0) (c .before .before .before .before .loop .t) (s .args .j) (c .before .before .before .loop-test .taken) (s .pre .1))
+
+mul-result : tie.Need-mul-result Inv-loop μ-loop
+mul-result c = omega (arith, inside c)
+
+element-copy-out-result : tie.Need-element-copy-out-result Inv-loop μ-loop
+element-copy-out-result c = inside c
+
+returns : tie.Need-returns Inv-loop μ-loop
+unfolding errorAmong
+returns c =
+    ap (at (c .before .before .before .before .before .before .before .args .syn .now)) (c .before .check-number .ensures)
+    ∙ sym
+    (first-at _ _ _ (c .before .before .before .before .before .loop .t) (c .before .before .before .before .loop-test .taken)
+    (c .before .before .before .before .before .loop .inv .1)
+    (sym (c .before .before .before .is-alone .ensures) ∙ c .before .before .if1 .taken))
+
+add-t : tie.Need-add-t Inv-loop μ-loop
+add-t c = search needs
+
+loop-less : tie.Need-loop-less Inv-loop μ-loop
+loop-less c = search needs
+
+loop-again : tie.Need-loop-again Inv-loop μ-loop
+loop-again c = (search needs, below-more _ _ (c .before .before .before .loop .inv .1) (sym (c .before .is-alone .ensures) ∙ c .if1 .left))
+
+returns-2 : tie.Need-returns-2 Inv-loop μ-loop
+unfolding errorAmong
+returns-2 c = sym (first-none _ _ _ (rw (le-antisymm (c .before .loop .inv .0) (c .loop-test .left)) at (c .before .loop .inv .1)))
+
+pub error-of-spec : {M : Type 1} → statement M
+error-of-spec =
+    tie.close
+    (tie.spec
+    Inv-loop
+    μ-loop
+    cast-n
+    loop-holds
+    is-alone-requires
+    check-number-requires
+    mul-result
+    element-copy-out-result
+    returns
+    add-t
+    loop-less
+    loop-again
+    returns-2)

@@ -1,0 +1,21 @@
+-- `decoder::error::shares_check` meets its contract. Check numbers of one direction are equal exactly if the lines are.
+use mathlib.Core.Path.{sym}
+use borrow.Author.Needs.{needs}
+use Rattle.decoder.proofs.Private.{shares-self, shares-check}
+use Rattle.decoder.proofs.error.shares_check.Statement.{statement}
+use Rattle.decoder.proofs.error.shares_check.Tie as tie
+
+returns : tie.Need-returns
+returns c = sym (shares-self _ _ _ _ (c .if1 .taken))
+
+check-number-requires : tie.Need-check-number-requires
+check-number-requires c κs = search needs
+
+check-number-requires-2 : tie.Need-check-number-requires-2
+check-number-requires-2 c κs = search needs
+
+returns-2 : tie.Need-returns-2
+returns-2 c = shares-check _ _ _ _ (c .before .before .if1 .left) (c .before .check-number .ensures) (c .check-number2 .ensures)
+
+pub shares-check-spec : {M : Type 1} → statement M
+shares-check-spec = tie.close (tie.spec returns check-number-requires check-number-requires-2 returns-2)

@@ -1,0 +1,87 @@
+-- What the private steps of reading establish. They see the syndromes in their table alone, `syn` here: check t × q + L at that place.
+use mathlib.Core.Path.{_≡_}
+use mathlib.Core.Bool.{Bool, true, false, not, _&&_}
+use mathlib.Core.List.{List}
+use Prim.Native.Nat.{ℕ, _+_, _*_, _<_, _≤_}
+use lib.Dec.{eqb}
+use lib.ListN.{length}
+use Rattle.parity.specs.Xor.{_⊕_, xorSum, when}
+use Rattle.parity.specs.Count.{count, any, all}
+use Rattle.gtb.specs.declared.Shape.{Shape}
+use Rattle.gtb.specs.declared.Refusal.{Refusal}
+use Rattle.gtb.specs.Shape.{wordLength}
+use Rattle.gtb.specs.Square.{lineOf, at, Syndromes}
+use Rattle.decoder.specs.declared.Decoded.{Decoded}
+use Rattle.decoder.specs.declared.Decoded.the-variants.{Corrected}
+use Rattle.decoder.specs.Decode.{located, firstValue, errorAt, correctable, unless, wordAfter}
+
+-- the number of the check of direction t on position j
+abbrev pub checkOf : Shape → ℕ → ℕ → ℕ
+checkOf s j t = t * s .q + lineOf s t j
+
+-- `located` by the table: all n checks on position j are nonzero
+unfoldable pub judged : Shape → List ℕ → ℕ → Bool
+judged s syn j = all (s .n) (λ t. not (eqb (at syn (checkOf s j t)) 0))
+
+-- i is another position than j on the check of direction t on j
+unfoldable pub shares : Shape → ℕ → ℕ → ℕ → Bool
+shares s t j i = not (eqb i j) && eqb (lineOf s t i) (lineOf s t j)
+
+-- `alone` by a list: no other of the first k places is on the check of direction t on j
+unfoldable pub aloneAmong : Shape → List ℕ → ℕ → ℕ → ℕ → Bool
+aloneAmong s places k j t = not (any k (λ x. shares s t j (at places x)))
+
+-- `errorAt` a located position, by the table and the list
+unfoldable pub errorAmong : Shape → List ℕ → List ℕ → ℕ → ℕ → ℕ
+errorAmong s syn places k j = firstValue (s .n) (aloneAmong s places k j) (λ t. at syn (checkOf s j t))
+
+-- the first k places are the numbers below m that pass p: to XOR or to look for something over either is the same
+pub record Listed (p : ℕ → Bool) (m k : ℕ) (places : List ℕ) : Type 0 where
+  pub size : length places ≡ 8
+  pub counted : count m p ≡ k
+  pub below : (x : ℕ) → x < k → at places x < m
+  pub sums : (f : ℕ → ℕ) → xorSum m (λ j. when (p j) (f j)) ≡ xorSum k (λ x. f (at places x))
+  pub finds : (r : ℕ → Bool) → any m (λ j. p j && r j) ≡ any k (λ x. r (at places x))
+
+-- a search below m that ends at n: the list, or there are n or more
+pub record Scanned (p : ℕ → Bool) (n m r : ℕ) (places : List ℕ) : Type 0 where
+  pub few : r < n → Listed p m r places
+  pub many : n ≤ r → n ≤ count m p
+
+-- the first k of 8 places are positions of the word
+pub record Within (s : Shape) (k : ℕ) (places : List ℕ) : Type 0 where
+  pub few : k ≤ 8
+  pub below : (x : ℕ) → x < k → at places x < wordLength s
+
+-- the first m errors are those at the first m of k places
+pub record Measured (s : Shape) (syn places : List ℕ) (k m : ℕ) (errors : List ℕ) : Type 0 where
+  pub size : length errors ≡ 8
+  pub error : (x : ℕ) → x < m → at errors x ≡ errorAmong s syn places k (at places x)
+
+-- new is old with value x XORed onto the entry at place x, for each x below k
+pub record Toggled (k : ℕ) (place value : ℕ → ℕ) (old new : List ℕ) : Type 0 where
+  pub size : length new ≡ length old
+  pub entry : (e : ℕ) → at new e ≡ at old e ⊕ xorSum k (λ x. when (eqb (place x) e) (value x))
+
+-- the table with the first k errors XORed onto the checks on their places
+pub record Cancelled (s : Shape) (k : ℕ) (places errors old new : List ℕ) : Type 0 where
+  pub size : length new ≡ 248
+  pub entry : (t L : ℕ) → t < s .n → L < s .q
+      → at new (t * s .q + L) ≡ at old (t * s .q + L) ⊕ xorSum k (λ x. when (eqb (lineOf s t (at places x)) L) (at errors x))
+
+-- the k corrections of a word: the errors at the located positions, which silence every check
+pub record Corrections (s : Shape) (w : List ℕ) (k : ℕ) (places errors : List ℕ) : Type 0 where
+  pub accepted : correctable s w ≡ true
+  pub changed : count (wordLength s) (located s (at w)) ≡ k
+  pub error : (j : ℕ) → j < wordLength s → errorAt s (at w) j ≡ xorSum k (λ x. when (eqb (at places x) j) (at errors x))
+
+-- what is found from the syndromes of a word: its corrections, or n if there are none
+pub record Found (s : Shape) (syn places errors : List ℕ) (r : ℕ) : Type 0 where
+  pub within : r < s .n → Within s r places
+  pub few : r < s .n → (w : List ℕ) → Syndromes s w syn → Corrections s w r places errors
+  pub many : s .n ≤ r → (w : List ℕ) → Syndromes s w syn → correctable s w ≡ false
+
+-- test 4, the answer and the word: `decodeOf` and `wordAfter` past the first three tests
+pub record Corrects (s : Shape) (w w′ : List ℕ) (r : Decoded) : Type 0 where
+  pub answer : r ≡ unless (correctable s w) Refusal.Uncorrectable (Corrected (count (wordLength s) (located s (at w))))
+  pub word : w′ ≡ wordAfter s w r

@@ -1,0 +1,61 @@
+// The work on a word of lawful shape, length and width. Nothing is written to it before the answer is known.
+use crate::Decoded;
+use crate::cancel::cancel;
+use crate::cancel::is_silent;
+use crate::error::measure;
+use crate::locate::locate;
+use gtb::Refusal;
+use gtb::Shape;
+ghost use mathlib.Core.Path.{_≡_};
+ghost use Prim.Native.Nat.{ℕ, _<_, _≤_};
+ghost use lib.ListN.{length};
+ghost use Rattle.gtb.specs.Shape.{Lawful, wordLength};
+ghost use Rattle.gtb.specs.Square.{at};
+ghost use Rattle.decoder.specs.Steps.{Toggled, Found, Corrects};
+
+// The corrections, places and errors: how many, or n if there are none that silence every check. They are tried on `syn`.
+fn find(shape: Shape, syn: &mut [u32; 248], places: &mut [usize; 8], errors: &mut [u32; 8]) -> usize
+    requires { ⌜ Lawful shape × (length (now syn) ≡ 248) × (length (now places) ≡ 8) × (length (now errors) ≡ 8) ⌝ }
+    ensures { λ r. ⌜ Found shape (now (syn .entry)) (now (places .exit)) (now (errors .exit)) r ⌝ }
+{
+    let q = shape.q as usize;
+    let n = shape.n as usize;
+    let count = locate(shape, syn, places);
+    if n <= count {
+        return n;
+    }
+    measure(shape, syn, places, count, errors);
+    cancel(shape, syn, places, errors, count);
+    if is_silent(syn, n * q) {
+        return count;
+    }
+    n
+}
+
+// The errors are XORed onto the word.
+fn apply(word: &mut [u32], places: &[usize; 8], errors: &[u32; 8], count: usize)
+    requires { ⌜ (count ≤ 8) × ((x : ℕ) → x < count → at (now places) x < length (now word)) ⌝ }
+    ensures { λ _. ⌜ Toggled count (at (now (places .entry))) (at (now (errors .entry))) (now (word .entry)) (now (word .exit)) ⌝ }
+{
+    for x in 0..count {
+        let j = places[x];
+        word[j] ^= errors[x];
+    }
+}
+
+// Test 4: the word is corrected, or left as it came.
+pub fn correct(shape: Shape, word: &mut [u32]) -> Decoded
+    requires { ⌜ Lawful shape × (length (now word) ≡ wordLength shape) ⌝ }
+    ensures { λ r. ⌜ Corrects shape (now (word .entry)) (now (word .exit)) r ⌝ }
+{
+    let mut syn = gtb::syndrome::syndromes(shape, word);
+    let mut places = [0usize; 8];
+    let mut errors = [0u32; 8];
+    let n = shape.n as usize;
+    let count = find(shape, &mut syn, &mut places, &mut errors);
+    if n <= count {
+        return Decoded::Refused(Refusal::Uncorrectable);
+    }
+    apply(word, &places, &errors, count);
+    Decoded::Corrected(count as u32)
+}
