@@ -1,1 +1,123 @@
 // Writing and data extraction.
+mod interpolation;
+mod runs;
+
+use gtb::Refusal;
+use gtb::Shape;
+use gtb::Status;
+ghost use mathlib.Core.Path.{_≡_};
+ghost use mathlib.Core.Bool.{true, _&&_};
+ghost use lib.Dec.{eqb};
+ghost use lib.ListN.{length};
+ghost use Rattle.gtb.specs.Shape.{Lawful, wordLength, infoLength, scratchLength};
+ghost use Rattle.gtb.specs.Square.{narrow};
+ghost use Rattle.gtb.specs.Positions.{extractOf, Encodes};
+ghost use Rattle.encoder.specs.Contract.{Encoding, Extraction};
+ghost use Rattle.encoder.specs.Steps.{Tested, Placed};
+
+// The lengths of the lent slices are those that the shape asks for.
+fn sizes_match(shape: Shape, symbols: usize, scratch: usize, word: usize) -> bool
+    requires { ⌜ Lawful shape ⌝ }
+    ensures { λ r. ⌜ r ≡ (eqb symbols (infoLength shape) && eqb scratch (scratchLength shape) && eqb word (wordLength shape)) ⌝ }
+{
+    let q = shape.q as usize;
+    let n = shape.n as usize;
+    if symbols != (q - 1) * (q + 1 - n) {
+        return false;
+    }
+    if scratch != n * q * ((q * q + 31) / 32) {
+        return false;
+    }
+    word == q * q
+}
+
+// The tests of both entries, the last one on the symbols that come in. Past the first two the scratch is cleared.
+fn test(shape: Shape, symbols: &[u32], scratch: &mut [u32], word: &[u32], given: &[u32]) -> Status
+    ensures { λ r. ⌜ Tested shape (now (symbols .entry)) (now (scratch .entry)) (now (word .entry)) (now (given .entry)) (now (scratch .exit)) r ⌝ }
+{
+    if !gtb::is_lawful(shape) {
+        return Status::Refused(Refusal::Shape);
+    }
+    if !sizes_match(shape, symbols.len(), scratch.len(), word.len()) {
+        return Status::Refused(Refusal::Length);
+    }
+    gtb::clear(scratch);
+    let b = shape.b;
+    if !gtb::is_narrow(given, b) {
+        return Status::Refused(Refusal::Width);
+    }
+    Status::Done
+}
+
+// Copies the symbols on the information positions, row by row.
+pub fn gather(shape: Shape, word: &[u32], symbols: &mut [u32])
+    requires { ⌜ (Lawful shape) × (length (now word) ≡ wordLength shape) × (length (now symbols) ≡ infoLength shape) ⌝ }
+    ensures { λ _. ⌜ now (symbols .exit) ≡ extractOf shape (now (word .entry)) ⌝ }
+{
+    let q = shape.q as usize;
+    let n = shape.n as usize;
+    let m = n - 1;
+    let rows = q - m;
+    let p = q - 1;
+    for i in 0..rows {
+        runs::copy_run(symbols, word, i * p, (m + i) * q + 1, p);
+    }
+}
+
+// Puts the symbols down, each lower row with the XOR of its symbols in front, and zeros above.
+fn place(shape: Shape, symbols: &[u32], word: &mut [u32])
+    requires { ⌜ (Lawful shape) × (length (now word) ≡ wordLength shape) × (length (now symbols) ≡ infoLength shape) ⌝ }
+    ensures { λ _. ⌜ Placed shape (now (symbols .entry)) (now (word .exit)) ⌝ }
+{
+    gtb::clear(word);
+    let q = shape.q as usize;
+    let n = shape.n as usize;
+    let m = n - 1;
+    let rows = q - m;
+    let p = q - 1;
+    for i in 0..rows {
+        runs::place_row(word, symbols, (m + i) * q, i * p, p);
+    }
+}
+
+// The codeword of the symbols: the upper rows are interpolated from the syndromes of the lower ones.
+fn write(shape: Shape, symbols: &[u32], word: &mut [u32])
+    requires { ⌜ (Lawful shape) × (length (now word) ≡ wordLength shape) × (length (now symbols) ≡ infoLength shape) × (narrow (shape .b) (now symbols) ≡ true) ⌝ }
+    ensures { λ _. ⌜ Encodes shape (now (symbols .entry)) (now (word .exit)) ⌝ }
+{
+    place(shape, symbols, word);
+    let syn = gtb::syndrome::syndromes(shape, word);
+    let q = shape.q as usize;
+    let n = shape.n as usize;
+    let m = n - 1;
+    runs::copy_run(word, &syn, 0, q, m * q);
+    interpolation::interpolate(shape, word, 0);
+}
+
+// Writing: the codeword with these information symbols. The scratch is only cleared.
+pub fn encode(shape: Shape, symbols: &[u32], scratch: &mut [u32], word: &mut [u32]) -> Status
+    ensures { λ r. ⌜ Encoding shape (now (symbols .entry)) (now (scratch .entry)) (now (word .entry)) (now (scratch .exit)) (now (word .exit)) r ⌝ }
+{
+    let tested = test(shape, symbols, scratch, word, symbols);
+    match tested {
+        Status::Refused(e) => Status::Refused(e),
+        Status::Done => {
+            write(shape, symbols, word);
+            Status::Done
+        }
+    }
+}
+
+// Data extraction, of any word. The scratch is only cleared.
+pub fn extract(shape: Shape, word: &[u32], scratch: &mut [u32], symbols: &mut [u32]) -> Status
+    ensures { λ r. ⌜ Extraction shape (now (word .entry)) (now (scratch .entry)) (now (symbols .entry)) (now (scratch .exit)) (now (symbols .exit)) r ⌝ }
+{
+    let tested = test(shape, symbols, scratch, word, word);
+    match tested {
+        Status::Refused(e) => Status::Refused(e),
+        Status::Done => {
+            gather(shape, word, symbols);
+            Status::Done
+        }
+    }
+}

@@ -1,0 +1,116 @@
+-- What an entry answers, from its tests, and what then stands in the lent slices.
+use mathlib.Core.Path.{_≡_, refl, sym, _∙_}
+use mathlib.Core.Bool.{Bool, true, false, _&&_}
+use mathlib.Core.List.{List}
+use Prim.Native.Nat.{ℕ}
+use native.Mathlib.Omega.{arith}
+use lib.Dec.{eqb}
+use lib.ListN.{length, replicate}
+use borrow.Author.Tests.{eqb-true}
+use Rattle.parity.proofs.Tests.{and-left, and-right}
+use Rattle.gtb.specs.declared.Shape.{Shape}
+use Rattle.gtb.specs.declared.Refusal.{Refusal}
+use Rattle.gtb.specs.declared.Status.{Status}
+use Rattle.gtb.specs.declared.Status.the-variants.{Done, Refused}
+use Rattle.gtb.specs.Shape.{lawful, Lawful, wordLength, infoLength, scratchLength}
+use Rattle.gtb.specs.Square.{narrow}
+use Rattle.gtb.specs.Positions.{extractOf, Encodes}
+use Rattle.gtb.specs.Answer.{unless, scratchAfter}
+use Rattle.encoder.specs.Contract.{statusOf, Encoding, Extraction}
+use Rattle.encoder.specs.Steps.{Tested}
+
+-- the second test: the lengths of the three slices
+abbrev pub sized : Shape → List ℕ → List ℕ → List ℕ → Bool
+sized s symbols scratch word = eqb (length symbols) (infoLength s) && eqb (length scratch) (scratchLength s) && eqb (length word) (wordLength s)
+
+module _ (s : Shape) (symbols scratch word given : List ℕ) where
+  pub status-shape : lawful s ≡ false → statusOf s symbols scratch word given ≡ Refused Refusal.Shape
+  unfolding statusOf
+  status-shape h = rw h
+
+  pub status-length : lawful s ≡ true → sized s symbols scratch word ≡ false → statusOf s symbols scratch word given ≡ Refused Refusal.Length
+  unfolding statusOf
+  status-length h z = rw (h, z)
+
+  pub status-width : lawful s ≡ true → sized s symbols scratch word ≡ true → narrow (s .b) given ≡ false → statusOf s symbols scratch word given ≡ Refused Refusal.Width
+  unfolding statusOf
+  status-width h z n = rw (h, z, n)
+
+  pub status-done : lawful s ≡ true → sized s symbols scratch word ≡ true → narrow (s .b) given ≡ true → statusOf s symbols scratch word given ≡ Done
+  unfolding statusOf
+  status-done h z n = rw (h, z, n)
+
+-- a refusal names one number only, and is not Done
+same-refusal : (e e′ : Refusal) → Refused e ≡ Refused e′ → e ≡ e′
+same-refusal e e′ h = cc
+
+never-done : (e : Refusal) → Refused e ≡ Done → ⊥
+never-done e h = let z : _≡_ {A = ℕ} 0 1 = cc in omega arith
+
+never-refused : (e : Refusal) → Done ≡ Refused e → ⊥
+never-refused e h = let z : _≡_ {A = ℕ} 0 1 = cc in omega arith
+
+-- ---- the tests
+module _ (s : Shape) (symbols scratch word given scratch′ : List ℕ) where
+  pub tested-refused : (e : Refusal) → statusOf s symbols scratch word given ≡ Refused e → scratch′ ≡ scratchAfter e scratch → Tested s symbols scratch word given scratch′ (Refused e)
+  tested-refused e is left = record { answer = sym is; refused = λ e′ h. rw (same-refusal e e′ h) at left; done = λ h. absurd (never-done e h) }
+
+  pub tested-done : statusOf s symbols scratch word given ≡ Done → scratch′ ≡ replicate (length scratch) 0 → Tested s symbols scratch word given scratch′ Done
+  tested-done is left = record { answer = sym is; refused = λ e h. absurd (never-refused e h); done = λ h. left }
+
+-- what holds where the tests pass
+pub record Passed (s : Shape) (symbols word given : List ℕ) : Type 0 where
+  pub shape : Lawful s
+  pub symbols-size : length symbols ≡ infoLength s
+  pub word-size : length word ≡ wordLength s
+  pub width : narrow (s .b) given ≡ true
+
+unless-done : (b : Bool) (e : Refusal) (next : Status) → unless b e next ≡ Done → (b ≡ true) × (next ≡ Done)
+unless-done true e next h = (refl, h)
+unless-done false e next h = absurd (never-done e h)
+
+pub passed : (s : Shape) (symbols scratch word given scratch′ : List ℕ) (r : Status) → Tested s symbols scratch word given scratch′ r → r ≡ Done → Passed s symbols word given
+unfolding statusOf
+passed s symbols scratch word given scratch′ r t d =
+    let (shape, rest) = unless-done (lawful s) Refusal.Shape _ (sym (t .answer) ∙ d) in
+    let (sizes, last) = unless-done (sized s symbols scratch word) Refusal.Length _ rest in
+    let (width, end) = unless-done (narrow (s .b) given) Refusal.Width Done last in
+    record {
+      shape = shape;
+      symbols-size = eqb-true _ _ (and-left _ _ (and-left _ (eqb (length word) (wordLength s)) sizes));
+      word-size = eqb-true _ _ (and-right (eqb (length symbols) (infoLength s) && eqb (length scratch) (scratchLength s)) _ sizes);
+      width = width;
+    }
+
+-- ---- the entries
+pub encoding-refused : (s : Shape) (symbols scratch word scratch′ : List ℕ) (r : Status) (e : Refusal) → Tested s symbols scratch word symbols scratch′ r → r ≡ Refused e
+    → Encoding s symbols scratch word scratch′ word (Refused e)
+encoding-refused s symbols scratch word scratch′ r e t is = record {
+  answer = sym is ∙ t .answer;
+  refused = λ e′ h. (refl, t .refused e′ (is ∙ h));
+  done = λ h. absurd (never-done e h);
+}
+
+pub encoding-done : (s : Shape) (symbols scratch word scratch′ word′ : List ℕ) (r : Status) → Tested s symbols scratch word symbols scratch′ r → r ≡ Done → Encodes s symbols word′
+    → Encoding s symbols scratch word scratch′ word′ Done
+encoding-done s symbols scratch word scratch′ word′ r t is out = record {
+  answer = sym is ∙ t .answer;
+  refused = λ e h. absurd (never-refused e h);
+  done = λ h. (out, t .done is);
+}
+
+pub extraction-refused : (s : Shape) (word scratch symbols scratch′ : List ℕ) (r : Status) (e : Refusal) → Tested s symbols scratch word word scratch′ r → r ≡ Refused e
+    → Extraction s word scratch symbols scratch′ symbols (Refused e)
+extraction-refused s word scratch symbols scratch′ r e t is = record {
+  answer = sym is ∙ t .answer;
+  refused = λ e′ h. (refl, t .refused e′ (is ∙ h));
+  done = λ h. absurd (never-done e h);
+}
+
+pub extraction-done : (s : Shape) (word scratch symbols scratch′ symbols′ : List ℕ) (r : Status) → Tested s symbols scratch word word scratch′ r → r ≡ Done → symbols′ ≡ extractOf s word
+    → Extraction s word scratch symbols scratch′ symbols′ Done
+extraction-done s word scratch symbols scratch′ symbols′ r t is out = record {
+  answer = sym is ∙ t .answer;
+  refused = λ e h. absurd (never-refused e h);
+  done = λ h. (out, t .done is);
+}

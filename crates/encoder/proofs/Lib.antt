@@ -1,0 +1,12 @@
+pub mod Writes
+pub mod Walks
+pub mod Rows
+pub mod Bounds
+pub mod Divides
+pub mod Joins
+pub mod Newtons
+pub mod Gathers
+pub mod Answers
+pub mod Places
+pub mod Upper
+pub mod Codewords

@@ -1,0 +1,33 @@
+-- `encoder::interpolation::shift` meets its contract: a slope is below q.
+use mathlib.Core.Path.{ap, _∙_}
+use Prim.Native.Nat.{ℕ, _+_, _-_}
+use native.Mathlib.Numerals.{add-one}
+use native.Mathlib.Omega.{arith}
+use borrow.Author.Needs.{needs}
+use Rattle.gtb.specs.Shape.{slopeOf}
+use Rattle.gtb.proofs.Slopes.{slope-lt, shiftOf}
+use Rattle.encoder.proofs.interpolation.shift.Statement.{statement}
+use Rattle.encoder.proofs.interpolation.shift.Tie as tie
+
+cast-q : tie.Need-cast-q
+cast-q c = search needs
+
+add-slope : tie.Need-add-slope
+add-slope c = search needs
+
+slope-requires : tie.Need-slope-requires
+slope-requires c κs = search needs
+
+sub-result : tie.Need-sub-result
+sub-result c =
+    let a = c .before .before .args in
+    omega (arith, c .slope .ensures, slope-lt (a .shape) (c .before .before .pre .0) (a .t + 1) (omega arith) (omega arith))
+
+returns : tie.Need-returns
+unfolding shiftOf
+returns c =
+    let a = c .before .before .args in
+    ap (λ (x : ℕ). a .shape .q - x) (c .slope .ensures ∙ ap (slopeOf (a .shape)) (add-one (a .t)))
+
+pub shift-spec : {M : Type 1} → statement M
+shift-spec = tie.close (tie.spec cast-q add-slope slope-requires sub-result returns)

@@ -1,0 +1,86 @@
+-- `encoder::test` meets its contract: each return has the tests before it passed and its own failed.
+use mathlib.Core.Path.{_≡_, refl, sym, _∙_}
+use mathlib.Core.Bool.{Bool, true}
+use borrow.Author.Needs.{needs}
+use borrow.Author.Tests.{not-true, not-false}
+use Rattle.gtb.specs.Shape.{lawful}
+use Rattle.gtb.specs.Answer.{scratchAfter}
+use Rattle.gtb.proofs.Bounds.{bounds}
+use Rattle.encoder.proofs.Answers.{sized, status-shape, status-length, status-width, status-done, tested-refused, tested-done}
+use Rattle.encoder.proofs.test.Statement.{statement}
+use Rattle.encoder.proofs.test.Tie as tie
+
+is-lawful-requires : tie.Need-is-lawful-requires
+is-lawful-requires c κs = search needs
+
+-- what the first two tests have shown
+shape-holds : (c : tie.Else1) → lawful (c .before .before .before .before .before .before .args .shape) ≡ true
+shape-holds c = sym (c .before .is-lawful .ensures) ∙ not-false _ (c .if1 .left)
+
+abbrev sized-at : tie.Start → Bool
+sized-at c = sized (c .args .shape) (c .args .symbols .now) (c .args .scratch .now) (c .args .word .now)
+
+sizes-hold : (c : tie.Else2) → sized-at (c .before .before .before .before .before .before .before .before) ≡ true
+sizes-hold c = sym (c .before .sizes-match .ensures) ∙ not-false _ (c .if2 .left)
+
+returns : tie.Need-returns
+unfolding scratchAfter
+returns c = tested-refused _ _ _ _ _ _ _ (status-shape _ _ _ _ _ (sym (c .before .is-lawful .ensures) ∙ not-true _ (c .if1 .taken))) refl
+
+sizes-match-requires : tie.Need-sizes-match-requires
+sizes-match-requires c κs = shape-holds c
+
+returns-2 : tie.Need-returns-2
+unfolding scratchAfter
+returns-2 c =
+    let a = c .before .before .before .before .before .before .before .before .args in
+    tested-refused _ _ _ _ _ _ _
+    (status-length (a .shape) (a .symbols .now) (a .scratch .now) (a .word .now) _ (shape-holds (c .before .before))
+    (sym (c .before .sizes-match .ensures) ∙ not-true _ (c .if2 .taken)))
+    refl
+
+clear-requires : tie.Need-clear-requires
+clear-requires c κs = search needs
+
+is-narrow-requires : tie.Need-is-narrow-requires
+is-narrow-requires c κs = bounds _ (shape-holds (c .before .before .before .before .before .before)) .b32
+
+same-length : tie.Need-same-length
+same-length c = search needs
+
+returns-3 : tie.Need-returns-3
+unfolding scratchAfter
+returns-3 c =
+    let sizes = c .before .before .before .before .before .before in
+    let a = sizes .before .before .before .before .before .before .before .before .args in
+    tested-refused _ _ _ _ _ _ _
+    (status-width (a .shape) (a .symbols .now) (a .scratch .now) (a .word .now) _ (shape-holds (sizes .before .before)) (sizes-hold sizes)
+    (sym (c .before .is-narrow .ensures) ∙ not-true _ (c .if3 .taken)))
+    (c .before .before .before .before .clear .ensures)
+
+same-length-2 : tie.Need-same-length-2
+same-length-2 c = search needs
+
+returns-4 : tie.Need-returns-4
+returns-4 c =
+    let sizes = c .before .before .before .before .before .before in
+    let a = sizes .before .before .before .before .before .before .before .before .args in
+    tested-done _ _ _ _ _ _
+    (status-done (a .shape) (a .symbols .now) (a .scratch .now) (a .word .now) _ (shape-holds (sizes .before .before)) (sizes-hold sizes)
+    (sym (c .before .is-narrow .ensures) ∙ not-false _ (c .if3 .left)))
+    (c .before .before .before .before .clear .ensures)
+
+pub test-spec : {M : Type 1} → statement M
+test-spec =
+    tie.close
+    (tie.spec
+    is-lawful-requires
+    returns
+    sizes-match-requires
+    returns-2
+    clear-requires
+    is-narrow-requires
+    same-length
+    returns-3
+    same-length-2
+    returns-4)
