@@ -87,11 +87,14 @@ sessionBy σ (Bad e′) r = σ
 unfoldable pub sessionAfter : Session → Opened → Session
 sessionAfter σ o = sessionBy σ o (outcomeOf σ o)
 
+abbrev pub isAccepted : Outcome → Bool
+isAccepted (Taken p k) = true
+isAccepted (Again p k) = true
+isAccepted (Refused e) = false
+
 -- the word stands corrected after taken and again, and is the word that came after a refusal
 abbrev pub wordAfter : List ℕ → List ℕ → Outcome → List ℕ
-wordAfter word corrected (Taken p k) = corrected
-wordAfter word corrected (Again p k) = corrected
-wordAfter word corrected (Refused e) = word
+wordAfter word corrected r = cond (isAccepted r) corrected word
 
 abbrev pub scratchAfter : List ℕ → Outcome → List ℕ
 scratchAfter scratch (Taken p k) = replicate (length scratch) 0

@@ -1,3 +1,4 @@
 pub mod Session
 pub mod Arrival
 pub mod Recording
+pub mod Steps

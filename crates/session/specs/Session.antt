@@ -14,6 +14,7 @@ use Rattle.gtb.specs.declared.Status.the-variants.{Done}
 use Rattle.gtb.specs.Shape.{lawful}
 use Rattle.gtb.specs.Answer as answer
 use Rattle.session.specs.declared.Session.{Session}
+use Rattle.session.specs.declared.Fresh.{Fresh}
 use Rattle.session.specs.declared.Counted.{Counted}
 use Rattle.session.specs.declared.Counted.the-variants.{Calls, Refused}
 
@@ -24,6 +25,11 @@ freshOf s = record { shape = s; taken = replicate 1024 false; calls = replicate 
 -- making one tests 1
 unfoldable pub freshStatus : Shape → Status
 freshStatus s = answer.unless (lawful s) Refusal.Shape Done
+
+-- what making one answers; beside a refusal stands the session of that shape, of use to nobody
+pub record Beginning (s : Shape) (r : Fresh) : Type 0 where
+  pub session : r .session ≡ freshOf s
+  pub status : r .status ≡ freshStatus s
 
 -- how many of the marks are for function f
 unfoldable pub countOf : ℕ → List ℕ → ℕ

@@ -1,7 +1,17 @@
 // The session: which pages have come, and how often each function was called.
+use decoder::Decoded;
 use gtb::Refusal;
 use gtb::Shape;
 use gtb::Status;
+use gtb::size::info_length;
+use gtb::size::scratch_length;
+use gtb::size::word_length;
+use page::PageRead;
+ghost use mathlib.Core.Path.{_≡_};
+ghost use Prim.Native.Nat.{_<_};
+ghost use Rattle.session.specs.Session.{countedOf, Beginning};
+ghost use Rattle.session.specs.Arrival.{clean, Opened, Arriving, isAccepted};
+ghost use Rattle.session.specs.Steps.{Adding, Counts, Functions, Settling, Lent, Restored};
 
 // A session handed in from elsewhere may hold anything, a bad shape too.
 pub struct Session {
@@ -35,8 +45,187 @@ pub enum Counted {
     Refused(Refusal),
 }
 
+// Adds each mark to its function's count; false where a count would pass its limit.
+fn add_marks(calls: &mut [u32; 256], marks: &[u32]) -> bool
+    requires { ⌜ Counts (now calls) × Functions (now marks) ⌝ }
+    ensures { λ r. ⌜ Adding (now (calls .entry)) (now (marks .entry)) (now (calls .exit)) r ⌝ }
+{
+    let mut i = 0;
+    while i < marks.len() {
+        let f = marks[i] as usize;
+        let k = calls[f];
+        if k == 4294967295 {
+            return false;
+        }
+        calls[f] = k + 1;
+        i += 1;
+    }
+    true
+}
+
+// The outcome is taken or again.
+fn accepts(outcome: Outcome) -> bool
+    ensures { λ r. ⌜ r ≡ isAccepted outcome ⌝ }
+{
+    match outcome {
+        Outcome::Taken(_, _) => true,
+        Outcome::Again(_, _) => true,
+        Outcome::Refused(_) => false,
+    }
+}
+
 impl Session {
     pub const PAGES: usize = 1024;
 
     pub const FUNCTIONS: usize = 256;
+
+    // A session that has seen nothing. Beside a refusal it stands with the shape that was refused.
+    pub fn fresh(shape: Shape) -> Fresh
+        ensures { λ r. ⌜ Beginning shape r ⌝ }
+    {
+        let session = Session {
+            shape,
+            taken: [false; 1024],
+            calls: [0u32; 256],
+        };
+        if gtb::is_lawful(shape) {
+            return Fresh {
+                session,
+                status: Status::Done,
+            };
+        }
+        Fresh {
+            session,
+            status: Status::Refused(Refusal::Shape),
+        }
+    }
+
+    // How often a function was called.
+    pub fn count(self, function: u32) -> Counted
+        ensures { λ r. ⌜ r ≡ countedOf self function ⌝ }
+    {
+        let shape = self.shape;
+        if !gtb::is_lawful(shape) {
+            return Counted::Refused(Refusal::Shape);
+        }
+        if function > 255 {
+            return Counted::Refused(Refusal::Function);
+        }
+        let at = function as usize;
+        let calls = self.calls;
+        Counted::Calls(calls[at])
+    }
+
+    // An arrival: tests 1 and 2, then the work on a copy of the word.
+    pub fn arrive(self, word: &mut [u32], scratch: &mut [u32]) -> Arrived
+        ensures { λ r. ⌜ Arriving clean self (now (word .entry)) (now (scratch .entry)) (now (word .exit)) (now (scratch .exit)) r ⌝ }
+    {
+        let shape = self.shape;
+        if !gtb::is_lawful(shape) {
+            return self.refused(Refusal::Shape);
+        }
+        let size = word_length(shape);
+        if word.len() != size {
+            return self.refused(Refusal::Length);
+        }
+        if scratch.len() != scratch_length(shape) {
+            return self.refused(Refusal::Length);
+        }
+        let count = info_length(shape);
+        let mut copied = [0u32; 961];
+        let mut symbols = [0u32; 900];
+        self.read(word, scratch, &mut copied[..size], &mut symbols[..count])
+    }
+
+    fn refused(self, refusal: Refusal) -> Arrived
+        ensures { λ r. ⌜ (r .session ≡ self) × (r .outcome ≡ Outcome.Refused refusal) ⌝ }
+    {
+        Arrived {
+            session: self,
+            outcome: Outcome::Refused(refusal),
+        }
+    }
+
+    // Tests 3 and 4, on the copy.
+    fn read(
+        self,
+        word: &mut [u32],
+        scratch: &mut [u32],
+        copied: &mut [u32],
+        symbols: &mut [u32],
+    ) -> Arrived
+        requires { ⌜ Lent (self .shape) (now word) (now scratch) (now copied) (now symbols) ⌝ }
+        ensures { λ r. ⌜ Arriving clean self (now (word .entry)) (now (scratch .entry)) (now (word .exit)) (now (scratch .exit)) r ⌝ }
+    {
+        let shape = self.shape;
+        gtb::copy(word, copied);
+        match decoder::decode(shape, copied) {
+            Decoded::Refused(e) => {
+                gtb::clear(scratch);
+                self.refused(e)
+            }
+            Decoded::Corrected(k) => self.open(word, scratch, copied, symbols, k),
+        }
+    }
+
+    // Tests 5 to 8, then the last step; the word is written after taken and again alone.
+    fn open(
+        self,
+        word: &mut [u32],
+        scratch: &mut [u32],
+        copied: &[u32],
+        symbols: &mut [u32],
+        k: u32,
+    ) -> Arrived
+        requires { ⌜ Lent (self .shape) (now word) (now scratch) (now copied) (now symbols) × Restored (self .shape) (now word) (now copied) k ⌝ }
+        ensures { λ r. ⌜ Arriving clean self (now (word .entry)) (now (scratch .entry)) (now (word .exit)) (now (scratch .exit)) r ⌝ }
+    {
+        let shape = self.shape;
+        gtb::clear(scratch);
+        encoder::gather(shape, copied, symbols);
+        match page::read_page(shape, symbols) {
+            PageRead::Refused(e) => self.refused(e),
+            PageRead::Page(number, count) => {
+                let end = 2 + count as usize;
+                let arrived = self.settled(number, k, &symbols[2..end]);
+                let outcome = arrived.outcome;
+                if accepts(outcome) {
+                    gtb::copy(copied, word);
+                }
+                arrived
+            }
+        }
+    }
+
+    // The last step of an arrival, for a page that was read: a marked one is again; else its marks are counted, if none passes its limit.
+    fn settled(self, number: u32, corrected: u32, marks: &[u32]) -> Arrived
+        requires { ⌜ (number < 1024) × Functions (now marks) ⌝ }
+        ensures { λ r. ⌜ Settling self (Opened.Page number (now (marks .entry)) corrected) r ⌝ }
+    {
+        let shape = self.shape;
+        let at = number as usize;
+        let mut taken = self.taken;
+        if taken[at] {
+            return Arrived {
+                session: self,
+                outcome: Outcome::Again(number, corrected),
+            };
+        }
+        let mut calls = self.calls;
+        if !add_marks(&mut calls, marks) {
+            return Arrived {
+                session: self,
+                outcome: Outcome::Refused(Refusal::Overflow),
+            };
+        }
+        taken[at] = true;
+        Arrived {
+            session: Session {
+                shape,
+                taken,
+                calls,
+            },
+            outcome: Outcome::Taken(number, corrected),
+        }
+    }
 }

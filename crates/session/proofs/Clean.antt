@@ -1,0 +1,62 @@
+-- Demand 3 for reading as in document 01: clean damage to at most n - 1 digits.
+use mathlib.Core.Path.{_≡_, refl}
+use mathlib.Core.Bool.{Bool, true, false}
+use mathlib.Core.List.{List}
+use Prim.Native.Nat.{ℕ, _<_}
+use native.Mathlib.Omega.{arith}
+use lib.Dec.{eqb, lit<}
+use lib.ListN.{length}
+use Rattle.gtb.specs.declared.Shape.{Shape}
+use Rattle.gtb.specs.declared.Refusal.{Refusal}
+use Rattle.gtb.specs.Shape.{lawful, Lawful, wordLength}
+use Rattle.gtb.specs.Square.{at, narrow}
+use Rattle.gtb.specs.Answer.{refusalNumber}
+use Rattle.decoder.specs.declared.Decoded.{Decoded}
+use Rattle.decoder.specs.declared.Decoded.the-variants.{Refused}
+use Rattle.decoder.specs.Damage.{weight, damaged}
+use Rattle.decoder.specs.Decode.{correctable, unless, decodeOf}
+use Rattle.decoder.proofs.Meaning.{explains-decode}
+use Rattle.session.specs.declared.Session.{Session}
+use Rattle.session.specs.declared.Outcome.{Outcome}
+use Rattle.session.specs.Session.{freshOf}
+use Rattle.session.specs.Arrival.{Sound, clean}
+use Rattle.session.specs.Recording.{Sheet, Recording, Arrival, Fits, Run, Demand3}
+use Rattle.session.proofs.Openings.{not-nine}
+use Rattle.session.proofs.Demand.{demand3}
+
+-- a test that turns down by a lower number
+decode-next : (t : Bool) (e : Refusal) (next : Decoded) → refusalNumber e < 9 → (next ≡ Refused Refusal.Overflow → ⊥)
+    → unless t e next ≡ Refused Refusal.Overflow → ⊥
+decode-next true e next l h = h
+decode-next false e next l h = λ r. not-nine e l (cc)
+
+-- word reading never refuses with 9
+decode-never : (s : Shape) (w : List ℕ) → decodeOf s w ≡ Refused Refusal.Overflow → ⊥
+unfolding decodeOf
+decode-never s w =
+    decode-next (lawful s) _ _ (lit< tt)
+    (decode-next (eqb (length w) (wordLength s)) _ _ (lit< tt)
+    (decode-next (narrow (s .b) w) _ _ (lit< tt)
+    (decode-next (correctable s w) _ _ (lit< tt)
+    (λ r. let z : _≡_ {A = ℕ} 0 1 = cc in omega arith))))
+
+pub clean-sound : (s : Shape) → Lawful s → Sound clean s
+clean-sound s legal = record {
+  right = λ v e stored word allowed.
+      explains-decode s legal (damaged v e) v (weight s (at e))
+      (record {
+        codeword = stored;
+        error = e;
+        word = word;
+        unmasked = allowed .0;
+        changed = refl;
+        few = allowed .1;
+        received = refl;
+      });
+  never = decode-never s;
+}
+
+pub demand3-clean : (s : Shape) (pages : List Sheet) (arrivals : List Arrival) (answers : List Outcome) (end : Session)
+    → Recording s pages → Fits clean s pages arrivals → Run clean (freshOf s) arrivals answers end
+    → Demand3 clean s pages arrivals answers end
+demand3-clean s pages arrivals answers end r = demand3 clean s pages arrivals answers end (clean-sound s (r .lawful)) r

@@ -1,0 +1,177 @@
+-- Demand 3: what comes of a whole list of arrivals that fits a recording.
+use mathlib.Core.Path.{_≡_, refl, sym, ap, _∙_}
+use mathlib.Core.Bool.{Bool, true, false, cond, _||_}
+use mathlib.Core.List.{List, [], _∷_}
+use Prim.Native.Nat.{ℕ, zero, suc, _+_, _<_, _≤_}
+use native.Mathlib.Nat.{add-zero, mul-one, le-refl, le-of-lt}
+use lib.ListN.{length, take}
+use lib.Seq.{take-length}
+use borrow.Author.Tests.{eq-eqb}
+use Rattle.parity.specs.Count.{bit, sum, count}
+use Rattle.parity.proofs.Tests.{any-suc, any-zero, any-intro}
+use Rattle.parity.proofs.Sums.{sum-cong, sum-none, sum-const}
+use Rattle.gtb.specs.declared.Shape.{Shape}
+use Rattle.session.specs.declared.Session.{Session}
+use Rattle.session.specs.declared.Outcome.{Outcome}
+use Rattle.session.specs.declared.Arrived.{Arrived}
+use Rattle.session.specs.Session.{freshOf, countOf}
+use Rattle.session.specs.Arrival.{Way, Sound, Opened, Page, Bad, outcomeOf, sessionAfter}
+use Rattle.session.specs.Recording.{Sheet, sheetAt, Recording, tally, Arrival, openedAt, Fits, Run, stop, step, hasNumber, come, Machine, start, feed, machine, answerAt, EveryList, isTaken, answerTo, Claim}
+use Rattle.session.proofs.Machine.{feed-pages, fed-counts, weighed, fed-weight, machine-more}
+use Rattle.session.proofs.Fed.{reply, brought, answersOf, run-answers, run-end, run-reply, every-list}
+use Rattle.session.proofs.Fits.{From, sheet-opened, fits-from, only-recording}
+
+-- ---- the runs of a list
+
+-- there is one
+pub run-exists : (way : Way) (σ : Session) (arrivals : List Arrival) → (answers : List Outcome) × (end : Session) × Run way σ arrivals answers end
+run-exists way σ [] = ([], σ, stop)
+run-exists way σ (a ∷ rest) =
+    let o : Opened = brought way σ a in
+    let r : Arrived = record { session = sessionAfter σ o; outcome = outcomeOf σ o } in
+    let (answers, end, run) = run-exists way (sessionAfter σ o) rest in
+    (r .outcome ∷ answers, end, step {r = r} (record { outcome = refl; session = refl; wordLeft = refl; scratchLeft = refl }) run)
+
+-- and no other
+pub run-unique : {way : Way} {σ : Session} {arrivals : List Arrival} {answers answers′ : List Outcome} {end end′ : Session}
+    → Run way σ arrivals answers end → Run way σ arrivals answers′ end′ → (answers ≡ answers′) × (end ≡ end′)
+run-unique r r′ = (run-answers r ∙ sym (run-answers r′), run-end r ∙ sym (run-end r′))
+
+-- the answers to the first arrivals are the first answers
+take-answers : (way : Way) (σ : Session) (m : ℕ) (arrivals : List Arrival) → answersOf way σ (take m arrivals) ≡ take m (answersOf way σ arrivals)
+take-answers way σ zero arrivals = refl
+take-answers way σ (suc m) [] = refl
+take-answers way σ (suc m) (a ∷ rest) =
+    ap (λ (rs : List Outcome). outcomeOf σ (brought way σ a) ∷ rs) (take-answers way (sessionAfter σ (brought way σ a)) m rest)
+
+-- ---- what an arrival adds
+
+-- the weights of those of the pages that are in a set
+abbrev total : List Sheet → (Sheet → ℕ) → (ℕ → Bool) → ℕ
+total pages w some = weighed (length pages) (λ i. sheetAt pages i .number) (λ i. w (sheetAt pages i)) some
+
+-- the weight of what was brought, if it is a new page
+abbrev gain : (Sheet → ℕ) → Machine → Opened → ℕ
+gain w m (Page number marks k) = cond (m .pages number) 0 (w (record { number = number; marks = marks }))
+gain w m (Bad e) = 0
+
+-- the machine's counts gain its marks
+feed-gain : (m : Machine) (o : Opened) (f : ℕ) → feed m o .counts f ≡ m .counts f + gain (λ p. countOf f (p .marks)) m o
+feed-gain m (Page number marks k) f = fed-counts m number marks (m .pages number) f
+feed-gain m (Bad e) f = sym (add-zero (m .counts f))
+
+bit-taken : (known : Bool) (number k : ℕ) → bit (isTaken (answerTo known number k)) ≡ cond known 0 1
+unfolding bit
+bit-taken true number k = refl
+bit-taken false number k = refl
+
+-- taken is answered once more
+taken-gain : (m : Machine) (o : Opened) → bit (isTaken (reply m o)) ≡ gain (λ p. 1) m o
+unfolding bit
+taken-gain m (Page number marks k) = bit-taken (m .pages number) number k
+taken-gain m (Bad e) = refl
+
+-- and the recording's pages that have come gain its weight
+total-gain : (s : Shape) (pages : List Sheet) → Recording s pages → (w : Sheet → ℕ) (m : Machine) (o : Opened) → From pages o
+    → total pages w (feed m o .pages) ≡ total pages w (m .pages) + gain w m o
+total-gain s pages r w m (Page number marks k) (i, l, e) =
+    fed-weight (length pages) (λ j. sheetAt pages j .number) (λ j. w (sheetAt pages j)) m number marks (m .pages number) refl i l
+    (ap (λ (p : Sheet). p .number) e)
+    (λ j lj h. r .different j i lj l (h ∙ sym (ap (λ (p : Sheet). p .number) e)))
+    ∙ ap (λ (p : Sheet). total pages w (m .pages) + cond (m .pages number) 0 (w p)) e
+total-gain s pages r w m (Bad e) h = sym (add-zero _)
+
+-- ---- the whole list
+
+-- the machine after the first j arrivals
+abbrev held : Way → Shape → List Arrival → ℕ → Machine
+held way s arrivals j = machine way s start (take j arrivals)
+
+-- its set: the pages that have come
+held-pages : (way : Way) (s : Shape) (arrivals : List Arrival) (j : ℕ) → j ≤ length arrivals → (p : ℕ)
+    → held way s arrivals j .pages p ≡ come way s arrivals j p
+unfolding come
+held-pages way s arrivals zero l p = sym (any-zero (λ j. hasNumber p (openedAt way s arrivals j)))
+held-pages way s arrivals (suc j) l p =
+    ap (λ (m : Machine). m .pages p) (machine-more way s start arrivals j l)
+    ∙ feed-pages (held way s arrivals j) (openedAt way s arrivals j) p
+    ∙ ap (λ (b : Bool). b || hasNumber p (openedAt way s arrivals j)) (held-pages way s arrivals j (le-of-lt l) p)
+    ∙ sym (any-suc j (λ i. hasNumber p (openedAt way s arrivals i)))
+
+module _ (way : Way) (s : Shape) (sound : Sound way s) (pages : List Sheet) (r : Recording s pages) (arrivals : List Arrival) (fits : Fits way s pages arrivals) where
+  -- what starts at 0 and gains the weight of each new page is the weight of the pages that have come
+  gained : (w : Sheet → ℕ) (g : ℕ → ℕ) → g 0 ≡ 0
+      → ((j : ℕ) → j < length arrivals → g (suc j) ≡ g j + gain w (held way s arrivals j) (openedAt way s arrivals j))
+      → (j : ℕ) → j ≤ length arrivals → g j ≡ total pages w (held way s arrivals j .pages)
+  unfolding weighed
+  gained w g z h zero l = z ∙ sym (sum-none (length pages) (λ i. 0) (λ i li. refl))
+  gained w g z h (suc j) l =
+      let m : Machine = held way s arrivals j in
+      let o : Opened = openedAt way s arrivals j in
+      h j l ∙ ap (λ (x : ℕ). x + gain w m o) (gained w g z h j (le-of-lt l))
+      ∙ sym (total-gain s pages r w m o (fits-from way s sound arrivals pages r fits j l))
+      ∙ ap (λ (m′ : Machine). total pages w (m′ .pages)) (sym (machine-more way s start arrivals j l))
+
+  -- the machine's counts: the marks of the pages that have come
+  held-counts : (f j : ℕ) → j ≤ length arrivals
+      → held way s arrivals j .counts f ≡ total pages (λ p. countOf f (p .marks)) (held way s arrivals j .pages)
+  held-counts f =
+      gained (λ p. countOf f (p .marks)) (λ j. held way s arrivals j .counts f) refl
+      (λ j l. ap (λ (m : Machine). m .counts f) (machine-more way s start arrivals j l) ∙ feed-gain (held way s arrivals j) (openedAt way s arrivals j) f)
+
+  -- as a tally, after j arrivals and at the end
+  counts-sofar : (f j : ℕ) → j ≤ length arrivals → held way s arrivals j .counts f ≡ tally pages (λ p. come way s arrivals j (p .number)) f
+  unfolding tally weighed
+  counts-sofar f j l =
+      held-counts f j l
+      ∙ sum-cong (length pages) _ _
+      (λ i li. ap (λ (b : Bool). cond b (countOf f (sheetAt pages i .marks)) 0) (held-pages way s arrivals j l (sheetAt pages i .number)))
+
+  -- in the end each page has come
+  all-come : (i : ℕ) → i < length pages → held way s arrivals (length arrivals) .pages (sheetAt pages i .number) ≡ true
+  unfolding come
+  all-come i l =
+      let (j, lj, k, b) = fits .every i l in
+      let p : ℕ = sheetAt pages i .number in
+      held-pages way s arrivals (length arrivals) (le-refl (length arrivals)) p
+      ∙ any-intro (length arrivals) (λ j′. hasNumber p (openedAt way s arrivals j′)) j lj
+      (rw (sheet-opened way s sound arrivals pages r j i l k b) (eq-eqb p p refl))
+
+  total-end : (w : Sheet → ℕ) → total pages w (held way s arrivals (length arrivals) .pages) ≡ sum (length pages) (λ i. w (sheetAt pages i))
+  unfolding weighed
+  total-end w = sum-cong (length pages) _ _ (λ i l. ap (λ (b : Bool). cond b (w (sheetAt pages i)) 0) (all-come i l))
+
+  counts-end : (f : ℕ) → machine way s start arrivals .counts f ≡ tally pages (λ p. true) f
+  unfolding tally
+  counts-end f =
+      ap (λ (xs : List Arrival). machine way s start xs .counts f) (sym (take-length arrivals))
+      ∙ held-counts f (length arrivals) (le-refl (length arrivals)) ∙ total-end (λ p. countOf f (p .marks))
+
+  taken-end : (answers : List Outcome) (end : Session) → Run way (freshOf s) arrivals answers end
+      → count (length arrivals) (λ j. isTaken (answerAt answers j)) ≡ length pages
+  unfolding count sum
+  taken-end answers end run =
+      gained (λ p. 1) (λ j. count j (λ i. isTaken (answerAt answers i))) refl
+      (λ j l.
+      ap (λ (x : ℕ). count j (λ i. isTaken (answerAt answers i)) + x)
+      (ap (λ (a : Outcome). bit (isTaken a)) (run-reply way s sound run j l) ∙ taken-gain (held way s arrivals j) (openedAt way s arrivals j)))
+      (length arrivals) (le-refl (length arrivals))
+      ∙ total-end (λ p. 1) ∙ sum-const (length pages) 1 ∙ mul-one (length pages)
+
+pub demand3 : (way : Way) → Claim way
+demand3 way s pages arrivals answers end sound r fits run =
+    let every : EveryList way s arrivals answers end = every-list way s (r .lawful) sound arrivals answers end run in
+    record {
+      sofar = λ m l first σ run′. (
+        run-answers run′ ∙ take-answers way (freshOf s) m arrivals ∙ ap (take m) (sym (run-answers run)),
+        λ f lf.
+            every-list way s (r .lawful) sound (take m arrivals) first σ run′ .agrees .calls f lf ∙ counts-sofar way s sound pages r arrivals fits f m l,
+      );
+      whole = λ f l. every .agrees .calls f l ∙ counts-end way s sound pages r arrivals fits f;
+      answer = λ j l i li k b.
+          run-reply way s sound run j l ∙ ap (reply (held way s arrivals j)) (sheet-opened way s sound arrivals pages r j i li k b)
+          ∙ ap (λ (known : Bool). answerTo known (sheetAt pages i .number) k) (held-pages way s arrivals j (le-of-lt l) (sheetAt pages i .number));
+      taken = rw (every .answered) (taken-end way s sound pages r arrivals fits answers end run);
+      every = every;
+      only = λ others r′ fits′. only-recording way s sound arrivals pages others r r′ fits fits′;
+    }

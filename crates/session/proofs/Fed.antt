@@ -1,0 +1,198 @@
+-- The session against the plain machine: they hold the same after every arrival, from a fresh session on.
+use mathlib.Core.Path.{_≡_, refl, sym, ap, ap₂, _∙_, subst}
+use mathlib.Core.Bool.{Bool, true, false, cond, _||_}
+use mathlib.Core.List.{List, [], _∷_}
+use mathlib.Core.Logic.{⊎-elim}
+use Prim.Native.Nat.{ℕ, zero, suc, _+_, _*_, _^_, _<_, _≤_}
+use native.Mathlib.Nat.{not-suc-le-zero, le-of-suc-le-suc, le-refl, le-trans}
+use native.Mathlib.Omega.{arith}
+use lib.Dec.{eqb, leb, lit≤}
+use lib.ListN.{length, getD, set, take, length-set, length-replicate, getD-replicate}
+use lib.Seq.{getD-set-same, getD-set-other}
+use borrow.Author.Tests.{eqb-true, eqb-false, lt-leb}
+use Rattle.parity.proofs.Tests.{either, any-none}
+use Rattle.parity.proofs.Sums.{bit-le, sum-le, sum-const}
+use Rattle.parity.proofs.Lists.{at-tabulate}
+use Rattle.gtb.specs.declared.Shape.{Shape}
+use Rattle.gtb.specs.declared.Refusal.{Refusal}
+use Rattle.gtb.specs.Shape.{Lawful}
+use Rattle.session.specs.declared.Session.{Session}
+use Rattle.session.specs.declared.Outcome.{Outcome}
+use Rattle.session.specs.declared.Outcome.the-variants.{Taken, Again, Refused}
+use Rattle.session.specs.Session.{freshOf, countOf, added, overflows, recorded}
+use Rattle.session.specs.Arrival.{Way, Sound, Opened, Page, Bad, opened, outcomeOf, sessionBy, sessionAfter}
+use Rattle.session.specs.Recording.{Arrival, openedAt, arrivalAt, TurnedDown, Run, stop, step, Machine, start, fed, feed, machine, Agrees, answerAt, EveryList, answerTo}
+use Rattle.session.proofs.Machine.{or-false, weighed, fed-weight}
+use Rattle.session.proofs.Openings.{Sane, opened-sane}
+
+-- ---- one arrival
+
+-- the session has grown from a fresh one: it holds what the machine holds, each count at most 898 for each page
+pub record Grown (s : Shape) (σ : Session) (m : Machine) : Type 0 where
+  pub shape : σ .shape ≡ s
+  pub size : length (σ .taken) ≡ 1024
+  pub agrees : Agrees σ m
+  pub few : (f : ℕ) → m .counts f ≤ weighed 1024 (λ p. p) (λ p. 898) (m .pages)
+
+pub fresh-grown : (s : Shape) → Grown s (freshOf s) start
+unfolding freshOf
+fresh-grown s = record {
+  shape = refl;
+  size = length-replicate 1024 false;
+  agrees = record { taken = λ p l. getD-replicate 1024 p false false l; calls = λ f l. getD-replicate 256 f 0 0 l };
+  few = λ f. omega arith;
+}
+
+-- the machine's answer
+abbrev pub reply : Machine → Opened → Outcome
+reply m (Page number marks k) = answerTo (m .pages number) number k
+reply m (Bad e) = Refused e
+
+count-le : (f : ℕ) (marks : List ℕ) → countOf f marks ≤ length marks
+unfolding countOf
+count-le f [] = le-refl 0
+count-le f (x ∷ marks) = let l = bit-le (eqb x f) in let ih = count-le f marks in omega arith
+
+weight-le : (b : Bool) → cond b 898 0 ≤ 898
+weight-le true = lit≤ tt
+weight-le false = lit≤ tt
+
+-- all 1024 pages together are below 2^32
+all-few : (pages : ℕ → Bool) → weighed 1024 (λ p. p) (λ p. 898) pages ≤ 1024 * 898
+unfolding weighed
+all-few pages = le-trans (sum-le 1024 (λ p. cond (pages p) 898 0) (λ p. 898) (λ p l. weight-le (pages p))) (rw (sum-const 1024 898) (le-refl (1024 * 898)))
+
+-- so 9 never comes
+no-overflow : (s : Shape) (σ : Session) (m : Machine) → Grown s σ m → (marks : List ℕ) → length marks ≤ 898 → overflows (σ .calls) marks ≡ false
+unfolding overflows
+no-overflow s σ m g marks few =
+    any-none 256 (λ f. leb (2 ^ 32) (getD (σ .calls) f 0 + countOf f marks))
+    (λ f l. lt-leb (2 ^ 32) (getD (σ .calls) f 0 + countOf f marks) (omega (arith, g .agrees .calls f l, g .few f, all-few (m .pages), count-le f marks)))
+
+answer-to : (known : Bool) (number k : ℕ) → cond known (Again number k) (Taken number k) ≡ answerTo known number k
+answer-to true number k = refl
+answer-to false number k = refl
+
+-- the session answers as the machine does
+grown-reply : (s : Shape) (σ : Session) (m : Machine) → Grown s σ m → (o : Opened) → Sane o → outcomeOf σ o ≡ reply m o
+unfolding outcomeOf
+grown-reply s σ m g (Page number marks k) sane =
+    rw (g .agrees .taken number (sane .0), no-overflow s σ m g marks (sane .1)) (answer-to (m .pages number) number k)
+grown-reply s σ m g (Bad e) sane = refl
+
+-- the marked numbers after a new page
+taken-after : (s : Shape) (σ : Session) (m : Machine) → Grown s σ m → (number : ℕ) → number < 1024 → m .pages number ≡ false
+    → (p : ℕ) → p < 1024 → getD (set (σ .taken) number true) p false ≡ (m .pages p || eqb p number)
+taken-after s σ m g number l new p lp =
+    ⊎-elim
+    (λ (t : eqb p number ≡ true). rw (t, eqb-true p number t, new) (getD-set-same (σ .taken) number true false (rw (g .size) l)))
+    (λ (f : eqb p number ≡ false).
+    rw f (getD-set-other (σ .taken) number p true false (eqb-false p number f) ∙ g .agrees .taken p lp ∙ or-false (m .pages p)))
+    (either (eqb p number))
+
+-- after a page the session holds what the machine then holds
+grown-by : (s : Shape) (σ : Session) (m : Machine) → Grown s σ m → (number : ℕ) (marks : List ℕ) (k : ℕ) → Sane (Page number marks k)
+    → (known : Bool) → m .pages number ≡ known
+    → Grown s (sessionBy σ (Page number marks k) (answerTo known number k)) (fed m number marks known)
+unfolding recorded added
+grown-by s σ m g number marks k sane true h = g
+grown-by s σ m g number marks k sane false h = record {
+  shape = g .shape;
+  size = length-set (σ .taken) number true ∙ g .size;
+  agrees = record {
+    taken = taken-after s σ m g number (sane .0) h;
+    calls = λ f l. at-tabulate 256 _ f l ∙ ap (λ (x : ℕ). x + countOf f marks) (g .agrees .calls f l);
+  };
+  few = λ f.
+      omega
+      (arith, g .few f, count-le f marks, fed-weight 1024 (λ p. p) (λ p. 898) m number marks false h number (sane .0) refl (λ j lj e. e));
+}
+
+-- and after an arrival
+grown-after : (s : Shape) (σ : Session) (m : Machine) → Grown s σ m → (o : Opened) → Sane o → Grown s (sessionAfter σ o) (feed m o)
+unfolding sessionAfter
+grown-after s σ m g (Page number marks k) sane =
+    rw (grown-reply s σ m g (Page number marks k) sane) (grown-by s σ m g number marks k sane (m .pages number) refl)
+grown-after s σ m g (Bad e) sane = g
+
+-- ---- a list of arrivals
+
+-- what an arrival brings to a session
+abbrev pub brought : Way → Session → Arrival → Opened
+brought way σ a = opened way (σ .shape) (a .word) (a .scratch)
+
+-- the one run of a list: its answers and its end
+abbrev pub answersOf : Way → Session → List Arrival → List Outcome
+answersOf way σ [] = []
+answersOf way σ (a ∷ rest) = outcomeOf σ (brought way σ a) ∷ answersOf way (sessionAfter σ (brought way σ a)) rest
+
+abbrev pub endOf : Way → Session → List Arrival → Session
+endOf way σ [] = σ
+endOf way σ (a ∷ rest) = endOf way (sessionAfter σ (brought way σ a)) rest
+
+pub run-answers : {way : Way} {σ end : Session} {arrivals : List Arrival} {answers : List Outcome} → Run way σ arrivals answers end
+    → answers ≡ answersOf way σ arrivals
+run-answers stop = refl
+run-answers {way} (step {rest = rest} h run) =
+    ap₂ (λ (r : Outcome) (rs : List Outcome). r ∷ rs) (h .outcome) (run-answers run ∙ ap (λ (σ′ : Session). answersOf way σ′ rest) (h .session))
+
+pub run-end : {way : Way} {σ end : Session} {arrivals : List Arrival} {answers : List Outcome} → Run way σ arrivals answers end
+    → end ≡ endOf way σ arrivals
+run-end stop = refl
+run-end {way} (step {rest = rest} h run) = run-end run ∙ ap (λ (σ′ : Session). endOf way σ′ rest) (h .session)
+
+module _ (way : Way) (s : Shape) (sound : Sound way s) where
+  -- whatever arrives, session and machine go on alike
+  grown-arrival : (σ : Session) (m : Machine) → Grown s σ m → (a : Arrival)
+      → (outcomeOf σ (brought way σ a) ≡ reply m (opened way s (a .word) (a .scratch)))
+      × Grown s (sessionAfter σ (brought way σ a)) (feed m (opened way s (a .word) (a .scratch)))
+  grown-arrival σ m g a =
+      let o : Opened = opened way s (a .word) (a .scratch) in
+      let sane : Sane o = opened-sane way s sound (a .word) (a .scratch) in
+      subst (λ (x : Opened). (outcomeOf σ x ≡ reply m o) × Grown s (sessionAfter σ x) (feed m o))
+      (ap (λ (x : Shape). opened way x (a .word) (a .scratch)) (sym (g .shape)))
+      (grown-reply s σ m g o sane, grown-after s σ m g o sane)
+
+  pub grown-end : (arrivals : List Arrival) (σ : Session) (m : Machine) → Grown s σ m
+      → Grown s (endOf way σ arrivals) (machine way s m arrivals)
+  grown-end [] σ m g = g
+  grown-end (a ∷ rest) σ m g = grown-end rest _ _ (grown-arrival σ m g a .1)
+
+  pub grown-answer : (arrivals : List Arrival) (σ : Session) (m : Machine) → Grown s σ m → (j : ℕ) → j < length arrivals
+      → answerAt (answersOf way σ arrivals) j ≡ reply (machine way s m (take j arrivals)) (openedAt way s arrivals j)
+  grown-answer [] σ m g j l = absurd (not-suc-le-zero l)
+  grown-answer (a ∷ rest) σ m g zero l = grown-arrival σ m g a .0
+  grown-answer (a ∷ rest) σ m g (suc j) l = grown-answer rest _ _ (grown-arrival σ m g a .1) j (le-of-suc-le-suc l)
+
+length-answers : (way : Way) (σ : Session) (arrivals : List Arrival) → length (answersOf way σ arrivals) ≡ length arrivals
+length-answers way σ [] = refl
+length-answers way σ (a ∷ rest) = ap suc (length-answers way (sessionAfter σ (brought way σ a)) rest)
+
+-- the machine refuses exactly what is turned down
+reply-refused : (m : Machine) (o : Opened) (e : Refusal) → reply m o ≡ Refused e → o ≡ Bad e
+reply-refused m (Page number marks k) e h = absurd (told (m .pages number) h)
+  where
+    told : (known : Bool) → answerTo known number k ≡ Refused e → ⊥
+    told true h′ = let z : _≡_ {A = ℕ} 0 1 = cc in omega arith
+    told false h′ = let z : _≡_ {A = ℕ} 0 1 = cc in omega arith
+reply-refused m (Bad e′) e h = cc
+
+-- an arrival from a fresh session on is answered as by the machine after those before it
+pub run-reply : (way : Way) (s : Shape) → Sound way s → {arrivals : List Arrival} {answers : List Outcome} {end : Session}
+    → Run way (freshOf s) arrivals answers end → (j : ℕ) → j < length arrivals
+    → answerAt answers j ≡ reply (machine way s start (take j arrivals)) (openedAt way s arrivals j)
+run-reply way s sound {arrivals} run j l = rw (run-answers run) (grown-answer way s sound arrivals (freshOf s) start (fresh-grown s) j l)
+
+pub every-list : (way : Way) (s : Shape) → Lawful s → Sound way s → (arrivals : List Arrival) (answers : List Outcome) (end : Session)
+    → Run way (freshOf s) arrivals answers end → EveryList way s arrivals answers end
+every-list way s legal sound arrivals answers end run = record {
+  agrees = rw (run-end run) (grown-end way s sound arrivals (freshOf s) start (fresh-grown s) .agrees);
+  answered = rw (run-answers run) (length-answers way (freshOf s) arrivals);
+  refused = refused;
+  turned = λ j l e t. run-reply way s sound run j l ∙ ap (reply (machine way s start (take j arrivals))) (t .by);
+  never = λ j l h.
+      subst Sane (refused j l Refusal.Overflow h .by) (opened-sane way s sound (arrivalAt arrivals j .word) (arrivalAt arrivals j .scratch)) refl;
+}
+  where
+    refused : (j : ℕ) → j < length arrivals → (e : Refusal) → answerAt answers j ≡ Refused e → TurnedDown way s (arrivalAt arrivals j) e
+    refused j l e h = record { by = reply-refused _ _ e (sym (run-reply way s sound run j l) ∙ h) }

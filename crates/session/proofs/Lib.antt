@@ -1,0 +1,10 @@
+pub mod Arrays
+pub mod Marks
+pub mod Settle
+pub mod Arrive
+pub mod Machine
+pub mod Openings
+pub mod Fed
+pub mod Fits
+pub mod Demand
+pub mod Clean

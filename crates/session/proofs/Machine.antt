@@ -1,0 +1,87 @@
+-- Laws of the plain machine: what one more arrival adds to it.
+use mathlib.Core.Path.{_≡_, refl, sym, ap, _∙_}
+use mathlib.Core.Bool.{Bool, true, false, cond, _||_}
+use mathlib.Core.List.{List, [], _∷_}
+use mathlib.Core.Logic.{⊎-elim}
+use Prim.Native.Nat.{ℕ, zero, suc, _+_, _<_}
+use native.Mathlib.Nat.{not-suc-le-zero, le-of-suc-le-suc, add-zero}
+use native.Mathlib.Omega.{arith}
+use lib.Dec.{eqb}
+use lib.ListN.{length, take}
+use borrow.Author.Tests.{eq-eqb, ne-eqb, eqb-true, eqb-false}
+use Rattle.parity.specs.Count.{sum}
+use Rattle.parity.proofs.Tests.{either}
+use Rattle.parity.proofs.Sums.{sum-cong, sum-add, sum-only}
+use Rattle.gtb.specs.declared.Shape.{Shape}
+use Rattle.session.specs.Session.{countOf}
+use Rattle.session.specs.Arrival.{Way, Opened, Page, Bad}
+use Rattle.session.specs.Recording.{Arrival, openedAt, hasNumber, Machine, fed, feed, machine}
+
+eqb-sym : (a b : ℕ) → eqb a b ≡ eqb b a
+eqb-sym a b =
+    ⊎-elim (λ (t : eqb a b ≡ true). t ∙ sym (eq-eqb b a (sym (eqb-true a b t))))
+    (λ (f : eqb a b ≡ false). f ∙ sym (ne-eqb b a (λ h. eqb-false a b f (sym h))))
+    (either (eqb a b))
+
+pub or-false : (b : Bool) → b ≡ (b || false)
+or-false true = refl
+or-false false = refl
+
+-- the set after a page: the page, and what it held
+fed-pages : (m : Machine) (number : ℕ) (marks : List ℕ) (known : Bool) → m .pages number ≡ known → (p : ℕ)
+    → fed m number marks known .pages p ≡ (m .pages p || eqb number p)
+fed-pages m number marks true h p =
+    ⊎-elim (λ (t : eqb number p ≡ true). rw (← eqb-true number p t, h)) (λ (f : eqb number p ≡ false). rw f (or-false (m .pages p)))
+    (either (eqb number p))
+fed-pages m number marks false h p = ap (λ (b : Bool). m .pages p || b) (eqb-sym p number)
+
+-- and after an arrival
+pub feed-pages : (m : Machine) (o : Opened) (p : ℕ) → feed m o .pages p ≡ (m .pages p || hasNumber p o)
+feed-pages m (Page number marks k) p = fed-pages m number marks (m .pages number) refl p
+feed-pages m (Bad e) p = or-false (m .pages p)
+
+-- a new page adds its marks
+pub fed-counts : (m : Machine) (number : ℕ) (marks : List ℕ) (known : Bool) (f : ℕ)
+    → fed m number marks known .counts f ≡ m .counts f + cond known 0 (countOf f marks)
+fed-counts m number marks true f = sym (add-zero (m .counts f))
+fed-counts m number marks false f = refl
+
+-- the weights w i of those of n pages, page i with the number num i, that are in the set
+unfoldable pub weighed : ℕ → (ℕ → ℕ) → (ℕ → ℕ) → (ℕ → Bool) → ℕ
+weighed n num w pages = sum n (λ i. cond (pages (num i)) (w i) 0)
+
+weight-or : (a b : Bool) (w : ℕ) → cond (a || b) w 0 ≡ cond a w 0 + cond a 0 (cond b w 0)
+weight-or true b w = sym (add-zero w)
+weight-or false true w = omega arith
+weight-or false false w = refl
+
+cond-zero : (b : Bool) → _≡_ {A = ℕ} (cond b 0 0) 0
+cond-zero true = refl
+cond-zero false = refl
+
+-- a new page, the i-th and no other, adds its weight
+pub fed-weight : (n : ℕ) (num w : ℕ → ℕ) (m : Machine) (number : ℕ) (marks : List ℕ) (known : Bool) → m .pages number ≡ known
+    → (i : ℕ) → i < n → num i ≡ number → ((j : ℕ) → j < n → num j ≡ number → j ≡ i)
+    → weighed n num w (fed m number marks known .pages) ≡ weighed n num w (m .pages) + cond known 0 (w i)
+unfolding weighed
+fed-weight n num w m number marks known h i l here alone =
+    sum-cong n (λ j. cond (fed m number marks known .pages (num j)) (w j) 0) (λ j. cond (m .pages (num j)) (w j) 0 + new j)
+    (λ j lj. ap (λ (b : Bool). cond b (w j) 0) (fed-pages m number marks known h (num j)) ∙ weight-or (m .pages (num j)) (eqb number (num j)) (w j))
+    ∙ sum-add n (λ j. cond (m .pages (num j)) (w j) 0) new
+    ∙ ap (λ (x : ℕ). sum n (λ j. cond (m .pages (num j)) (w j) 0) + x) (sum-only n i new l others ∙ at-i)
+  where
+    new : ℕ → ℕ
+    new j = cond (m .pages (num j)) 0 (cond (eqb number (num j)) (w j) 0)
+
+    others : (j : ℕ) → j < n → (j ≡ i → ⊥) → new j ≡ 0
+    others j lj ne = rw (ne-eqb number (num j) (λ e. ne (alone j lj (sym e)))) (cond-zero (m .pages (num j)))
+
+    at-i : new i ≡ cond known 0 (w i)
+    at-i = rw (here, h, eq-eqb number number refl)
+
+-- the machine after one more arrival
+pub machine-more : (way : Way) (s : Shape) (m : Machine) (arrivals : List Arrival) (j : ℕ) → j < length arrivals
+    → machine way s m (take (suc j) arrivals) ≡ feed (machine way s m (take j arrivals)) (openedAt way s arrivals j)
+machine-more way s m [] j l = absurd (not-suc-le-zero l)
+machine-more way s m (a ∷ rest) zero l = refl
+machine-more way s m (a ∷ rest) (suc j) l = machine-more way s _ rest j (le-of-suc-le-suc l)

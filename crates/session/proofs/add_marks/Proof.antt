@@ -1,0 +1,91 @@
+-- `session::add_marks` meets its contract: after i turns the first i marks have been added.
+use borrow.Author.Needs.{needs}
+use native.Mathlib.Omega.{arith}
+use Prim.Native.Nat.{_+_, _-_, _^_, _<_}
+use lib.ListN.{length, getD}
+use Rattle.session.proofs.Marks.{Turn, turn-none, turn-more, turn-full, turn-all}
+use Rattle.session.proofs.add_marks.Statement.{statement}
+use Rattle.session.proofs.add_marks.Tie as tie
+use Rattle.session.proofs.add_marks.Reads as reads
+use Rattle.session.proofs.add_marks.Lts as lts
+
+abbrev Inv-loop : tie.InvT-loop
+Inv-loop calls₀ marks i₀ calls i = Turn calls₀ marks calls i
+
+abbrev μ-loop : tie.MeasureT-loop
+μ-loop calls₀ marks i₀ calls i = length marks - i
+
+-- the mark at hand is a function number, and its count below the limit
+mark : (c : tie.In-loop Inv-loop μ-loop) → getD (c .before .before .args .marks .now) (c .before .loop .i) 0 < 256
+mark c = c .before .loop .inv .small .below (c .before .loop .i) (c .loop-test .taken)
+
+room : (c : tie.Else1 Inv-loop μ-loop)
+    → getD (c .before .before .before .before .loop .calls) (getD (c .before .before .before .before .before .args .marks .now) (c .before .before .before .before .loop .i) 0) 0 + 1 < 2 ^ 32
+room c =
+    let below = c .before .before .before .before .loop .inv .below (getD (c .before .before .before .before .before .args .marks .now) (c .before .before .before .before .loop .i) 0) in
+    omega (arith, c .if1 .left)
+
+loop-holds : tie.Need-loop-holds Inv-loop μ-loop
+loop-holds c = turn-none _ _ (c .pre .0) (c .pre .1)
+
+mul-f : tie.Need-mul-f Inv-loop μ-loop
+mul-f c = omega (arith, c .before .before .good .1 .0 .1)
+
+shared-slice-read-f : tie.Need-shared-slice-read-f Inv-loop μ-loop
+shared-slice-read-f c = search needs
+
+cast-f : tie.Need-cast-f Inv-loop μ-loop
+cast-f c = omega (arith, c .shared-slice-known .given (c .before .before .loop .i))
+
+mul-k : tie.Need-mul-k Inv-loop μ-loop
+mul-k c = omega (arith, mark (c .before))
+
+element-copy-out-k : tie.Need-element-copy-out-k Inv-loop μ-loop
+element-copy-out-k c = mark (c .before)
+
+returns : tie.Need-returns Inv-loop μ-loop
+returns c =
+    turn-full _ _ _ _ (c .before .before .before .before .loop .inv) (c .before .before .before .loop-test .taken) (c .if1 .taken)
+
+add-calls : tie.Need-add-calls Inv-loop μ-loop
+add-calls c = record { fits = room c }
+
+mul-calls : tie.Need-mul-calls Inv-loop μ-loop
+mul-calls c = omega (arith, mark (c .before .before .before))
+
+element-write-calls : tie.Need-element-write-calls Inv-loop μ-loop
+element-write-calls c = mark (c .before .before .before)
+
+add-i : tie.Need-add-i Inv-loop μ-loop
+add-i c = omega arith
+
+loop-less : tie.Need-loop-less Inv-loop μ-loop
+loop-less c = omega arith
+
+loop-again : tie.Need-loop-again Inv-loop μ-loop
+loop-again c =
+    turn-more _ _ _ _ (c .before .before .before .before .loop .inv) (c .before .before .before .loop-test .taken) (room c)
+
+returns-2 : tie.Need-returns-2 Inv-loop μ-loop
+returns-2 c = turn-all _ _ _ _ (c .before .loop .inv) (c .loop-test .left)
+
+pub add-marks-spec : {M : Type 1} → statement M
+add-marks-spec =
+    tie.close
+    (tie.spec
+    Inv-loop
+    μ-loop
+    loop-holds
+    mul-f
+    shared-slice-read-f
+    cast-f
+    mul-k
+    element-copy-out-k
+    returns
+    add-calls
+    mul-calls
+    element-write-calls
+    add-i
+    loop-less
+    loop-again
+    returns-2)

@@ -1,0 +1,46 @@
+-- Contracts of the session's private steps.
+use mathlib.Core.Path.{_≡_}
+use mathlib.Core.Bool.{Bool, true, not}
+use mathlib.Core.List.{List}
+use Prim.Native.Nat.{ℕ, _^_, _<_}
+use lib.ListN.{length, getD}
+use Rattle.gtb.specs.declared.Shape.{Shape}
+use Rattle.gtb.specs.Shape.{Lawful, wordLength, infoLength, scratchLength}
+use Rattle.decoder.specs.declared.Decoded.the-variants.{Corrected}
+use Rattle.decoder.specs.Decode.{decodeOf, restored}
+use Rattle.session.specs.declared.Session.{Session}
+use Rattle.session.specs.declared.Arrived.{Arrived}
+use Rattle.session.specs.Session.{added, overflows}
+use Rattle.session.specs.Arrival.{Opened, outcomeOf, sessionAfter}
+
+-- marks added to the counts: all of them, or a count would pass its limit
+pub record Adding (calls marks calls′ : List ℕ) (r : Bool) : Type 0 where
+  pub fits : r ≡ not (overflows calls marks)
+  pub sums : r ≡ true → calls′ ≡ added calls marks
+
+-- marks are function numbers
+pub record Functions (marks : List ℕ) : Type 0 where
+  pub below : (i : ℕ) → i < length marks → getD marks i 0 < 256
+
+-- 256 counts of u32
+pub record Counts (calls : List ℕ) : Type 0 where
+  pub size : length calls ≡ 256
+  pub below : (f : ℕ) → getD calls f 0 < 2 ^ 32
+
+-- the last step of an arrival
+pub record Settling (σ : Session) (o : Opened) (r : Arrived) : Type 0 where
+  pub outcome : r .outcome ≡ outcomeOf σ o
+  pub session : r .session ≡ sessionAfter σ o
+
+-- what is lent has passed tests 1 and 2; the copy and the information symbols are the arrival's own memory
+pub record Lent (s : Shape) (word scratch copy symbols : List ℕ) : Type 0 where
+  pub lawful : Lawful s
+  pub wordSize : length word ≡ wordLength s
+  pub scratchSize : length scratch ≡ scratchLength s
+  pub copySize : length copy ≡ wordLength s
+  pub symbolsSize : length symbols ≡ infoLength s
+
+-- the copy holds what reading gives
+pub record Restored (s : Shape) (word copy : List ℕ) (k : ℕ) : Type 0 where
+  pub answer : decodeOf s word ≡ Corrected k
+  pub copied : copy ≡ restored s word
