@@ -1,7 +1,10 @@
-# make test: the whole gate. make check: prove every crate, keeping what is proved already.
-.PHONY: all check test clean
+# make run: the tally of the sample capture. make test: the whole gate. make bench: ratios against Rust.
+PREFIX ?= /usr/local
+TALLY = target/bin/tally
 
-all: check
+.PHONY: all run check test bench install clean
+
+all: target/staticlib/libhost.a $(TALLY)
 
 check:
 	rt check
@@ -10,4 +13,4 @@ test:
 	bash .ci/run
 
 clean:
-	rm -rf target
+	rm -rf target tests/target
