@@ -3,7 +3,6 @@ use mathlib.Core.Path.{_≡_, refl, sym, _∙_}
 use mathlib.Core.Bool.{Bool, true, false, _&&_}
 use mathlib.Core.List.{List}
 use Prim.Native.Nat.{ℕ}
-use native.Mathlib.Omega.{arith}
 use lib.Dec.{eqb}
 use lib.ListN.{length, replicate}
 use borrow.Author.Tests.{eqb-true}
@@ -15,7 +14,8 @@ use Rattle.gtb.specs.declared.Status.the-variants.{Done, Refused}
 use Rattle.gtb.specs.Shape.{lawful, Lawful, wordLength, infoLength, scratchLength}
 use Rattle.gtb.specs.Square.{narrow}
 use Rattle.gtb.specs.Positions.{extractOf, Encodes}
-use Rattle.gtb.specs.Answer.{unless, scratchAfter}
+use Rattle.gtb.specs.Answer.{scratchAfter}
+use Rattle.gtb.proofs.Answers.{same-refusal, never-done, never-refused, unless-done}
 use Rattle.encoder.specs.Contract.{statusOf, Encoding, Extraction}
 use Rattle.encoder.specs.Steps.{Tested}
 
@@ -40,16 +40,6 @@ module _ (s : Shape) (symbols scratch word given : List ℕ) where
   unfolding statusOf
   status-done h z n = rw (h, z, n)
 
--- a refusal names one number only, and is not Done
-same-refusal : (e e′ : Refusal) → Refused e ≡ Refused e′ → e ≡ e′
-same-refusal e e′ h = cc
-
-never-done : (e : Refusal) → Refused e ≡ Done → ⊥
-never-done e h = let z : _≡_ {A = ℕ} 0 1 = cc in omega arith
-
-never-refused : (e : Refusal) → Done ≡ Refused e → ⊥
-never-refused e h = let z : _≡_ {A = ℕ} 0 1 = cc in omega arith
-
 -- ---- the tests
 module _ (s : Shape) (symbols scratch word given scratch′ : List ℕ) where
   pub tested-refused : (e : Refusal) → statusOf s symbols scratch word given ≡ Refused e → scratch′ ≡ scratchAfter e scratch → Tested s symbols scratch word given scratch′ (Refused e)
@@ -64,10 +54,6 @@ pub record Passed (s : Shape) (symbols word given : List ℕ) : Type 0 where
   pub symbols-size : length symbols ≡ infoLength s
   pub word-size : length word ≡ wordLength s
   pub width : narrow (s .b) given ≡ true
-
-unless-done : (b : Bool) (e : Refusal) (next : Status) → unless b e next ≡ Done → (b ≡ true) × (next ≡ Done)
-unless-done true e next h = (refl, h)
-unless-done false e next h = absurd (never-done e h)
 
 pub passed : (s : Shape) (symbols scratch word given scratch′ : List ℕ) (r : Status) → Tested s symbols scratch word given scratch′ r → r ≡ Done → Passed s symbols word given
 unfolding statusOf

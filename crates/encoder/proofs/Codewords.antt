@@ -2,43 +2,35 @@
 use mathlib.Core.Path.{_≡_, sym, ap, ap₂, _∙_}
 use mathlib.Core.Bool.{true}
 use mathlib.Core.List.{List}
-use Prim.Native.Nat.{ℕ, zero, suc, _+_, _-_, _*_, _/_, _%_, _^_, _≤_, _<_}
-use native.Mathlib.Nat.{zero-add, mul-comm, mod-lt, mod-eq-of-lt, div-add-mod', div-lt-iff-lt-mul}
+use Prim.Native.Nat.{ℕ, suc, _+_, _-_, _*_, _/_, _%_, _^_, _≤_, _<_}
+use native.Mathlib.Nat.{zero-add, mod-eq-of-lt, div-add-mod'}
 use native.Mathlib.Numerals.{one-add}
 use native.Mathlib.Decide.{decLt}
 use native.Mathlib.Omega.{arith}
-use lib.ListN.{length, List·getD-eq-default}
-use lib.Pow.{pow-pos}
-use Rattle.parity.specs.Xor.{_⊕_, xorSum}
+use lib.ListN.{length}
+use Rattle.parity.specs.Xor.{_⊕_}
 use Rattle.parity.specs.Cyclic.{eval}
 use Rattle.parity.proofs.Xors.{self, zero-l}
-use Rattle.parity.proofs.XorSums.{cong, none, split}
+use Rattle.parity.proofs.XorSums.{cong, none}
+use Rattle.parity.proofs.Newton.{lowerEval, eval-parts}
 use Rattle.parity.proofs.Lists.{is-tabulate}
 use Rattle.gtb.specs.declared.Shape.{Shape}
 use Rattle.gtb.specs.Shape.{Lawful, wordLength, infoLength}
-use Rattle.gtb.specs.Square.{at, narrow, syndrome, Syndromes}
+use Rattle.gtb.specs.Square.{at, narrow, Syndromes}
 use Rattle.gtb.specs.Positions.{infoPosition, extractOf, Encodes}
 use Rattle.gtb.proofs.Bounds.{bounds}
 use Rattle.gtb.proofs.Slopes.{shiftOf}
-use Rattle.gtb.proofs.Rows.{syndrome-row}
-use Rattle.gtb.proofs.Information.{position, row-lt}
-use Rattle.encoder.specs.Steps.{Written, lowerRow, row, Placed, Sound, Interpolated}
+use Rattle.gtb.proofs.Words.{beyond}
+use Rattle.gtb.proofs.Rounds.{rowOf, rows-silent, lowerRow}
+use Rattle.gtb.proofs.Information.{position, row-lt, info-row-lt, info-column-lt}
+use Rattle.encoder.specs.Steps.{Written, row, Placed, Sound, Interpolated}
 use Rattle.encoder.proofs.Divides.{sound-same}
-use Rattle.encoder.proofs.Upper.{placed-sound, syndrome-eval, copied-upper, copied-lower}
-
--- q rows evaluated in two parts
-eval-parts : (q m : ℕ) → m ≤ q → (f : ℕ → ℕ → ℕ) (x c : ℕ) → eval q f x c ≡ eval m f x c ⊕ xorSum (q - m) (λ i. f (m + i) (c + x * (m + i)))
-unfolding eval
-eval-parts q m l f x c =
-    ap (λ (k : ℕ). xorSum k (λ r. f r (c + x * r))) (omega arith) ∙ split m (q - m) (λ r. f r (c + x * r))
+use Rattle.encoder.proofs.Upper.{placed-sound, copied-upper, copied-lower}
 
 module _ (s : Shape) (h : Lawful s) (symbols w v w₁ w₂ : List ℕ)
     (len : length symbols ≡ infoLength s) (small : narrow (s .b) symbols ≡ true)
     (placed : Placed s symbols w) (syn : Syndromes s w v)
     (copied : Written 0 ((s .n - 1) * s .q) (λ i. at v (s .q + i)) w w₁) (inter : Interpolated s 0 w₁ w₂) where
-  pos : 0 < s .q
-  pos = let b = bounds s h in omega arith
-
   -- the lower rows are still those that were put down
   lower-same : (r : ℕ) → s .n ≤ suc r → (c : ℕ) → row (s .q) w₂ r c ≡ row (s .q) w r c
   lower-same r l c = inter .past r l c ∙ copied-lower s h w w₁ v syn copied r l c
@@ -51,84 +43,66 @@ module _ (s : Shape) (h : Lawful s) (symbols w v w₁ w₂ : List ℕ)
       ]
 
   -- ---- every syndrome is zero
+  few : s .n - 1 ≤ s .q
+  few = let b = bounds s h in omega arith
+
   -- the lower rows' part of a line
   below : List ℕ → ℕ → ℕ → ℕ
-  below w x c = xorSum (s .q - (s .n - 1)) (λ i. row (s .q) w (s .n - 1 + i) (c + x * (s .n - 1 + i)))
+  below w = lowerEval (s .q) (s .n - 1) (row (s .q) w)
 
   below-same : (x c : ℕ) → below w₂ x c ≡ below w x c
-  unfolding below
-  below-same x c =
-      cong (s .q - (s .n - 1)) (λ i. row (s .q) w₂ (s .n - 1 + i) (c + x * (s .n - 1 + i))) (λ i. row (s .q) w (s .n - 1 + i) (c + x * (s .n - 1 + i)))
-      (λ i l. lower-same (s .n - 1 + i) (omega arith) (c + x * (s .n - 1 + i)))
+  unfolding below lowerEval
+  below-same x c = cong _ _ _ (λ i l. lower-same (s .n - 1 + i) (omega arith) (c + x * (s .n - 1 + i)))
 
   -- the upper rows put down are zero, so that the lower ones are the whole
   placed-line : (x c : ℕ) → eval (s .q) (row (s .q) w) x c ≡ below w x c
   unfolding eval below
   placed-line x c =
-      eval-parts (s .q) (s .n - 1) (let b = bounds s h in omega arith) (row (s .q) w) x c
-      ∙ ap (λ (k : ℕ). k ⊕ below w x c) (none (s .n - 1) (λ r. row (s .q) w r (c + x * r)) (λ r l. placed .upper r (omega arith) (c + x * r)))
-      ∙ zero-l (below w x c)
+      eval-parts (s .q) (s .n - 1) few (row (s .q) w) x c
+      ∙ ap (λ (k : ℕ). k ⊕ below w x c) (none (s .n - 1) _ (λ r l. placed .upper r (omega arith) (c + x * r))) ∙ zero-l (below w x c)
 
   -- the interpolated rows take that value
   upper-line : (t : ℕ) → suc t < s .n → (c : ℕ) → eval (s .n - 1) (row (s .q) w₂) (shiftOf s t) c ≡ below w (shiftOf s t) c
   unfolding eval
   upper-line t l c =
-      cong (s .n - 1) (λ r. row (s .q) w₂ r (c + shiftOf s t * r)) (λ r. row (s .q) w₂ (0 + r) (c + shiftOf s t * r)) (λ r lr. ap (λ (k : ℕ). row (s .q) w₂ k (c + shiftOf s t * r)) (sym (zero-add r)))
+      cong (s .n - 1) _ _ (λ r lr. ap (λ (k : ℕ). row (s .q) w₂ k (c + shiftOf s t * r)) (sym (zero-add r)))
       ∙ ap (λ (k : ℕ). eval k (λ i. row (s .q) w₂ (0 + i)) (shiftOf s t) c) (omega arith)
       ∙ inter .value t (omega arith) l c ∙ copied-upper s h w w₁ v syn copied t l c ∙ placed-line (shiftOf s t) c
 
-  quiet : (t L : ℕ) → t < s .n → L < s .q → syndrome s (at w₂) t L ≡ 0
-  unfolding row below
-  quiet zero L l lL =
-      syndrome-row s h (at w₂) L lL
-      ∙ cong (s .q) (λ c. at w₂ (L * s .q + c)) (row (s .q) w₂ L) (λ c lc. ap (λ (k : ℕ). at w₂ (L * s .q + k)) (sym (mod-eq-of-lt lc)))
-      ∙ sound L lL .cyclic .total
-  quiet (suc t) L l lL =
-      ap (syndrome s (at w₂) (suc t)) (sym (mod-eq-of-lt lL)) ∙ syndrome-eval s h w₂ t l L
-      ∙ eval-parts (s .q) (s .n - 1) (let b = bounds s h in omega arith) (row (s .q) w₂) (shiftOf s t) L
-      ∙ ap₂ (λ (a b : ℕ). a ⊕ b) (upper-line t l L) (below-same (shiftOf s t) L) ∙ self (below w (shiftOf s t) L)
+  vanish : (t : ℕ) → suc t < s .n → (c : ℕ) → eval (s .q) (row (s .q) w₂) (shiftOf s t) c ≡ 0
+  unfolding below
+  vanish t l c =
+      eval-parts (s .q) (s .n - 1) few (row (s .q) w₂) (shiftOf s t) c
+      ∙ ap₂ (λ (a b : ℕ). a ⊕ b) (upper-line t l c) (below-same (shiftOf s t) c) ∙ self (below w (shiftOf s t) c)
 
   -- ---- every symbol is below 2^b
   size : length w₂ ≡ wordLength s
   size = inter .size ∙ copied .size ∙ placed .size
 
   width : (j : ℕ) → at w₂ j < 2 ^ s .b
-  unfolding row
-  width j =
-      elim (decLt j (wordLength s)) [
-        | yes l ↦ rw position at (sound (j / s .q) (row-lt s h j l) .width j)
-        | no l ↦ rw (List·getD-eq-default w₂ 0 {n = j} (omega (arith, size))) (pow-pos (s .b))
-      ]
+  unfolding rowOf
+  width = beyond (s .b) w₂ (λ j l. rw position at (sound (j / s .q) (row-lt s h j (rw size at l)) .width j))
 
   -- ---- the information symbols are those that were put down
   information : (k : ℕ) → k < infoLength s → at symbols k ≡ at w₂ (infoPosition s k)
-  unfolding infoPosition row lowerRow
+  unfolding infoPosition rowOf lowerRow
   information k l =
       sym
       (ap (λ (c : ℕ). at w₂ ((s .n - 1 + k / p) * s .q + c)) (one-add (k % p) ∙ sym (mod-eq-of-lt column))
       ∙ lower-same (s .n - 1 + k / p) (omega arith) (suc (k % p))
-      ∙ placed .lower (k / p) inside (suc (k % p))
+      ∙ placed .lower (k / p) (info-row-lt s h k l) (suc (k % p))
       ∙ ap (lowerRow p (λ j. at symbols (k / p * p + j))) (mod-eq-of-lt column)
       ∙ ap (at symbols) (div-add-mod' k p))
     where
       p : ℕ
       p = s .q - 1
 
-      full : 0 < p
-      full = let b = bounds s h in omega arith
-
       column : suc (k % p) < s .q
-      column = omega (arith, mod-lt k full)
-
-      inside : s .n - 1 + k / p < s .q
-      inside =
-          let b = bounds s h in
-          let r : k / p < s .q + 1 - s .n = div-lt-iff-lt-mul full .1 (rw mul-comm at l) in
-          omega arith
+      column = omega (arith, info-column-lt s h k)
 
   pub encodes : Encodes s symbols w₂
   unfolding extractOf
   encodes = record {
-    codeword = record { word = record { size = size; width = width }; checks = record { silent = quiet } };
+    codeword = record { word = record { size = size; width = width }; checks = rows-silent s h (at w₂) (λ r l. sound r l .cyclic .total) vanish };
     information = sym (is-tabulate (infoLength s) (λ k. at w₂ (infoPosition s k)) symbols len information);
   }

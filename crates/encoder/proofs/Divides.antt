@@ -2,24 +2,27 @@
 use mathlib.Core.Path.{_≡_, refl, sym, ap, ap₂, _∙_, subst, fun-ext}
 use mathlib.Core.List.{List}
 use mathlib.Core.Logic.{⊎-elim}
-use Prim.Native.Nat.{ℕ, suc, _+_, _*_, _-_, _%_, _^_, _≤_, _<_}
-use native.Mathlib.Nat.{le-refl, le-of-lt, eq-or-lt-of-le, zero-add, add-assoc, add-mod-right, mod-add-mod, add-mod-mod, mod-lt}
+use Prim.Native.Nat.{ℕ, suc, _+_, _*_, _-_, _%_, _≤_, _<_}
+use native.Mathlib.Nat.{one-mul, add-comm, mod-mod, le-refl, le-of-lt, eq-or-lt-of-le, zero-add, mod-add-mod, mod-lt}
 use native.Mathlib.Omega.{arith}
 use lib.ListN.{length}
 use Rattle.parity.specs.Xor.{_⊕_, xorSum}
-use Rattle.parity.specs.Cyclic.{Cyclic, Order}
-use Rattle.parity.proofs.Xors.{lt-pow, xors}
+use Rattle.parity.specs.Cyclic.{Order}
+use Rattle.parity.proofs.Xors.{lt-pow}
 use Rattle.parity.proofs.XorSums.{cong}
 use Rattle.parity.proofs.Cycles.{wrap, same, shift, both}
-use Rattle.parity.proofs.Orders.{order-pos}
-use Rattle.parity.proofs.Walk.{walk, walk-period, quotient, quotient-cyclic, quotient-step, quotient-lt}
+use Rattle.parity.proofs.Modular.{no-step}
+use Rattle.parity.proofs.Walk.{walk, walk-period, quotient, divided}
+use Rattle.parity.proofs.Walk as parity
 use Rattle.gtb.specs.declared.Shape.{Shape}
 use Rattle.gtb.specs.Square.{at}
-use Rattle.gtb.proofs.Bounds.{bounds}
+use Rattle.gtb.proofs.Bounds.{bounds, positive}
+use Rattle.gtb.proofs.Sizes.{sizes}
+use Rattle.gtb.proofs.Turns.{row-in}
 use Rattle.gtb.proofs.Slopes.{shiftOf, shift-apart}
 use Rattle.encoder.specs.Steps.{Written, row, difference, Walked, Sound, Ready, Divisible, Quotient, RowDivided, Divided}
 use Rattle.encoder.proofs.Rows.{written-row, written-other}
-use Rattle.encoder.proofs.Bounds.{shift-bounds, row-fits, sizes}
+use Rattle.encoder.proofs.Bounds.{shift-bounds}
 
 -- the numbers of a division, as the code needs them
 pub record Numbers (s : Shape) (k t : ℕ) (w : List ℕ) : Type 0 where
@@ -44,42 +47,14 @@ numbers s k t w h =
       root-low = root .0;
       root-high = root .1;
       shift-high = shift .1;
-      root-fits = rw (h .size) (row-fits (s .q) k (omega arith));
-      row-fits′ = rw (h .size) (row-fits (s .q) t (omega arith));
+      root-fits = rw (h .size) (row-in k (s .q) (omega arith));
+      row-fits′ = rw (h .size) (row-in t (s .q) (omega arith));
       wide = omega arith;
     }
 
 -- equal rows are sound together
 pub sound-same : (s : Shape) (f g : ℕ → ℕ) → ((c : ℕ) → g c ≡ f c) → Sound s f → Sound s g
 sound-same s f g e h = subst (Sound s) (fun-ext (λ c. sym (e c))) h
-
--- y less x modulo q, where z is q less x
-nonzero : (q x y z : ℕ) → x + z ≡ q → (x % q ≡ y % q → ⊥) → (z + y) % q % q ≡ 0 → ⊥
-nonzero q x y z around ne zero =
-    ne
-    (sym (ap (λ (k : ℕ). (k + x) % q) zero ∙ ap (λ (k : ℕ). k % q) (zero-add x))
-    ∙ mod-add-mod ((z + y) % q) q x ∙ mod-add-mod (z + y) q x ∙ ap (λ (k : ℕ). k % q) (omega arith) ∙ add-mod-right y q)
-
--- the quotient, moved by z, differs by d between the shifts y and x
-quotient-between : (q x y z δ e : ℕ) (d : ℕ → ℕ) → Order q → x + z ≡ q → δ ≡ (z + y) % q → δ * e % q ≡ 1 → Cyclic q d
-    → (c : ℕ) → quotient q δ e d (c + y + z) ⊕ quotient q δ e d (c + x + z) ≡ d c
-quotient-between q x y z δ e d o around hδ inv cyc c =
-    ap₂ (λ (a b : ℕ). a ⊕ b)
-    (same q Q (turn .period) (c + y + z) (c + δ) there ∙ quotient-step q δ e d pos inv cyc c)
-    (ap Q (add-assoc c x z ∙ ap (λ (k : ℕ). c + k) around) ∙ turn .period c)
-    ∙ simp xors
-  where
-    pos : 0 < q
-    pos = order-pos q o
-
-    Q : ℕ → ℕ
-    Q = quotient q δ e d
-
-    turn : Cyclic q Q
-    turn = quotient-cyclic q δ e d pos (o .odd)
-
-    there : (c + y + z) % q ≡ (c + δ) % q
-    there = sym (ap (λ (k : ℕ). (c + k) % q) hδ ∙ add-mod-mod c (z + y) q ∙ ap (λ (k : ℕ). k % q) (omega arith))
 
 -- what is stored in row t is the quotient, moved by z
 module _ (q : ℕ) (pos : 0 < q) (t z δ e sum : ℕ) (inv : δ * e % q ≡ 1) (d : ℕ → ℕ) (w w′ v : List ℕ)
@@ -102,18 +77,12 @@ pub row-divided : (s : Shape) (k t : ℕ) (w w′ v : List ℕ) (z δ sum : ℕ)
 row-divided s k t w w′ v z δ sum h hz hδ walked total written = record {
   size = written .size;
   others = written-other q pos t (λ c. at v ((c + z) % q) ⊕ sum) w w′ written;
-  sound = sound-same s (λ c. Q (c + z)) (row q w′ t) is (record { cyclic = shift q Q (quotient-cyclic q δ e d pos (o .odd)) z; width = λ c. quotient-lt q δ e (s .b) d width (c + z) });
-  step = λ c. ap₂ (λ (a b : ℕ). a ⊕ b) (is (c + y)) (is (c + x)) ∙ quotient-between q x y z δ e d o around hδ inv cyc c;
+  sound = sound-same s g (row q w′ t) is (record { cyclic = division .cyclic; width = division .width });
+  step = λ c. ap₂ (λ (a b : ℕ). a ⊕ b) (is (c + shiftOf s t)) (is (c + shiftOf s k)) ∙ division .step c;
 }
   where
     q : ℕ
     q = s .q
-
-    x : ℕ
-    x = shiftOf s k
-
-    y : ℕ
-    y = shiftOf s t
 
     d : ℕ → ℕ
     d = difference q w k t
@@ -122,31 +91,33 @@ row-divided s k t w w′ v z δ sum h hz hδ walked total written = record {
     o = bounds s (h .lawful) .order
 
     pos : 0 < q
-    pos = order-pos q o
+    pos = positive s (h .lawful)
 
-    around : x + z ≡ q
-    around = let (low, high) = shift-bounds s (h .lawful) k (omega (arith, h .after, h .last)) in omega arith
+    around : shiftOf s k + z ≡ 1 * q
+    around = let (low, high) = shift-bounds s (h .lawful) k (omega (arith, h .after, h .last)) in omega (arith, one-mul q)
 
-    apart : δ % q ≡ 0 → ⊥
-    apart zero = nonzero q x y z around (shift-apart s (h .lawful) .apart k t (omega (arith, h .after, h .last)) (omega (arith, h .last)) (λ e. omega (arith, h .after))) (ap (λ (k : ℕ). k % q) (sym hδ) ∙ zero)
+    -- δ is the step between the shifts
+    is-step : (shiftOf s t + z) % q ≡ δ % q
+    is-step = ap (λ (x : ℕ). x % q) (add-comm (shiftOf s t) z) ∙ sym (mod-mod (z + shiftOf s t) q) ∙ ap (λ (x : ℕ). x % q) (sym hδ)
 
-    e : ℕ
-    e = o .inverse δ apart .0
+    inverse : (e : ℕ) × (δ * e % q ≡ 1)
+    inverse =
+        o .inverse δ
+        (λ zero.
+        shift-apart s (h .lawful) .apart k t (omega (arith, h .after, h .last)) (omega (arith, h .last)) (λ same. omega (arith, h .after))
+        (no-step q 1 (shiftOf s k) (shiftOf s t) z around (is-step ∙ zero)))
 
-    inv : δ * e % q ≡ 1
-    inv = o .inverse δ apart .1
+    g : ℕ → ℕ
+    g c = quotient q δ (inverse .0) d (c + z)
 
-    Q : ℕ → ℕ
-    Q = quotient q δ e d
+    division : parity.Divided q (s .b) (shiftOf s k) (shiftOf s t) d g
+    division =
+        divided q o (s .b) 1 (shiftOf s k) (shiftOf s t) z δ (inverse .0) d around is-step (inverse .1)
+        (both q (row q w t) (row q w k) (h .value .cyclic) (h .root .cyclic))
+        (λ c. lt-pow (s .b) (row q w t c) (row q w k c) (h .value .width c) (h .root .width c))
 
-    cyc : Cyclic q d
-    cyc = both q (row q w t) (row q w k) (h .value .cyclic) (h .root .cyclic)
-
-    width : (c : ℕ) → d c < 2 ^ s .b
-    width c = lt-pow (s .b) (row q w t c) (row q w k c) (h .value .width c) (h .root .width c)
-
-    is : (c : ℕ) → row q w′ t c ≡ Q (c + z)
-    is = stored-quotient q pos t z δ e sum inv d w w′ v walked total written
+    is : (c : ℕ) → row q w′ t c ≡ g c
+    is = stored-quotient q pos t z δ (inverse .0) sum (inverse .1) d w w′ v walked total written
 
 module _ (s : Shape) (k : ℕ) (w : List ℕ) where
   pub divided-none : Divided s k (k + 1) w w

@@ -7,6 +7,7 @@ use native.Mathlib.Nat.{eq-or-lt-of-le, le-refl, mod-add-mod, suc-mul}
 use native.Mathlib.Omega.{arith}
 use Rattle.parity.specs.Xor.{_⊕_}
 use Rattle.gtb.specs.Square.{at}
+use Rattle.gtb.proofs.Rounds.{rowOf}
 use Rattle.encoder.specs.Steps.{Written, row, Joined}
 use Rattle.encoder.proofs.Rows.{written-row, written-other}
 
@@ -17,7 +18,7 @@ module _ (q x k : ℕ) (w : List ℕ) where
   module _ (pos : 0 < q) (r : ℕ) (from : k ≤ r) (w′ w″ : List ℕ) (so-far : Joined q x k r w w′) (written : Written (r * q) q (λ c. at w′ (r * q + c) ⊕ at w′ (r * q + q + (c + x) % q)) w′ w″) where
     -- the row that is written, in terms of rows
     joined-row : (c : ℕ) → row q w″ r c ≡ row q w′ r c ⊕ row q w′ (suc r) (c + x)
-    unfolding row
+    unfolding rowOf
     joined-row c =
         written-row q pos r (λ c. at w′ (r * q + c) ⊕ at w′ (r * q + q + (c + x) % q)) w′ w″ written c
         ∙ ap (λ (j : ℕ). at w′ (r * q + c % q) ⊕ at w′ j) (ap₂ (λ (a b : ℕ). a + b) (sym (suc-mul r q)) (mod-add-mod c q x))

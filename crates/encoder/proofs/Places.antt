@@ -4,13 +4,14 @@ use mathlib.Core.List.{List}
 use mathlib.Core.Logic.{⊎-elim}
 use Prim.Native.Nat.{ℕ, _+_, _-_, _*_, _%_, _<_}
 use native.Mathlib.Nat.{not-suc-le-zero, eq-or-lt-of-le}
-use native.Mathlib.Decide.{decLt}
 use native.Mathlib.Omega.{arith}
-use lib.ListN.{length, replicate, length-replicate, getD-replicate, List·getD-eq-default}
+use lib.ListN.{length, replicate, length-replicate}
+use Rattle.parity.proofs.Lists.{at-zeros}
 use Rattle.gtb.specs.declared.Shape.{Shape}
 use Rattle.gtb.specs.Shape.{Lawful, wordLength}
 use Rattle.gtb.specs.Square.{at}
-use Rattle.encoder.specs.Steps.{Written, lowerRow, row, Placed}
+use Rattle.gtb.proofs.Rounds.{rowOf, lowerRow}
+use Rattle.encoder.specs.Steps.{Written, row, Placed}
 use Rattle.encoder.proofs.Rows.{written-row, written-other}
 
 -- i lower rows are put down, row m the first; each has p symbols
@@ -39,17 +40,9 @@ module _ (q m p : ℕ) (xs w : List ℕ) where
       other : (r : ℕ) → (r ≡ m + i → ⊥) → (c : ℕ) → row q w″ r c ≡ row q w′ r c
       other = written-other q pos (m + i) (lowerRow p (λ j. at xs (i * p + j))) w′ w″ written
 
--- a cleared list shows 0 everywhere
-at-zeros : (n j : ℕ) → at (replicate n 0) j ≡ 0
-at-zeros n j =
-    elim (decLt j n) [
-      | yes l ↦ getD-replicate n j 0 0 l
-      | no l ↦ List·getD-eq-default (replicate n 0) 0 {n = j} (omega (arith, length-replicate {A = ℕ} n 0))
-    ]
-
 pub placing-all : (s : Shape) → Lawful s → (xs w w′ : List ℕ) (k : ℕ) → k ≡ wordLength s → w ≡ replicate k 0
     → Placing (s .q) (s .n - 1) (s .q - 1) (s .q - (s .n - 1)) xs w w′ → Placed s xs w′
-unfolding row
+unfolding rowOf
 placing-all s h xs w w′ k size zeros p = record {
   size = p .size ∙ ap length zeros ∙ length-replicate k 0 ∙ size;
   upper = λ r l c. p .upper r (omega arith) c ∙ ap (λ (v : List ℕ). at v (r * s .q + c % s .q)) zeros ∙ at-zeros k (r * s .q + c % s .q);

@@ -1,27 +1,24 @@
--- The rows of a word, and what a written row leaves of them.
-use mathlib.Core.Path.{_≡_, ap}
+-- What a written row leaves of the rows of a word.
+use mathlib.Core.Path.{_≡_}
 use mathlib.Core.List.{List}
 use Prim.Native.Nat.{ℕ, suc, _+_, _*_, _%_, _≤_, _<_}
-use native.Mathlib.Nat.{add-mod-right, mod-lt, suc-mul, mul-le-mul-right}
+use native.Mathlib.Nat.{mod-lt, suc-mul, mul-le-mul-right}
 use native.Mathlib.Decide.{decLt}
 use native.Mathlib.Omega.{arith}
 use lib.Arith.{digits-lt}
 use Rattle.gtb.specs.Square.{at}
+use Rattle.gtb.proofs.Rounds.{rowOf}
 use Rattle.encoder.specs.Steps.{Written, row}
-
-pub row-period : (q : ℕ) (w : List ℕ) (r c : ℕ) → row q w r (c + q) ≡ row q w r c
-unfolding row
-row-period q w r c = ap (λ (k : ℕ). at w (r * q + k)) (add-mod-right c q)
 
 module _ (q : ℕ) (pos : 0 < q) (t : ℕ) (f : ℕ → ℕ) (w w′ : List ℕ) (h : Written (t * q) q f w w′) where
   -- the row that was written
   pub written-row : (c : ℕ) → row q w′ t c ≡ f (c % q)
-  unfolding row
+  unfolding rowOf
   written-row c = h .inside (c % q) (mod-lt c pos)
 
   -- each other row
   pub written-other : (r : ℕ) → (r ≡ t → ⊥) → (c : ℕ) → row q w′ r c ≡ row q w r c
-  unfolding row
+  unfolding rowOf
   written-other r ne c = side (decLt r t)
     where
       side : Dec (r < t) → at w′ (r * q + c % q) ≡ at w (r * q + c % q)

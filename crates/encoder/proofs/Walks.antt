@@ -2,7 +2,7 @@
 use mathlib.Core.Path.{_≡_, refl, sym, ap, ap₂, _∙_}
 use mathlib.Core.List.{List}
 use Prim.Native.Nat.{ℕ, _+_, _-_, _*_, _%_, _≤_, _<_}
-use native.Mathlib.Nat.{mul-zero, mul-one, mul-suc, mul-comm, mul-left-comm, mod-lt, mod-add-mod, mod-eq-of-lt}
+use native.Mathlib.Nat.{mul-zero, mul-suc, mod-lt, mod-eq-of-lt}
 use native.Mathlib.Numerals.{add-one}
 use native.Mathlib.Decide.{ℕ-discrete}
 use native.Mathlib.Omega.{arith}
@@ -12,20 +12,16 @@ use Rattle.parity.specs.Xor.{_⊕_}
 use Rattle.parity.specs.Cyclic.{Cyclic}
 use Rattle.parity.proofs.Xors.{assoc}
 use Rattle.parity.proofs.Cycles.{wrap, same}
-use Rattle.parity.proofs.Orders.{mod-mul-mod}
-use Rattle.parity.proofs.Walk.{walk, walk-start, walk-period, walk-step}
+use Rattle.parity.proofs.Walk.{walk, walk-start, walk-period, forth, walk-step}
 use Rattle.gtb.specs.Square.{at}
-use Rattle.encoder.specs.Steps.{Walked, row, difference}
+use Rattle.gtb.proofs.Turns.{turn-more}
+use Rattle.gtb.proofs.Rounds.{rowOf}
+use Rattle.encoder.specs.Steps.{Walked, difference}
 
 -- i steps are done
 pub record Walking (q δ : ℕ) (d : ℕ → ℕ) (i : ℕ) (v : List ℕ) : Type 0 where
   pub size : length v ≡ 32
   pub entry : (e : ℕ) → δ * e % q ≡ 1 → (j : ℕ) → j ≤ i → at v (δ * j % q) ≡ walk q δ e d (δ * j)
-
--- one step on from place u to place p
-pub step-on : (q δ i u p : ℕ) → u ≡ δ * i % q → p ≡ (u + δ) % q → p ≡ δ * (i + 1) % q
-step-on q δ i u p hu hp =
-    hp ∙ ap (λ (k : ℕ). (k + δ) % q) hu ∙ mod-add-mod (δ * i) q δ ∙ ap (λ (k : ℕ). k % q) (sym (ap (λ (k : ℕ). δ * k) (add-one i) ∙ mul-suc δ i))
 
 module _ (q δ : ℕ) (d : ℕ → ℕ) (pos : 0 < q) where
   pub walking-none : Walking q δ d 0 (replicate 32 0)
@@ -48,7 +44,7 @@ module _ (q δ : ℕ) (d : ℕ → ℕ) (pos : 0 < q) where
   }
     where
       hp′ : p ≡ δ * (i + 1) % q
-      hp′ = step-on q δ i u p hu hp
+      hp′ = turn-more δ i q u p hu hp
 
       -- the value that is stored is that of the walk one step on
       stored : (e : ℕ) → δ * e % q ≡ 1 → x ≡ walk q δ e d (δ * (i + 1))
@@ -66,19 +62,17 @@ module _ (q δ : ℕ) (d : ℕ → ℕ) (pos : 0 < q) where
 
   -- q - 1 steps meet each place
   pub walking-all : (v : List ℕ) → Walking q δ d (q - 1) v → Walked q δ d v
-  walking-all v h = record { size = h .size; entry = λ e inv u l. ap (at v) (sym (met e inv u l)) ∙ h .entry e inv (u * e % q) (steps u e) ∙ alike e (δ * (u * e % q)) u (met e inv u l ∙ sym (mod-eq-of-lt l)) }
-    where
-      steps : (u e : ℕ) → u * e % q ≤ q - 1
-      steps u e = omega (arith, mod-lt (u * e) pos)
-
-      met : (e : ℕ) → δ * e % q ≡ 1 → (u : ℕ) → u < q → δ * (u * e % q) % q ≡ u
-      met e inv u l =
-          ap (λ (k : ℕ). k % q) (mul-comm δ (u * e % q)) ∙ mod-mul-mod (u * e) δ q ∙ ap (λ (k : ℕ). k % q) (mul-comm (u * e) δ ∙ mul-left-comm δ u e ∙ mul-comm u (δ * e))
-          ∙ sym (mod-mul-mod (δ * e) u q) ∙ ap (λ (k : ℕ). k * u % q) inv ∙ ap (λ (k : ℕ). k % q) (mul-comm 1 u ∙ mul-one u) ∙ mod-eq-of-lt l
+  walking-all v h = record {
+    size = h .size;
+    entry = λ e inv u l.
+        let met : δ * (u * e % q) % q ≡ u = forth q δ e d pos inv u l in
+        ap (at v) (sym met) ∙ h .entry e inv (u * e % q) (omega (arith, mod-lt (u * e) pos))
+        ∙ alike e (δ * (u * e % q)) u (met ∙ sym (mod-eq-of-lt l));
+  }
 
 -- what a step takes up
 pub taken-up : (q : ℕ) (w : List ℕ) (k t u y : ℕ) → u < q → y ⊕ at w (t * q + u) ⊕ at w (k * q + u) ≡ y ⊕ difference q w k t u
-unfolding row
+unfolding rowOf
 taken-up q w k t u y l =
     assoc y (at w (t * q + u)) (at w (k * q + u))
     ∙ ap (λ (c : ℕ). y ⊕ (at w (t * q + c) ⊕ at w (k * q + c))) (sym (mod-eq-of-lt l))

@@ -1,9 +1,9 @@
 -- The steps of writing and of data extraction, for the contracts of the private functions.
 use mathlib.Core.Path.{_≡_}
 use mathlib.Core.List.{List}
-use Prim.Native.Nat.{ℕ, zero, suc, _+_, _-_, _*_, _%_, _^_, _≤_, _<_}
+use Prim.Native.Nat.{ℕ, suc, _+_, _-_, _*_, _%_, _^_, _≤_, _<_}
 use lib.ListN.{length, replicate}
-use Rattle.parity.specs.Xor.{_⊕_, xorSum}
+use Rattle.parity.specs.Xor.{_⊕_}
 use Rattle.parity.specs.Cyclic.{Cyclic, eval}
 use Rattle.parity.proofs.Walk.{walk}
 use Rattle.gtb.specs.declared.Shape.{Shape}
@@ -14,6 +14,7 @@ use Rattle.gtb.specs.Shape.{Lawful, wordLength}
 use Rattle.gtb.specs.Square.{at}
 use Rattle.gtb.specs.Answer.{scratchAfter}
 use Rattle.gtb.proofs.Slopes.{shiftOf}
+use Rattle.gtb.proofs.Rounds.{rowOf, lowerRow}
 use Rattle.encoder.specs.Contract.{statusOf}
 
 -- the tests of both entries, on the symbols that come in: what they answer and leave in the scratch
@@ -29,14 +30,9 @@ pub record Written (a p : ℕ) (f : ℕ → ℕ) (w w′ : List ℕ) : Type 0 wh
   pub below : (j : ℕ) → j < a → at w′ j ≡ at w j
   pub above : (j : ℕ) → a + p ≤ j → at w′ j ≡ at w j
 
--- a lower row of a word: the XOR of its n symbols, then the symbols
-unfoldable pub lowerRow : ℕ → (ℕ → ℕ) → ℕ → ℕ
-lowerRow n g zero = xorSum n g
-lowerRow n g (suc i) = g i
-
 -- row r of a word as a function on a cycle of q places
-unfoldable pub row : ℕ → List ℕ → ℕ → ℕ → ℕ
-row q w r c = at w (r * q + c % q)
+abbrev pub row : ℕ → List ℕ → ℕ → ℕ → ℕ
+row q w = rowOf q (at w)
 
 -- the symbols put down in the rows from n - 1 on, zeros above them
 pub record Placed (s : Shape) (symbols w : List ℕ) : Type 0 where

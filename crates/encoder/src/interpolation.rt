@@ -1,6 +1,6 @@
 // The upper rows from their values at the shifts, in place (Newton's interpolation).
-use crate::runs::xor_run;
 use gtb::Shape;
+use gtb::add_mod;
 ghost use mathlib.Core.Path.{_≡_};
 ghost use Prim.Native.Nat.{suc, _+_, _-_, _*_, _%_, _≤_, _<_};
 ghost use lib.ListN.{length};
@@ -10,15 +10,6 @@ ghost use Rattle.gtb.specs.Shape.{Lawful, wordLength};
 ghost use Rattle.gtb.specs.Square.{at};
 ghost use Rattle.gtb.proofs.Slopes.{shiftOf};
 ghost use Rattle.encoder.specs.Steps.{Written, difference, Walked, Ready, Divisible, RowDivided, Divided, Joined, Interpolated};
-
-// (a + b) modulo q
-fn add_mod(a: usize, b: usize, q: usize) -> usize
-    requires { ⌜ (a < q) × (b ≤ q) × (q ≤ 31) ⌝ }
-    ensures { λ r. ⌜ (r ≡ (a + b) % q) × (r < q) ⌝ }
-{
-    let sum = a + b;
-    if sum < q { sum } else { sum - q }
-}
 
 // How far direction t + 1 moves a line from one row to the next.
 fn shift(shape: Shape, t: usize) -> usize
@@ -64,7 +55,7 @@ fn divide_row(shape: Shape, word: &mut [u32], k: usize, t: usize)
     let z = q - shift(shape, k);
     let delta = add_mod(z, shift(shape, t), q);
     let walked = walk(word, q, k, t, delta);
-    let total = xor_run(&walked, 0, q);
+    let total = gtb::run_sum(&walked, 0, q);
     store_row(word, &walked, total, q, t * q, z);
 }
 

@@ -5,6 +5,9 @@ mod runs;
 use gtb::Refusal;
 use gtb::Shape;
 use gtb::Status;
+use gtb::size::info_length;
+use gtb::size::scratch_length;
+use gtb::size::word_length;
 ghost use mathlib.Core.Path.{_≡_};
 ghost use mathlib.Core.Bool.{true, _&&_};
 ghost use lib.Dec.{eqb};
@@ -20,15 +23,13 @@ fn sizes_match(shape: Shape, symbols: usize, scratch: usize, word: usize) -> boo
     requires { ⌜ Lawful shape ⌝ }
     ensures { λ r. ⌜ r ≡ (eqb symbols (infoLength shape) && eqb scratch (scratchLength shape) && eqb word (wordLength shape)) ⌝ }
 {
-    let q = shape.q as usize;
-    let n = shape.n as usize;
-    if symbols != (q - 1) * (q + 1 - n) {
+    if symbols != info_length(shape) {
         return false;
     }
-    if scratch != n * q * ((q * q + 31) / 32) {
+    if scratch != scratch_length(shape) {
         return false;
     }
-    word == q * q
+    word == word_length(shape)
 }
 
 // The tests of both entries, the last one on the symbols that come in. Past the first two the scratch is cleared.
@@ -55,8 +56,7 @@ pub fn gather(shape: Shape, word: &[u32], symbols: &mut [u32])
     ensures { λ _. ⌜ now (symbols .exit) ≡ extractOf shape (now (word .entry)) ⌝ }
 {
     let q = shape.q as usize;
-    let n = shape.n as usize;
-    let m = n - 1;
+    let m = shape.n as usize - 1;
     let rows = q - m;
     let p = q - 1;
     for i in 0..rows {
@@ -71,8 +71,7 @@ fn place(shape: Shape, symbols: &[u32], word: &mut [u32])
 {
     gtb::clear(word);
     let q = shape.q as usize;
-    let n = shape.n as usize;
-    let m = n - 1;
+    let m = shape.n as usize - 1;
     let rows = q - m;
     let p = q - 1;
     for i in 0..rows {
@@ -88,8 +87,7 @@ fn write(shape: Shape, symbols: &[u32], word: &mut [u32])
     place(shape, symbols, word);
     let syn = gtb::syndrome::syndromes(shape, word);
     let q = shape.q as usize;
-    let n = shape.n as usize;
-    let m = n - 1;
+    let m = shape.n as usize - 1;
     runs::copy_run(word, &syn, 0, q, m * q);
     interpolation::interpolate(shape, word, 0);
 }

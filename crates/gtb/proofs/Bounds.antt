@@ -1,7 +1,8 @@
 -- What a lawful shape's numbers are.
 use mathlib.Core.Path.{_≡_, refl}
 use mathlib.Core.Bool.{Bool, true, _&&_}
-use Prim.Native.Nat.{ℕ, _≤_}
+use Prim.Native.Nat.{ℕ, _≤_, _<_}
+use native.Mathlib.Omega.{arith}
 use lib.Dec.{leb}
 use borrow.Author.Tests.{leb-true}
 use Rattle.parity.specs.Count.{all}
@@ -55,3 +56,7 @@ bounds s h =
       b1 = leb-true 1 (s .b) b1;
       b32 = leb-true (s .b) 32 b32;
     }
+
+-- q is not zero
+pub positive : (s : Shape) → Lawful s → 0 < s .q
+positive s h = omega (arith, bounds s h .q3)

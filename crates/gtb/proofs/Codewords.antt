@@ -2,21 +2,19 @@
 use mathlib.Core.Path.{_≡_, sym, ap, ap₂, _∙_}
 use mathlib.Core.List.{List}
 use Prim.Native.Nat.{ℕ, _+_, _-_, _*_, _^_, _<_, _≤_}
-use native.Mathlib.Decide.{decLt}
-use native.Mathlib.Omega.{arith}
 use lib.Arith.{digits-lt}
-use lib.ListN.{length, getD, List·getD-eq-default}
-use lib.Pow.{pow-pos}
+use lib.ListN.{length, getD}
 use lib.Seq.{ext-getD}
 use Rattle.parity.specs.Xor.{_⊕_}
 use Rattle.parity.specs.Lists.{tabulate}
 use Rattle.parity.proofs.Xors.{self, eq-of-zero}
-use Rattle.parity.proofs.Lists.{length-tabulate, at-tabulate, is-tabulate}
+use Rattle.parity.proofs.Lists.{at-tabulate, is-tabulate}
 use Rattle.gtb.specs.declared.Shape.{Shape}
 use Rattle.gtb.specs.Shape.{Lawful, wordLength, infoLength}
 use Rattle.gtb.specs.Square.{at, Silent}
 use Rattle.gtb.specs.Positions.{infoPosition, extractOf, Encodes}
 use Rattle.gtb.proofs.Rows.{syndrome-cong, syndrome-linear}
+use Rattle.gtb.proofs.Words.{tabulate-word}
 use Rattle.gtb.proofs.Information.{infoIndex, is-information, by-cell, info-lt, info-is, info-index, info-complete}
 use Rattle.gtb.proofs.Silence.{silent-zero, silent-exists}
 
@@ -51,14 +49,6 @@ codeword-unique s h symbols w v ew ev =
         ap (λ (j : ℕ). at w j ⊕ at v j) (sym e)
         ∙ ap (λ (x : ℕ). x ⊕ at v (infoPosition s k)) (agree s symbols w v ew ev k lk) ∙ self (at v (infoPosition s k))
 
--- a narrow function as a list is narrow, also past its end
-width : (n b : ℕ) (f : ℕ → ℕ) → ((j : ℕ) → f j < 2 ^ b) → (j : ℕ) → at (tabulate n f) j < 2 ^ b
-width n b f small j =
-    elim (decLt j n) [
-      | yes l ↦ rw (at-tabulate n f j l) (small j)
-      | no l ↦ rw (List·getD-eq-default (tabulate n f) 0 {n = j} (omega (arith, length-tabulate n f))) (pow-pos b)
-    ]
-
 -- each list of K symbols is that of some codeword
 pub codeword-exists : (s : Shape) → Lawful s → (symbols : List ℕ) → length symbols ≡ infoLength s
     → ((k : ℕ) → getD symbols k 0 < 2 ^ s .b) → (w : List ℕ) × Encodes s symbols w
@@ -70,7 +60,7 @@ codeword-exists s h symbols size small =
       tabulate (wordLength s) f,
       record {
         codeword = record {
-          word = record { size = length-tabulate (wordLength s) f; width = width (wordLength s) (s .b) f narrow };
+          word = tabulate-word s f (λ j l. narrow j);
           checks = record { silent = λ t L lt l. syndrome-cong s (at (tabulate (wordLength s) f)) f t L entry ∙ quiet .silent t L lt l };
         };
         information =

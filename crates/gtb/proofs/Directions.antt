@@ -1,7 +1,7 @@
 -- The syndromes direction by direction: each sweep completes one.
 use borrow.Author.Count.{below-more}
 use mathlib.Core.List.{List}
-use mathlib.Core.Path.{_≡_, _∙_, refl, sym, ap, subst, subst⁻¹}
+use mathlib.Core.Path.{_≡_, _∙_, sym, ap, subst, subst⁻¹}
 use Prim.Native.Nat.{ℕ, zero, suc, _+_, _-_, _*_, _%_, _≤_, _<_}
 use native.Mathlib.Nat.{zero-mul, one-mul, suc-mul, mul-le-mul, le-trans, not-suc-le-zero}
 use native.Mathlib.Numerals.{add-one}
@@ -10,6 +10,7 @@ use lib.Arith.{lt-one, digits-lt}
 use lib.ListN.{length, replicate}
 use Rattle.parity.specs.Xor.{_⊕_, xorSum}
 use Rattle.parity.proofs.Xors.{zero-l}
+use Rattle.parity.proofs.Lists.{at-zeros}
 use Rattle.gtb.specs.declared.Shape.{Shape}
 use Rattle.gtb.specs.Shape.{Lawful, slopeOf}
 use Rattle.gtb.specs.Square.{at, syndrome, Syndromes}
@@ -34,11 +35,6 @@ pub direction-room : (s : Shape) → Lawful s → (t : ℕ) → t < s .n → t *
 direction-room s h t l =
     subst (λ (k : ℕ). k ≤ 248) (suc-mul t (s .q)) (mul-le-mul (le-trans l (bounds s h .n8)) (bounds s h .q31))
 
-zeros : (n e : ℕ) → at (replicate n 0) e ≡ 0
-zeros zero e = refl
-zeros (suc n) zero = refl
-zeros (suc n) (suc e) = zeros n e
-
 -- what an entry holds that was 0 and has taken up v
 taken-up : {x y v : ℕ} → y ≡ x ⊕ v → x ≡ 0 → y ≡ v
 taken-up {v = v} h z = h ∙ ap (λ (k : ℕ). k ⊕ v) z ∙ zero-l v
@@ -51,9 +47,9 @@ module _ (s : Shape) (lawful : Lawful s) (w : List ℕ) where
     size = h .size;
     entry = λ u lu L l.
         subst⁻¹ (λ (k : ℕ). at new (k * s .q + L) ≡ syndrome s (at w) k L) (lt-one lu)
-        (ap (λ (k : ℕ). at new (k + L)) (zero-mul (s .q)) ∙ taken-up (h .inside L l) (zeros 248 (0 + L))
+        (ap (λ (k : ℕ). at new (k + L)) (zero-mul (s .q)) ∙ taken-up (h .inside L l) (at-zeros 248 (0 + L))
         ∙ sym (syndrome-row s lawful (at w) L l));
-    rest = λ e l. h .above e (omega (arith, one-mul (s .q))) ∙ zeros 248 e;
+    rest = λ e l. h .above e (omega (arith, one-mul (s .q))) ∙ at-zeros 248 e;
   }
 
   -- the entries of direction t + 1 after its sweep

@@ -15,7 +15,7 @@ use Rattle.parity.proofs.Sums.{sum-cong, sum-none, sum-split, sum-rows, sum-con
 use Rattle.gtb.specs.declared.Shape.{Shape}
 use Rattle.gtb.specs.Shape.{Lawful, wordLength, infoLength}
 use Rattle.gtb.specs.Positions.{infoPosition}
-use Rattle.gtb.proofs.Bounds.{bounds}
+use Rattle.gtb.proofs.Bounds.{bounds, positive}
 
 -- row n - 1 or below it, and not column 0
 unfoldable pub isInformation : Shape → ℕ → Bool
@@ -32,10 +32,10 @@ position s j = div-add-mod' j (s .q)
 module _ (s : Shape) (h : Lawful s) where
   -- its row and its column are below q
   pub row-lt : (j : ℕ) → j < wordLength s → j / s .q < s .q
-  row-lt j l = let b = bounds s h in let pos : 0 < s .q = omega arith in div-lt-iff-lt-mul pos .1 l
+  row-lt j l = div-lt-iff-lt-mul (positive s h) .1 l
 
   pub column-lt : (j : ℕ) → j % s .q < s .q
-  column-lt j = let b = bounds s h in mod-lt j (omega arith)
+  column-lt j = mod-lt j (positive s h)
 
   -- where the test holds
   pub is-information : (r c : ℕ) → s .n - 1 ≤ r → 1 ≤ c → c < s .q → isInformation s (r * s .q + c) ≡ true
@@ -60,19 +60,19 @@ module _ (s : Shape) (h : Lawful s) where
       ∙ ap g (position s j)
 
   -- ---- row and column of information symbol k, which lie in the square
-  small : (k : ℕ) → 1 + k % (s .q - 1) < s .q
-  small k = let b = bounds s h in let m : k % (s .q - 1) < s .q - 1 = mod-lt k (omega arith) in omega arith
+  pub info-column-lt : (k : ℕ) → 1 + k % (s .q - 1) < s .q
+  info-column-lt k = let b = bounds s h in let m : k % (s .q - 1) < s .q - 1 = mod-lt k (omega arith) in omega arith
 
   info-row : (k : ℕ) → infoPosition s k / s .q ≡ s .n - 1 + k / (s .q - 1)
   unfolding infoPosition
-  info-row k = digits-div _ (small k)
+  info-row k = digits-div _ (info-column-lt k)
 
   info-column : (k : ℕ) → infoPosition s k % s .q ≡ 1 + k % (s .q - 1)
   unfolding infoPosition
-  info-column k = digits-mod _ (small k)
+  info-column k = digits-mod _ (info-column-lt k)
 
-  in-square : (k : ℕ) → k < infoLength s → s .n - 1 + k / (s .q - 1) < s .q
-  in-square k l =
+  pub info-row-lt : (k : ℕ) → k < infoLength s → s .n - 1 + k / (s .q - 1) < s .q
+  info-row-lt k l =
       let b = bounds s h in
       let pos : 0 < s .q - 1 = omega arith in
       let d : k / (s .q - 1) < s .q + 1 - s .n = div-lt-iff-lt-mul pos .1 (rw (mul-comm (s .q - 1) (s .q + 1 - s .n)) at l) in
@@ -81,11 +81,11 @@ module _ (s : Shape) (h : Lawful s) where
   -- its position is one of the N, an information position, and gives k back
   pub info-lt : (k : ℕ) → k < infoLength s → infoPosition s k < wordLength s
   unfolding infoPosition
-  info-lt k l = digits-lt (in-square k l) (small k)
+  info-lt k l = digits-lt (info-row-lt k l) (info-column-lt k)
 
   pub info-is : (k : ℕ) → k < infoLength s → isInformation s (infoPosition s k) ≡ true
   unfolding infoPosition
-  info-is k l = is-information (s .n - 1 + k / (s .q - 1)) (1 + k % (s .q - 1)) (omega arith) (omega arith) (small k)
+  info-is k l = is-information (s .n - 1 + k / (s .q - 1)) (1 + k % (s .q - 1)) (omega arith) (omega arith) (info-column-lt k)
 
   pub info-index : (k : ℕ) → infoIndex s (infoPosition s k) ≡ k
   unfolding infoIndex
@@ -105,7 +105,7 @@ module _ (s : Shape) (h : Lawful s) where
       omega (arith, div-add-mod' k (s .q - 1), div-add-mod' l (s .q - 1)))
       (λ (below : k / (s .q - 1) < l / (s .q - 1)).
       let rows : s .n - 1 + k / (s .q - 1) < s .n - 1 + l / (s .q - 1) = omega arith in
-      omega (arith, digits-lt rows (small k)))
+      omega (arith, digits-lt rows (info-column-lt k)))
       (eq-or-lt-of-le ordered)
     where
       pos : 0 < s .q - 1

@@ -4,7 +4,9 @@ pub mod Sizes
 pub mod Slopes
 pub mod Lines
 pub mod Rows
+pub mod Rounds
 pub mod Words
+pub mod Answers
 pub mod Sweeps
 pub mod Copies
 pub mod Turns

@@ -13,12 +13,8 @@ use Rattle.parity.proofs.Only.{Only, only-count, each-once}
 use Rattle.gtb.specs.declared.Shape.{Shape}
 use Rattle.gtb.specs.Shape.{Lawful, wordLength, slopeOf}
 use Rattle.gtb.specs.Square.{lineOf}
-use Rattle.gtb.proofs.Bounds.{bounds}
+use Rattle.gtb.proofs.Bounds.{bounds, positive}
 use Rattle.gtb.proofs.Slopes.{slope-lt, slope-apart, shiftOf}
-
--- q is not zero
-pos : (s : Shape) → Lawful s → 0 < s .q
-pos s h = omega (arith, bounds s h .q3)
 
 -- the two cases of a line's number
 pub line-zero : (s : Shape) (j : ℕ) → lineOf s 0 j ≡ j / s .q
@@ -60,12 +56,12 @@ row-only s h t r L lt lL = record {
     slope = le-of-lt (slope-lt s h (suc t) (omega arith) lt)
 
     below : (L + shiftOf s t * r) % s .q < s .q
-    below = mod-lt _ (pos s h)
+    below = mod-lt _ (positive s h)
 
 -- lines are numbered from 0 to q - 1
 pub line-lt : (s : Shape) → Lawful s → (t j : ℕ) → t < s .n → j < wordLength s → lineOf s t j < s .q
-line-lt s h zero j lt lj = rw line-zero (div-lt-iff-lt-mul (pos s h) .1 lj)
-line-lt s h (suc t) j lt lj = rw line-suc (mod-lt _ (pos s h))
+line-lt s h zero j lt lj = rw line-zero (div-lt-iff-lt-mul (positive s h) .1 lj)
+line-lt s h (suc t) j lt lj = rw line-suc (mod-lt _ (positive s h))
 
 -- each position is on one line of each direction
 pub one-line : (s : Shape) → Lawful s → (t j : ℕ) → t < s .n → j < wordLength s → count (s .q) (λ L. eqb (lineOf s t j) L) ≡ 1
@@ -94,7 +90,7 @@ same-row s h t i j row line =
     column : i % s .q ≡ j % s .q
     column =
         sym (mod-mod i (s .q))
-        ∙ cancel-add (s .q) (i % s .q) (j % s .q) (slopeOf s (suc t) * (i / s .q)) (pos s h)
+        ∙ cancel-add (s .q) (i % s .q) (j % s .q) (slopeOf s (suc t) * (i / s .q)) (positive s h)
         (sym (line-suc s t i) ∙ line ∙ line-suc s t j ∙ ap (λ (r : ℕ). (j % s .q + slopeOf s (suc t) * r) % s .q) (sym row))
         ∙ mod-mod j (s .q)
 
@@ -110,7 +106,7 @@ row-shared s h t u i j lt lu ne li lj et eu =
     ∙ low j lj
   where
     low : (j : ℕ) → j < wordLength s → j / s .q % s .q ≡ j / s .q
-    low j l = mod-eq-of-lt (div-lt-iff-lt-mul (pos s h) .1 l)
+    low j l = mod-eq-of-lt (div-lt-iff-lt-mul (positive s h) .1 l)
 
 -- two different positions share at most one line
 pub share-one : (s : Shape) → Lawful s → (i j : ℕ) → i < wordLength s → j < wordLength s → (i ≡ j → ⊥) → (t u : ℕ) → t < s .n → u < s .n → (t ≡ u → ⊥)

@@ -18,7 +18,7 @@ use Rattle.gtb.specs.declared.Shape.{Shape}
 use Rattle.gtb.specs.Shape.{Lawful, wordLength, infoLength}
 use Rattle.gtb.specs.Square.{lineOf, syndrome, Silent}
 use Rattle.gtb.specs.Positions.{column, Dependent, infoPosition}
-use Rattle.gtb.proofs.Bounds.{bounds}
+use Rattle.gtb.proofs.Bounds.{positive}
 use Rattle.gtb.proofs.Rows.{syndrome-cong}
 use Rattle.gtb.proofs.Information.{isInformation, position, row-lt, column-lt, information-row, by-cell, info-lt, info-is, info-rising, info-complete, information-count, parity-count}
 use Rattle.gtb.proofs.Silence.{row-zero, silent-zero, silent-exists}
@@ -85,10 +85,7 @@ zero-after s h f quiet j low z i lt l =
     (eq-zero-or-pos (i % s .q))
   where
     lower : s .n - 1 ≤ i / s .q
-    lower =
-        let b = bounds s h in
-        let pos : 0 < s .q = omega arith in
-        le-div-iff-mul-le pos .1 (omega (arith, le-div-iff-mul-le pos .0 low))
+    lower = le-div-iff-mul-le (positive s h) .1 (omega (arith, le-div-iff-mul-le (positive s h) .0 low))
 
 -- the silent word that is 1 there and 0 on the other information positions shows it
 pub information-dependent : (s : Shape) → Lawful s → (j : ℕ) → j < wordLength s → isInformation s j ≡ true → Dependent s j

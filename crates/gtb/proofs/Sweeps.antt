@@ -1,17 +1,14 @@
 -- Laws of `Added`: the entries of a stretch take up values one after the other, stretch after stretch, and round after round.
 use borrow.Author.Count.{below-none, below-more}
-use borrow.Author.Tests.{ltb-true, ltb-false}
 use mathlib.Core.List.{List}
-use mathlib.Core.Logic.{_⊎_, inl, inr, ⊎-elim}
 use mathlib.Core.Path.{_≡_, _∙_, refl, sym, ap, ap₂, subst, subst₂}
 use Prim.Native.Nat.{ℕ, _+_, _-_, _%_, _≤_, _<_}
 use native.Mathlib.Nat.{zero-add, lt-trans, mod-eq-of-lt, add-mod-right}
+use native.Mathlib.Decide.{decLt}
 use native.Mathlib.Omega.{arith}
-use lib.Dec.{ltb}
 use lib.ListN.{length, set, length-set}
 use lib.Seq.{getD-set-same, getD-set-other}
 use Rattle.parity.specs.Xor.{_⊕_, xorSum}
-use Rattle.parity.proofs.Tests.{either}
 use Rattle.parity.proofs.Xors.{assoc, zero-r}
 use Rattle.parity.proofs.XorSums.{xs-zero, more}
 use Rattle.gtb.specs.Square.{at}
@@ -86,15 +83,12 @@ pub rounds-end : {base n k m : ℕ} (f : ℕ → ℕ → ℕ) {old new : List �
     → Added base n (λ i. xorSum m (f i)) old new
 rounds-end {base} {n} f {old} {new} h e = subst (λ (j : ℕ). Added base n (λ i. xorSum j (f i)) old new) e h
 
-lt-or-le : (a b : ℕ) → (a < b) ⊎ (b ≤ a)
-lt-or-le a b = ⊎-elim (λ t. inl (ltb-true a b t)) (λ f. inr (ltb-false a b f)) (either (ltb a b))
-
 -- a stretch, and the one after it
 join : (base a b : ℕ) (f g h : ℕ → ℕ) (old mid new : List ℕ) → Added base a f old mid → Added (base + a) b g mid new
     → ((i : ℕ) → i < a → f i ≡ h i) → ((i : ℕ) → i < b → g i ≡ h (a + i)) → Added base (a + b) h old new
 join base a b f g h old mid new first second ef eg = record {
   size = second .size;
-  inside = λ i l. ⊎-elim (λ (s : i < a). low i s) (λ (s : a ≤ i). high i s l) (lt-or-le i a);
+  inside = λ i l. elim (decLt i a) [ yes s ↦ low i s | no s ↦ high i (omega arith) l ];
   below = λ e l. second .below e (omega arith) ∙ first .below e l;
   above = λ e l. second .above e (omega arith) ∙ first .above e (omega arith);
 }

@@ -18,7 +18,7 @@ use Rattle.gtb.specs.Shape.{wordLength}
 use Rattle.gtb.specs.Square.{at, narrow, syndrome, Word, Silent}
 
 -- past its end a list shows 0, which is below 2^b
-beyond : (b : ℕ) (w : List ℕ) → ((j : ℕ) → j < length w → at w j < 2 ^ b) → (j : ℕ) → at w j < 2 ^ b
+pub beyond : (b : ℕ) (w : List ℕ) → ((j : ℕ) → j < length w → at w j < 2 ^ b) → (j : ℕ) → at w j < 2 ^ b
 beyond b w h j =
     elim (decLt j (length w)) [
       | yes l ↦ h j l
@@ -29,12 +29,13 @@ pub word-narrow : (s : Shape) (w : List ℕ) → Word s w → narrow (s .b) w �
 unfolding narrow
 word-narrow s w h = all-intro (length w) (λ j. ltb (at w j) (2 ^ s .b)) (λ j l. lt-ltb (at w j) (2 ^ s .b) (h .width j))
 
-pub narrow-word : (s : Shape) (w : List ℕ) → length w ≡ wordLength s → narrow (s .b) w ≡ true → Word s w
+-- the symbols that pass the test are narrow, also past their end
+pub narrow-at : (b : ℕ) (w : List ℕ) → narrow b w ≡ true → (j : ℕ) → at w j < 2 ^ b
 unfolding narrow
-narrow-word s w size h = record {
-  size = size;
-  width = beyond (s .b) w (λ j l. ltb-true (at w j) (2 ^ s .b) (all-elim (length w) (λ j. ltb (at w j) (2 ^ s .b)) h j l));
-}
+narrow-at b w h = beyond b w (λ j l. ltb-true (at w j) (2 ^ b) (all-elim (length w) (λ j. ltb (at w j) (2 ^ b)) h j l))
+
+pub narrow-word : (s : Shape) (w : List ℕ) → length w ≡ wordLength s → narrow (s .b) w ≡ true → Word s w
+narrow-word s w size h = record { size = size; width = narrow-at (s .b) w h }
 
 pub tabulate-word : (s : Shape) (f : ℕ → ℕ) → ((j : ℕ) → j < wordLength s → f j < 2 ^ s .b) → Word s (tabulate (wordLength s) f)
 tabulate-word s f h = record {

@@ -4,10 +4,11 @@ pub mod syndrome;
 
 ghost use mathlib.Core.Path.{_≡_};
 ghost use mathlib.Core.List.{_++_};
-ghost use Prim.Native.Nat.{_≤_};
+ghost use Prim.Native.Nat.{_+_, _%_, _≤_, _<_};
 ghost use lib.ListN.{length, drop, replicate};
+ghost use Rattle.parity.specs.Xor.{xorSum};
 ghost use Rattle.gtb.specs.Shape.{slopeOf, isOrder, lawful};
-ghost use Rattle.gtb.specs.Square.{narrow};
+ghost use Rattle.gtb.specs.Square.{at, narrow};
 
 // (q, n, b): order, directions and width in bits. A caller's shape may hold any numbers.
 pub struct Shape {
@@ -103,4 +104,25 @@ pub fn copy(from: &[u32], to: &mut [u32])
     for i in 0..from.len() {
         to[i] = from[i];
     }
+}
+
+// The XOR of `count` values, from place `from` on.
+pub fn run_sum(values: &[u32], from: usize, count: usize) -> u32
+    requires { ⌜ from + count ≤ length (now values) ⌝ }
+    ensures { λ r. ⌜ r ≡ xorSum count (λ i. at (now (values .entry)) (from + i)) ⌝ }
+{
+    let mut sum: u32 = 0;
+    for i in 0..count {
+        sum ^= values[from + i];
+    }
+    sum
+}
+
+// (a + b) mod q.
+pub fn add_mod(a: usize, b: usize, q: usize) -> usize
+    requires { ⌜ (a < q) × (b ≤ q) × (q ≤ 31) ⌝ }
+    ensures { λ r. ⌜ (r ≡ (a + b) % q) × (r < q) ⌝ }
+{
+    let sum = a + b;
+    if sum < q { sum } else { sum - q }
 }

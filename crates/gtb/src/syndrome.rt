@@ -1,5 +1,7 @@
 // The syndromes of a word. Each row of the square is XORed, rotated, onto the q entries of a direction, so that no symbol needs a remainder.
 use crate::Shape;
+use crate::add_mod;
+use crate::run_sum;
 use crate::slope;
 ghost use mathlib.Core.Path.{_≡_};
 ghost use Prim.Native.Nat.{_+_, _*_, _%_, _≤_, _<_};
@@ -29,18 +31,6 @@ fn add_row(syn: &mut [u32; 248], word: &[u32], to: usize, from: usize, place: us
     add_run(syn, word, to + rest, from, place);
 }
 
-// (place + step) mod q.
-fn turned(place: usize, step: usize, q: usize) -> usize
-    requires { ⌜ (place < q) × (step ≤ q) × (q ≤ 31) ⌝ }
-    ensures { λ r. ⌜ r ≡ (place + step) % q ⌝ }
-{
-    let next = place + step;
-    if next < q {
-        return next;
-    }
-    next - q
-}
-
 // One direction: each row is XORed onto the q entries from `to` on, row r rotated by step × r.
 fn sweep(syn: &mut [u32; 248], word: &[u32], to: usize, step: usize, q: usize)
     requires { ⌜ (length (now syn) ≡ 248) × (to + q ≤ 248) × (length (now word) ≡ q * q) × (step ≤ q) × (q ≤ 31) ⌝ }
@@ -50,29 +40,17 @@ fn sweep(syn: &mut [u32; 248], word: &[u32], to: usize, step: usize, q: usize)
     let mut place: usize = 0;
     for r in 0..q {
         add_row(syn, word, to, r * q, place, q);
-        place = turned(place, step, q);
+        place = add_mod(place, step, q);
     }
 }
 
-// The XOR of `count` symbols of the word, from place `from` on.
-fn run_sum(word: &[u32], from: usize, count: usize) -> u32
-    requires { ⌜ from + count ≤ length (now word) ⌝ }
-    ensures { λ r. ⌜ r ≡ xorSum count (λ i. at (now (word .entry)) (from + i)) ⌝ }
-{
-    let mut sum: u32 = 0;
-    for i in 0..count {
-        sum ^= word[from + i];
-    }
-    sum
-}
-
-// Direction 0: entry r takes up the whole of row r.
+// Direction 0: each entry takes up the whole of its row.
 fn add_rows(syn: &mut [u32; 248], word: &[u32], q: usize)
     requires { ⌜ (length (now syn) ≡ 248) × (length (now word) ≡ q * q) × (q ≤ 31) ⌝ }
     ensures { λ _. ⌜ Added 0 q (λ r. xorSum q (λ c. at (now (word .entry)) (r * q + c))) (now (syn .entry)) (now (syn .exit)) ⌝ }
 {
-    for r in 0..q {
-        syn[r] ^= run_sum(word, r * q, q);
+    for row in 0..q {
+        syn[row] ^= run_sum(word, row * q, q);
     }
 }
 

@@ -1,12 +1,12 @@
 -- Functions on a cycle: shifts, sums of them, and their totals.
-use mathlib.Core.Path.{_≡_, refl, sym, ap, ap₂, _∙_, subst}
+use mathlib.Core.Path.{_≡_, sym, ap, ap₂, _∙_}
 use Prim.Native.Nat.{ℕ, zero, suc, _+_, _*_, _/_, _%_, _<_}
-use native.Mathlib.Nat.{add-assoc, add-comm, add-zero, add-suc, suc-add, zero-add, add-right-comm, suc-mul, zero-mul, mod-add-div', not-suc-le-zero}
+use native.Mathlib.Nat.{add-assoc, add-zero, zero-add, add-right-comm, suc-mul, zero-mul, mod-add-div'}
 use native.Mathlib.Omega.{arith}
 use Rattle.parity.specs.Xor.{_⊕_, xorSum}
 use Rattle.parity.specs.Cyclic.{Cyclic}
-use Rattle.parity.proofs.Xors.{comm, self, zero-r, xors, twice}
-use Rattle.parity.proofs.XorSums.{xs-zero, xs-suc, cong, none, linear, exchange, first}
+use Rattle.parity.proofs.Xors.{comm, self, twice}
+use Rattle.parity.proofs.XorSums.{xs-suc, cong, none, linear, exchange, first}
 
 -- any number of turns
 pub turns : (q : ℕ) (f : ℕ → ℕ) → ((c : ℕ) → f (c + q) ≡ f c) → (k c : ℕ) → f (c + k * q) ≡ f c

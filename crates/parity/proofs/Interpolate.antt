@@ -1,7 +1,7 @@
 -- Rows of zero total that take given values at given shifts.
-use mathlib.Core.Path.{_≡_, refl, sym, ap, ap₂, _∙_}
+use mathlib.Core.Path.{_≡_, refl, ap, ap₂, _∙_}
 use Prim.Native.Nat.{ℕ, zero, suc, _+_, _*_, _-_, _%_, _^_, _<_, _≤_}
-use native.Mathlib.Nat.{add-assoc, add-zero, add-sub-of-le, le-mul-of-pos-right, add-mod-mod, add-mul-mod-self-right, le-refl, le-of-suc-le-suc, not-suc-le-zero, suc-inj, zero-lt-suc}
+use native.Mathlib.Nat.{add-sub-of-le, le-mul-of-pos-right, le-refl, le-of-suc-le-suc, not-suc-le-zero, suc-inj, zero-lt-suc}
 use native.Mathlib.Decide.{decLt}
 use native.Mathlib.Omega.{arith}
 use lib.Pow.{pow-pos}
@@ -9,8 +9,10 @@ use Rattle.parity.specs.Xor.{_⊕_}
 use Rattle.parity.specs.Cyclic.{Cyclic, Order, Apart, eval}
 use Rattle.parity.proofs.Xors.{self, zero-r, lt-pow, xors}
 use Rattle.parity.proofs.XorSums.{none}
-use Rattle.parity.proofs.Cycles.{turns, shift, both}
-use Rattle.parity.proofs.Walk.{quotient, quotient-cyclic, quotient-step, quotient-lt}
+use Rattle.parity.proofs.Cycles.{shift, both}
+use Rattle.parity.proofs.Orders.{order-pos}
+use Rattle.parity.proofs.Modular.{no-step}
+use Rattle.parity.proofs.Walk.{quotient, Divided, divided}
 use Rattle.parity.proofs.Newton.{newton}
 
 -- one step of Newton's interpolation: f is made of ρ with the root x
@@ -29,53 +31,14 @@ module _ (m : ℕ) (ρ f : ℕ → ℕ → ℕ) (x : ℕ) (rows : (i : ℕ) → 
       ∙ ap (λ (k : ℕ). ρ 0 c ⊕ k) (ap₂ (λ (i j : ℕ). i ⊕ j) (later (c + y)) (later (c + x)) ∙ divided c)
       ∙ simp xors
 
--- g is d divided by the difference of the shifts y and x
-record Divided (q k x y : ℕ) (d g : ℕ → ℕ) : Type 0 where
-  cyclic : Cyclic q g
-  step : (c : ℕ) → g (c + y) ⊕ g (c + x) ≡ d c
-  width : (c : ℕ) → g c < 2 ^ k
-
 -- z is x negated modulo q, and y + z the step of the walk
 divide : (q : ℕ) → Order q → (k x y : ℕ) → (x % q ≡ y % q → ⊥)
     → (d : ℕ → ℕ) → Cyclic q d → ((c : ℕ) → d c < 2 ^ k) → (g : ℕ → ℕ) × Divided q k x y d g
-divide q o k x y ne d cyc small = (g, record { cyclic = shift q Q Q-cyclic z; step = g-step; width = λ c. quotient-lt q (y + z) e k d small (c + z) })
-  where
-    pos : 0 < q
-    pos = let odd : q % 2 ≡ 1 = o .odd in omega arith
-
-    z : ℕ
-    z = x * q - x
-
-    around : x + z ≡ x * q
-    around = add-sub-of-le (le-mul-of-pos-right x pos)
-
-    apart : (y + z) % q ≡ 0 → ⊥
-    apart h =
-        ne
-        (ap (λ (k : ℕ). k % q) (sym (add-zero x)) ∙ ap (λ (k : ℕ). (x + k) % q) (sym h) ∙ add-mod-mod x (y + z) q
-        ∙ ap (λ (k : ℕ). k % q) shifted ∙ add-mul-mod-self-right y x q)
-      where
-        shifted : x + (y + z) ≡ y + x * q
-        shifted = omega (arith, around)
-
-    e : ℕ
-    e = o .inverse (y + z) apart .0
-
-    Q : ℕ → ℕ
-    Q = quotient q (y + z) e d
-
-    Q-cyclic : Cyclic q Q
-    Q-cyclic = quotient-cyclic q (y + z) e d pos (o .odd)
-
-    g : ℕ → ℕ
-    g c = Q (c + z)
-
-    g-step : (c : ℕ) → g (c + y) ⊕ g (c + x) ≡ d c
-    g-step c =
-        ap₂ (λ (i j : ℕ). i ⊕ j)
-        (ap Q (add-assoc c y z) ∙ quotient-step q (y + z) e d pos (o .inverse (y + z) apart .1) cyc c)
-        (ap Q (add-assoc c x z ∙ ap (λ (k : ℕ). c + k) around) ∙ turns q Q (Q-cyclic .period) x c)
-        ∙ simp xors
+divide q o k x y ne d cyc small =
+    let z : ℕ = x * q - x in
+    let around : x + z ≡ x * q = add-sub-of-le (le-mul-of-pos-right x (order-pos q o)) in
+    let (e, inv) = o .inverse (y + z) (λ h. ne (no-step q x x y z around h)) in
+    (λ c. quotient q (y + z) e d (c + z), divided q o k x x y z (y + z) e d around refl inv cyc small)
 
 -- a function for each t below m, gathered into one
 choose : (m : ℕ) (P : ℕ → (ℕ → ℕ) → Type 0) → ((t : ℕ) → t < m → (g : ℕ → ℕ) × P t g)

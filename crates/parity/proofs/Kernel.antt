@@ -2,15 +2,16 @@
 use mathlib.Core.Path.{_≡_, sym, ap, ap₂, _∙_}
 use mathlib.Core.Logic.{⊎-elim}
 use Prim.Native.Nat.{ℕ, zero, suc, _+_, _*_, _-_, _%_, _<_, suc-le-suc}
-use native.Mathlib.Nat.{add-assoc, add-zero, add-suc, suc-add, sub-zero, sub-self, mul-suc, mul-comm, mul-assoc, zero-add, one-mul, mod-add-mod, add-mul-mod-self-right, le-step, lt-suc-self, ne-of-lt, eq-or-lt-of-le, le-of-suc-le-suc, not-suc-le-zero}
+use native.Mathlib.Nat.{add-assoc, add-zero, add-suc, suc-add, sub-zero, sub-self, mul-suc, mul-comm, mul-assoc, mul-right-comm, zero-add, le-step, lt-suc-self, ne-of-lt, eq-or-lt-of-le, le-of-suc-le-suc, not-suc-le-zero}
 use native.Mathlib.Omega.{arith}
-use Rattle.parity.specs.Xor.{_⊕_, xorSum}
+use Rattle.parity.specs.Xor.{_⊕_}
 use Rattle.parity.specs.Cyclic.{Cyclic, Order, Apart, eval}
 use Rattle.parity.proofs.Xors.{xors, zero-l, zero-r, self, eq-of-zero}
 use Rattle.parity.proofs.XorSums.{xs-zero, cong, odd-total}
 use Rattle.parity.proofs.Cycles.{turns, same}
 use Rattle.parity.proofs.Newton.{eval-cyclic, horner, newton}
 use Rattle.parity.proofs.Orders.{mod-mul-mod, order-pos}
+use Rattle.parity.proofs.Modular.{undo-mul, no-step}
 
 -- how far it is from x up to a, modulo q
 step : ℕ → ℕ → ℕ → ℕ
@@ -25,10 +26,7 @@ around q x c pos =
 -- the step is no multiple of q where a and x differ
 step-nonzero : (q a x : ℕ) → 0 < q → (a % q ≡ x % q → ⊥) → step q a x % q ≡ 0 → ⊥
 unfolding step
-step-nonzero q a x pos ne z =
-    ne
-    (sym (add-mul-mod-self-right a x q) ∙ ap (λ (k : ℕ). k % q) (sym (around q x a pos))
-    ∙ sym (mod-add-mod (step q a x) q x) ∙ ap (λ (k : ℕ). (k + x) % q) z ∙ ap (λ (k : ℕ). k % q) (zero-add x))
+step-nonzero q a x pos ne z = ne (sym (no-step q x x a (x * (q - 1)) (omega (arith, around q x 0 pos)) z))
 
 -- a function that is the same moved by a and moved by x has the step as a period
 step-period : (q : ℕ) (f : ℕ → ℕ) → 0 < q → ((c : ℕ) → f (c + q) ≡ f c) → (a x : ℕ)
@@ -40,9 +38,8 @@ step-period q f pos p a x e c =
 -- a multiple of d is c modulo q
 reach : (q d e c : ℕ) → d * e % q ≡ 1 → c % q ≡ (0 + e * c * d) % q
 reach q d e c one =
-    sym
-    (ap (λ (k : ℕ). k % q) (zero-add (e * c * d) ∙ mul-comm (e * c) d ∙ sym (mul-assoc d e c))
-    ∙ sym (mod-mul-mod (d * e) c q) ∙ ap (λ (k : ℕ). k * c % q) one ∙ ap (λ (k : ℕ). k % q) (one-mul c))
+    sym (undo-mul q d e c one) ∙ mod-mul-mod (d * c) e q
+    ∙ ap (λ (k : ℕ). k % q) (mul-right-comm d c e ∙ mul-assoc d e c ∙ mul-comm d (e * c) ∙ sym (zero-add (e * c * d)))
 
 -- a period that is invertible modulo q reaches every place
 level : (q d : ℕ) → Order q → (d % q ≡ 0 → ⊥) → (f : ℕ → ℕ) → ((c : ℕ) → f (c + q) ≡ f c) → ((c : ℕ) → f (c + d) ≡ f c)

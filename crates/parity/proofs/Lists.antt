@@ -1,11 +1,17 @@
 -- A list made from its entries.
 use mathlib.Core.Path.{_≡_, refl, sym, ap, _∙_}
-use mathlib.Core.List.{List, [], _∷_}
+use mathlib.Core.List.{List, _∷_}
 use Prim.Native.Nat.{ℕ, zero, suc, _<_, suc-le-suc}
 use native.Mathlib.Nat.{not-suc-le-zero, le-of-suc-le-suc, zero-lt-suc}
-use lib.ListN.{length, getD}
+use lib.ListN.{length, getD, replicate}
 use lib.Seq.{ext-getD}
 use Rattle.parity.specs.Lists.{tabulate}
+
+-- a list of zeros shows 0 everywhere
+pub at-zeros : (n k : ℕ) → getD (replicate {A = ℕ} n 0) k 0 ≡ 0
+at-zeros zero k = refl
+at-zeros (suc n) zero = refl
+at-zeros (suc n) (suc k) = at-zeros n k
 
 pub length-tabulate : (n : ℕ) (f : ℕ → ℕ) → length (tabulate n f) ≡ n
 unfolding tabulate

@@ -1,7 +1,7 @@
 -- Equations modulo q: what may be cancelled, and linear equations solved.
 use mathlib.Core.Path.{_≡_, sym, ap, _∙_}
 use Prim.Native.Nat.{ℕ, _+_, _-_, _*_, _%_, _<_, _≤_}
-use native.Mathlib.Nat.{add-comm, add-mul, mul-comm, mul-suc, mul-right-comm, one-mul, zero-add, le-of-lt, mod-add-mod, add-mod-mod, mod-eq-of-lt, add-mod-right, add-mul-mod-self-right}
+use native.Mathlib.Nat.{add-comm, add-mul, mul-comm, mul-suc, mul-right-comm, one-mul, add-zero, le-of-lt, mod-add-mod, add-mod-mod, mod-eq-of-lt, add-mod-right, add-mul-mod-self-right}
 use native.Mathlib.Omega.{arith}
 use Rattle.parity.specs.Cyclic.{Order}
 use Rattle.parity.proofs.Orders.{mod-mul-mod, order-pos}
@@ -18,7 +18,7 @@ cancel-add q x y z pos h = sym (undo x) ∙ ap (λ (k : ℕ). (k + z * (q - 1)) 
         mod-add-mod (x + z) q (z * (q - 1)) ∙ ap (λ (k : ℕ). k % q) (omega (arith, around)) ∙ add-mul-mod-self-right x z q
 
 -- a factor and its inverse cancel
-undo-mul : (q d e x : ℕ) → d * e % q ≡ 1 → d * x % q * e % q ≡ x % q
+pub undo-mul : (q d e x : ℕ) → d * e % q ≡ 1 → d * x % q * e % q ≡ x % q
 undo-mul q d e x one =
     mod-mul-mod (d * x) e q ∙ ap (λ (k : ℕ). k % q) (mul-right-comm d x e) ∙ sym (mod-mul-mod (d * e) x q)
     ∙ ap (λ (k : ℕ). k * x % q) one ∙ ap (λ (k : ℕ). k % q) (one-mul x)
@@ -28,6 +28,12 @@ pub cancel-mul : (q : ℕ) → Order q → (d x y : ℕ) → (d % q ≡ 0 → �
 cancel-mul q o d x y ne h =
     let (e, one) = o .inverse d ne in
     sym (undo-mul q d e x one) ∙ ap (λ (k : ℕ). k * e % q) h ∙ undo-mul q d e y one
+
+-- z is x negated, so that x + z is k turns: where y + z is whole turns too, y is x modulo q
+pub no-step : (q k x y z : ℕ) → x + z ≡ k * q → (y + z) % q ≡ 0 → x % q ≡ y % q
+no-step q k x y z around h =
+    ap (λ (i : ℕ). i % q) (sym (add-zero x)) ∙ ap (λ (i : ℕ). (x + i) % q) (sym h) ∙ add-mod-mod x (y + z) q
+    ∙ ap (λ (i : ℕ). i % q) (omega arith) ∙ add-mul-mod-self-right y k q
 
 -- numbers with equal opposites are equal
 pub opposite : (q a b : ℕ) → a < q → b < q → (q - a) % q ≡ (q - b) % q → a ≡ b
@@ -63,9 +69,7 @@ step q a b = b + (q - a)
 step-nonzero : (q a b : ℕ) → a < q → b < q → (a ≡ b → ⊥) → step q a b % q ≡ 0 → ⊥
 unfolding step
 step-nonzero q a b la lb ne z =
-    ne
-    (sym (mod-eq-of-lt la) ∙ ap (λ (k : ℕ). k % q) (sym (zero-add a)) ∙ ap (λ (k : ℕ). (k + a) % q) (sym z)
-    ∙ mod-add-mod (step q a b) q a ∙ ap (λ (k : ℕ). k % q) (omega arith) ∙ add-mod-right b q ∙ mod-eq-of-lt lb)
+    ne (sym (mod-eq-of-lt la) ∙ no-step q 1 a b (q - a) (omega (arith, one-mul q)) z ∙ mod-eq-of-lt lb)
 
 -- r steps lead from x + a × r to x + b × r
 stepped : (q a b x r : ℕ) → a ≤ q → (step q a b * r + (x + a * r) % q) % q ≡ (x + b * r) % q

@@ -1,17 +1,25 @@
--- Rows evaluated at a shift: cyclic again, one row apart, and one root divided out.
+-- Rows evaluated at a shift: cyclic again, in two parts, one row apart, and one root divided out.
 use mathlib.Core.Path.{_≡_, sym, ap, ap₂, _∙_}
-use Prim.Native.Nat.{ℕ, suc, _+_, _*_, _<_}
+use Prim.Native.Nat.{ℕ, suc, _+_, _-_, _*_, _≤_, _<_}
 use native.Mathlib.Nat.{mul-zero, mul-suc, add-zero}
 use native.Mathlib.Omega.{arith}
 use Rattle.parity.specs.Xor.{_⊕_, xorSum}
 use Rattle.parity.specs.Cyclic.{Cyclic, eval}
 use Rattle.parity.proofs.Xors.{xors}
-use Rattle.parity.proofs.XorSums.{xs-suc, cong, linear, first}
+use Rattle.parity.proofs.XorSums.{xs-suc, cong, linear, split, first}
 use Rattle.parity.proofs.Cycles.{shift, family}
 
 pub eval-cyclic : (q m : ℕ) (f : ℕ → ℕ → ℕ) (x : ℕ) → ((r : ℕ) → r < m → Cyclic q (f r)) → Cyclic q (eval m f x)
 unfolding eval
 eval-cyclic q m f x h = family q m (λ r c. f r (c + x * r)) (λ r l. shift q (f r) (h r l) (x * r))
+
+-- of q rows those from row m on, evaluated at the shift x
+unfoldable pub lowerEval : ℕ → ℕ → (ℕ → ℕ → ℕ) → ℕ → ℕ → ℕ
+lowerEval q m f x c = xorSum (q - m) (λ i. f (m + i) (c + x * (m + i)))
+
+pub eval-parts : (q m : ℕ) → m ≤ q → (f : ℕ → ℕ → ℕ) (x c : ℕ) → eval q f x c ≡ eval m f x c ⊕ lowerEval q m f x c
+unfolding eval lowerEval
+eval-parts q m l f x c = ap (λ (k : ℕ). xorSum k (λ r. f r (c + x * r))) (omega arith) ∙ split m (q - m) (λ r. f r (c + x * r))
 
 -- Horner's step: the first row apart
 pub horner : (m : ℕ) (f : ℕ → ℕ → ℕ) (x c : ℕ) → eval (suc m) f x c ≡ f 0 c ⊕ eval m (λ r. f (suc r)) x (c + x)

@@ -7,7 +7,6 @@ use native.Mathlib.Nat.{not-suc-le-zero, le-of-suc-le-suc, eq-or-lt-of-le, le-st
 use native.Mathlib.Numerals.{add-one}
 use native.Mathlib.Omega.{arith}
 use Rattle.parity.specs.Count.{bit, sum, count}
-use Rattle.parity.proofs.Tests.{either}
 
 pub sum-zero : (f : ℕ → ℕ) → sum 0 f ≡ 0
 unfolding sum

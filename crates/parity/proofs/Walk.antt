@@ -1,16 +1,17 @@
 -- Steps of δ round a cycle of q places: a function whose difference over such a step is given.
 use mathlib.Core.Path.{_≡_, refl, sym, ap, ap₂, _∙_}
 use Prim.Native.Nat.{ℕ, suc, _+_, _*_, _%_, _^_, _<_}
-use native.Mathlib.Nat.{add-comm, mul-add, add-mul, mul-comm, mul-left-comm, mul-one, add-mod-mod, mod-eq-of-lt, mod-lt, zero-mul, zero-mod, add-mul-mod-self-left}
+use native.Mathlib.Nat.{add-comm, add-assoc, mul-add, add-mul, mul-comm, mul-assoc, add-mod-mod, mod-eq-of-lt, mod-lt, zero-mul, zero-mod, add-mul-mod-self-left}
 use native.Mathlib.Numerals.{add-one}
 use lib.Dec.{eqb}
 use borrow.Author.Tests.{eq-eqb, ne-eqb}
 use Rattle.parity.specs.Xor.{_⊕_, xorSum, when}
-use Rattle.parity.specs.Cyclic.{Cyclic}
+use Rattle.parity.specs.Cyclic.{Cyclic, Order}
 use Rattle.parity.proofs.Xors.{self, zero-l, lt-pow, xors}
 use Rattle.parity.proofs.XorSums.{xs-zero, xs-suc, cong, linear, exchange, only, split, bound, odd-total}
-use Rattle.parity.proofs.Cycles.{turns, wrap, same}
-use Rattle.parity.proofs.Orders.{mod-mul-mod}
+use Rattle.parity.proofs.Cycles.{turns, wrap, same, shift}
+use Rattle.parity.proofs.Orders.{mod-mul-mod, order-pos}
+use Rattle.parity.proofs.Modular.{undo-mul}
 
 -- the XOR of d over the steps of δ from 0 to u; e is an inverse of δ modulo q
 unfoldable pub walk : ℕ → ℕ → ℕ → (ℕ → ℕ) → ℕ → ℕ
@@ -40,11 +41,6 @@ permute n f p r p-lt r-lt rp pr =
     ∙ cong n (λ c. xorSum n (λ j. when (eqb (p j) c) (f c))) f
     (λ c l. only n (r c) (λ j. when (eqb (p j) c) (f c)) (r-lt c l) (λ j lj ne. when-ne (p j) c (f c) (λ h. ne (sym (rp j lj) ∙ ap r h))) ∙ when-eq (p (r c)) c (f c) (pr c l))
 
--- a factor may be reduced modulo q
-times-mod : (q a x : ℕ) → a * (x % q) % q ≡ a * x % q
-times-mod q a x =
-    ap (λ (k : ℕ). k % q) (mul-comm a (x % q)) ∙ mod-mul-mod x a q ∙ ap (λ (k : ℕ). k % q) (mul-comm x a)
-
 pub walk-start : (q δ e : ℕ) (d : ℕ → ℕ) → walk q δ e d 0 ≡ 0
 unfolding walk
 walk-start q δ e d =
@@ -58,17 +54,16 @@ walk-period q δ e d pos u =
 module _ (q δ e : ℕ) (d : ℕ → ℕ) (pos : 0 < q) (inv : δ * e % q ≡ 1) where
   -- δ and e cancel
   cancels : (u : ℕ) → δ * (u * e) % q ≡ u % q
-  cancels u =
-      ap (λ (k : ℕ). k % q) (mul-left-comm δ u e)
-      ∙ sym (times-mod q u (δ * e)) ∙ ap (λ (k : ℕ). u * k % q) inv ∙ ap (λ (k : ℕ). k % q) (mul-one u)
+  cancels u = ap (λ (k : ℕ). k % q) (sym (mul-assoc δ u e)) ∙ sym (mod-mul-mod (δ * u) e q) ∙ undo-mul q δ e u inv
 
   back : (j : ℕ) → j < q → δ * j % q * e % q ≡ j
-  back j l =
-      ap (λ (k : ℕ). k % q) (mul-comm (δ * j % q) e) ∙ times-mod q e (δ * j)
-      ∙ ap (λ (k : ℕ). k % q) (mul-left-comm e δ j ∙ ap (λ (k : ℕ). δ * k) (mul-comm e j)) ∙ cancels j ∙ mod-eq-of-lt l
+  back j l = undo-mul q δ e j inv ∙ mod-eq-of-lt l
 
-  forth : (c : ℕ) → c < q → δ * (c * e % q) % q ≡ c
-  forth c l = times-mod q δ (c * e) ∙ cancels c ∙ mod-eq-of-lt l
+  -- c * e steps lead to place c
+  pub forth : (c : ℕ) → c < q → δ * (c * e % q) % q ≡ c
+  forth c l =
+      ap (λ (k : ℕ). k % q) (mul-comm δ (c * e % q)) ∙ mod-mul-mod (c * e) δ q ∙ ap (λ (k : ℕ). k % q) (mul-comm (c * e) δ)
+      ∙ cancels c ∙ mod-eq-of-lt l
 
   module _ (cyc : Cyclic q d) where
     -- q steps meet each place once
@@ -103,11 +98,11 @@ module _ (q δ e : ℕ) (d : ℕ → ℕ) (pos : 0 < q) (inv : δ * e % q ≡ 1)
             ap (λ (k : ℕ). k % q) (add-mul u δ e) ∙ sym (add-mod-mod (u * e) (δ * e) q)
             ∙ ap (λ (k : ℕ). (u * e + k) % q) inv ∙ ap (λ (k : ℕ). k % q) (add-one (u * e))
 
-    pub quotient-step : (u : ℕ) → quotient q δ e d (u + δ) ≡ quotient q δ e d u ⊕ d u
+    quotient-step : (u : ℕ) → quotient q δ e d (u + δ) ≡ quotient q δ e d u ⊕ d u
     unfolding quotient
     quotient-step u = ap (λ (x : ℕ). x ⊕ xorSum q (walk q δ e d)) (walk-step u) ∙ simp xors
 
-pub quotient-cyclic : (q δ e : ℕ) (d : ℕ → ℕ) → 0 < q → q % 2 ≡ 1 → Cyclic q (quotient q δ e d)
+quotient-cyclic : (q δ e : ℕ) (d : ℕ → ℕ) → 0 < q → q % 2 ≡ 1 → Cyclic q (quotient q δ e d)
 unfolding quotient
 quotient-cyclic q δ e d pos odd = record {
   period = λ u. ap (λ (x : ℕ). x ⊕ xorSum q (walk q δ e d)) (walk-period q δ e d pos u);
@@ -116,11 +111,42 @@ quotient-cyclic q δ e d pos odd = record {
       ∙ self (xorSum q (walk q δ e d));
 }
 
-pub walk-lt : (q δ e k : ℕ) (d : ℕ → ℕ) → ((c : ℕ) → d c < 2 ^ k) → (u : ℕ) → walk q δ e d u < 2 ^ k
+walk-lt : (q δ e k : ℕ) (d : ℕ → ℕ) → ((c : ℕ) → d c < 2 ^ k) → (u : ℕ) → walk q δ e d u < 2 ^ k
 unfolding walk
 walk-lt q δ e k d h u = bound k (u * e % q) (λ j. d (δ * j)) (λ j l. h (δ * j))
 
-pub quotient-lt : (q δ e k : ℕ) (d : ℕ → ℕ) → ((c : ℕ) → d c < 2 ^ k) → (u : ℕ) → quotient q δ e d u < 2 ^ k
+quotient-lt : (q δ e k : ℕ) (d : ℕ → ℕ) → ((c : ℕ) → d c < 2 ^ k) → (u : ℕ) → quotient q δ e d u < 2 ^ k
 unfolding quotient
 quotient-lt q δ e k d h u =
     lt-pow k (walk q δ e d u) (xorSum q (walk q δ e d)) (walk-lt q δ e k d h u) (bound k q (walk q δ e d) (λ c l. walk-lt q δ e k d h c))
+
+-- g is d divided by the difference of the shifts y and x
+pub record Divided (q k x y : ℕ) (d g : ℕ → ℕ) : Type 0 where
+  pub cyclic : Cyclic q g
+  pub step : (c : ℕ) → g (c + y) ⊕ g (c + x) ≡ d c
+  pub width : (c : ℕ) → g c < 2 ^ k
+
+-- the quotient by δ, the step from x to y, moved by z, which is x negated: x + z is n turns
+pub divided : (q : ℕ) → Order q → (k n x y z δ e : ℕ) (d : ℕ → ℕ) → x + z ≡ n * q → (y + z) % q ≡ δ % q → δ * e % q ≡ 1 → Cyclic q d
+    → ((c : ℕ) → d c < 2 ^ k) → Divided q k x y d (λ c. quotient q δ e d (c + z))
+divided q o k n x y z δ e d around is inv cyc small = record {
+  cyclic = shift q Q turn z;
+  step = λ c.
+      ap₂ (λ (a b : ℕ). a ⊕ b)
+      (ap Q (add-assoc c y z) ∙ same q Q (turn .period) (c + (y + z)) (c + δ) (there c) ∙ quotient-step q δ e d pos inv cyc c)
+      (ap Q (add-assoc c x z ∙ ap (λ (i : ℕ). c + i) around) ∙ turns q Q (turn .period) n c)
+      ∙ simp xors;
+  width = λ c. quotient-lt q δ e k d small (c + z);
+}
+  where
+    pos : 0 < q
+    pos = order-pos q o
+
+    Q : ℕ → ℕ
+    Q = quotient q δ e d
+
+    turn : Cyclic q Q
+    turn = quotient-cyclic q δ e d pos (o .odd)
+
+    there : (c : ℕ) → (c + (y + z)) % q ≡ (c + δ) % q
+    there c = sym (add-mod-mod c (y + z) q) ∙ ap (λ (i : ℕ). (c + i) % q) is ∙ add-mod-mod c δ q

@@ -1,14 +1,13 @@
 -- Laws of the XOR of a function's values over a range.
-use mathlib.Core.Path.{_≡_, refl, sym, ap, ap₂, _∙_, subst}
-use mathlib.Core.Bool.{Bool, true, false}
+use mathlib.Core.Path.{_≡_, refl, sym, ap, ap₂, _∙_}
 use mathlib.Core.Logic.{⊎-elim}
-use Prim.Native.Nat.{ℕ, zero, suc, _+_, _*_, _/_, _%_, _^_, _<_, _≤_}
-use native.Mathlib.Nat.{add-suc, add-zero, eq-or-lt-of-le, le-of-suc-le-suc, not-suc-le-zero, lt-suc-self, le-step, lt-of-lt-of-le, ne-of-lt, suc-mul, zero-mul}
+use Prim.Native.Nat.{ℕ, zero, suc, _+_, _*_, _/_, _%_, _^_, _<_}
+use native.Mathlib.Nat.{add-suc, add-zero, eq-or-lt-of-le, le-of-suc-le-suc, not-suc-le-zero, lt-suc-self, le-step, ne-of-lt, suc-mul, zero-mul}
 use native.Mathlib.Numerals.{add-one}
 use native.Mathlib.Omega.{arith}
 use lib.Pow.{pow-pos}
-use Rattle.parity.specs.Xor.{_⊕_, xorSum, when}
-use Rattle.parity.proofs.Xors.{assoc, comm, self, swap, zero-l, zero-r, lt-pow, when-xor, xors}
+use Rattle.parity.specs.Xor.{_⊕_, xorSum}
+use Rattle.parity.proofs.Xors.{assoc, comm, self, swap, zero-l, zero-r, lt-pow}
 
 pub xs-zero : (f : ℕ → ℕ) → xorSum 0 f ≡ 0
 unfolding xorSum
@@ -87,11 +86,6 @@ pub bound : (k n : ℕ) (f : ℕ → ℕ) → ((i : ℕ) → i < n → f i < 2 ^
 unfolding xorSum
 bound k zero f h = pow-pos k
 bound k (suc n) f h = lt-pow k (xorSum n f) (f n) (bound k n f (λ i l. h i (le-step l))) (h n (lt-suc-self n))
-
-pub when-sum : (t : Bool) (n : ℕ) (f : ℕ → ℕ) → when t (xorSum n f) ≡ xorSum n (λ i. when t (f i))
-unfolding xorSum when
-when-sum true n f = refl
-when-sum false n f = sym (none n (λ i. 0) (λ i l. refl))
 
 -- an even number of equal terms cancels, an odd number is the term
 const-even : (k x : ℕ) → xorSum (k * 2) (λ i. x) ≡ 0

@@ -87,9 +87,6 @@ lt-pow k a b ha hb = xor-lt k a b ha hb
 pub eq-of-zero : (a b : ℕ) → a ⊕ b ≡ 0 → a ≡ b
 eq-of-zero a b h = sym (zero-r a) ∙ ap (λ (x : ℕ). a ⊕ x) (sym h) ∙ twice a b
 
-pub cancel-left : (a b c : ℕ) → a ⊕ b ≡ a ⊕ c → b ≡ c
-cancel-left a b c h = sym (twice a b) ∙ ap (λ (x : ℕ). a ⊕ x) h ∙ twice a c
-
 -- (a ⊕ b) ⊕ (c ⊕ d), the middle two exchanged
 pub swap : (a b c d : ℕ) → a ⊕ b ⊕ (c ⊕ d) ≡ a ⊕ c ⊕ (b ⊕ d)
 swap a b c d = simp xors

@@ -1,10 +1,10 @@
 -- An arrival, answer by answer.
-use mathlib.Core.Path.{_≡_, refl, sym, ap, _∙_, subst}
-use mathlib.Core.Bool.{Bool, true, false, cond, _&&_}
+use mathlib.Core.Path.{_≡_, refl, sym, ap, _∙_}
+use mathlib.Core.Bool.{Bool, true, false, cond}
 use mathlib.Core.List.{List, _++_, append-nil}
 use Prim.Native.Nat.{ℕ, _+_, _-_, _<_, _≤_}
 use native.Mathlib.Omega.{arith}
-use lib.Dec.{eqb, leb, ltb}
+use lib.Dec.{leb, ltb}
 use lib.ListN.{length, getD, take, drop, replicate, drop-of-length-le}
 use borrow.Author.Tests.{eq-eqb, ne-eqb}
 use Rattle.parity.specs.Xor.{_⊕_}
@@ -27,15 +27,14 @@ use Rattle.page.specs.Page as read
 use Rattle.page.proofs.Pages.{marks-of, page-facts, marks-within}
 use Rattle.page.proofs.Parts.{marks-part}
 use Rattle.session.specs.declared.Session.{Session}
-use Rattle.session.specs.declared.Outcome.{Outcome}
 use Rattle.session.specs.declared.Outcome.the-variants.{Taken, Again, Refused}
 use Rattle.session.specs.declared.Arrived.{Arrived}
 use Rattle.session.specs.Session.{overflows}
-use Rattle.session.specs.Arrival.{Opened, Page, Bad, clean, openPage, opened, outcomeOf, sessionAfter, isAccepted, wordAfter, scratchAfter, Arriving}
+use Rattle.session.specs.Arrival.{Page, Bad, clean, openPage, openWord, opened, outcomeOf, sessionAfter, isAccepted, scratchAfter, Arriving}
 use Rattle.session.specs.Steps.{Lent, Restored, Settling, Functions}
 
 -- a copy of the whole
-pub whole-copy : (from to : List ℕ) → length from ≡ length to → from ++ drop (length from) to ≡ from
+whole-copy : (from to : List ℕ) → length from ≡ length to → from ++ drop (length from) to ≡ from
 whole-copy from to size = rw (drop-of-length-le to {i = length from} (omega arith)) (append-nil from)
 
 -- ---- what is opened
@@ -44,43 +43,30 @@ module _ (s : Shape) (word scratch : List ℕ) where
   unfolding opened
   opened-shape h = rw h
 
-  module _ (law : Lawful s) where
-    pub opened-word : (length word ≡ wordLength s → ⊥) → opened clean s word scratch ≡ Bad Refusal.Length
-    unfolding opened
-    opened-word h = rw (law, ne-eqb (length word) (wordLength s) h)
-
-    pub opened-scratch : length word ≡ wordLength s → (length scratch ≡ scratchLength s → ⊥) → opened clean s word scratch ≡ Bad Refusal.Length
-    unfolding opened
-    opened-scratch e h = rw (law, eq-eqb (length word) (wordLength s) e, ne-eqb (length scratch) (scratchLength s) h)
-
-module _ (s : Shape) (word scratch copied symbols : List ℕ) (lent : Lent s word scratch copied symbols) where
-  pub opened-damage : (e : Refusal) → decodeOf s word ≡ decoded.Refused e → opened clean s word scratch ≡ Bad e
+  pub opened-word : Lawful s → (length word ≡ wordLength s → ⊥) → opened clean s word scratch ≡ Bad Refusal.Length
   unfolding opened
-  opened-damage e h =
-      rw (lent .lawful, eq-eqb (length word) (wordLength s) (lent .wordSize), eq-eqb (length scratch) (scratchLength s) (lent .scratchSize), h)
+  opened-word law h = rw (law, ne-eqb (length word) (wordLength s) h)
 
-  opened-read : (k : ℕ) → decodeOf s word ≡ decoded.Corrected k
-      → opened clean s word scratch ≡ openPage s (extractOf s (restored s word)) k (pageOf s (extractOf s (restored s word)))
+  pub opened-scratch : Lawful s → length word ≡ wordLength s → (length scratch ≡ scratchLength s → ⊥)
+      → opened clean s word scratch ≡ Bad Refusal.Length
   unfolding opened
-  opened-read k h =
-      rw (lent .lawful, eq-eqb (length word) (wordLength s) (lent .wordSize), eq-eqb (length scratch) (scratchLength s) (lent .scratchSize), h)
+  opened-scratch law e h = rw (law, eq-eqb (length word) (wordLength s) e, ne-eqb (length scratch) (scratchLength s) h)
 
-  pub opened-bad : (k : ℕ) → decodeOf s word ≡ decoded.Corrected k → (e : Refusal) → pageOf s (extractOf s (restored s word)) ≡ page.Refused e
-      → opened clean s word scratch ≡ Bad e
-  opened-bad k h e p = opened-read k h ∙ ap (openPage s (extractOf s (restored s word)) k) p
-
-  pub opened-page : (k : ℕ) → decodeOf s word ≡ decoded.Corrected k → (number c : ℕ) → pageOf s (extractOf s (restored s word)) ≡ page.Page number c
-      → opened clean s word scratch ≡ Page number (marksOf s (extractOf s (restored s word))) k
-  opened-page k h number c p = opened-read k h ∙ ap (openPage s (extractOf s (restored s word)) k) p
+  -- past tests 1 and 2 the word is read
+  opened-read : {copied symbols : List ℕ} → Lent s word scratch copied symbols
+      → opened clean s word scratch ≡ openWord s (restored s word) (decodeOf s word)
+  unfolding opened
+  opened-read lent =
+      rw (lent .lawful, eq-eqb (length word) (wordLength s) (lent .wordSize), eq-eqb (length scratch) (scratchLength s) (lent .scratchSize))
 
 -- ---- a refusal by tests 1 and 2 leaves the scratch as it was
-pub shape-scratch : (x : List ℕ) → x ≡ answer.scratchAfter Refusal.Shape x
+pub shape-scratch : {x : List ℕ} → x ≡ answer.scratchAfter Refusal.Shape x
 unfolding answer.scratchAfter
-shape-scratch x = refl
+shape-scratch = refl
 
-pub length-scratch : (x : List ℕ) → x ≡ answer.scratchAfter Refusal.Length x
+pub length-scratch : {x : List ℕ} → x ≡ answer.scratchAfter Refusal.Length x
 unfolding answer.scratchAfter
-length-scratch x = refl
+length-scratch = refl
 
 -- ---- a later one leaves zeros
 abbrev Zeros : Refusal → Type 0
@@ -93,7 +79,7 @@ damage-zeros false b m e h x = let same : Refusal.Width ≡ e = cc in rw (sym sa
 damage-zeros true false m e h x = let same : Refusal.Uncorrectable ≡ e = cc in rw (sym same)
 damage-zeros true true m e h x = let z : _≡_ {A = ℕ} 0 1 = cc in absurd (omega arith)
 
-pub read-zeros : (s : Shape) (word : List ℕ) → Lawful s → length word ≡ wordLength s → (e : Refusal) → decodeOf s word ≡ decoded.Refused e → Zeros e
+read-zeros : (s : Shape) (word : List ℕ) → Lawful s → length word ≡ wordLength s → (e : Refusal) → decodeOf s word ≡ decoded.Refused e → Zeros e
 unfolding decodeOf
 read-zeros s word law size e h =
     damage-zeros (narrow (s .b) word) (decode.correctable s word) (count (wordLength s) (decode.located s (at word))) e
@@ -110,7 +96,7 @@ fault-zeros true true true false g number c e h x = let same : Refusal.Function 
 fault-zeros true true true true false number c e h x = let same : Refusal.Tail ≡ e = cc in rw (sym same)
 fault-zeros true true true true true number c e h x = let z : _≡_ {A = ℕ} 0 1 = cc in absurd (omega arith)
 
-pub page-zeros : (s : Shape) (symbols : List ℕ) → Lawful s → length symbols ≡ infoLength s → (e : Refusal) → pageOf s symbols ≡ page.Refused e → Zeros e
+page-zeros : (s : Shape) (symbols : List ℕ) → Lawful s → length symbols ≡ infoLength s → (e : Refusal) → pageOf s symbols ≡ page.Refused e → Zeros e
 unfolding pageOf
 page-zeros s symbols law size e h =
     fault-zeros (narrow (s .b) symbols) (ltb (at symbols 0) 1024) (leb (at symbols 1) (read.most s)) (read.functions (take (at symbols 1) (drop 2 symbols)))
@@ -118,104 +104,110 @@ page-zeros s symbols law size e h =
     (rw (law, eq-eqb (length symbols) (infoLength s) size) at h)
 
 -- ---- the answers
-module _ (σ : Session) (word scratch : List ℕ) where
+
+-- the scratch after a page was read, whatever the answer
+page-scratch : (scratch : List ℕ) (number k : ℕ) (a b : Bool)
+    → scratchAfter scratch (cond a (Again number k) (cond b (Refused Refusal.Overflow) (Taken number k))) ≡ replicate (length scratch) 0
+unfolding answer.scratchAfter
+page-scratch scratch number k true b = refl
+page-scratch scratch number k false true = refl
+page-scratch scratch number k false false = refl
+
+module _ {σ : Session} {word scratch scratch′ : List ℕ} {r : Arrived} where
   -- turned down
-  pub arriving-bad : (e : Refusal) (scratch′ : List ℕ) (r : Arrived) → opened clean (σ .shape) word scratch ≡ Bad e
-      → scratch′ ≡ answer.scratchAfter e scratch → (r .session ≡ σ) × (r .outcome ≡ Refused e) → Arriving clean σ word scratch word scratch′ r
+  pub arriving-bad : {e : Refusal} → opened clean (σ .shape) word scratch ≡ Bad e → scratch′ ≡ answer.scratchAfter e scratch
+      → (r .session ≡ σ) × (r .outcome ≡ Refused e) → Arriving clean σ word scratch word scratch′ r
   unfolding outcomeOf sessionAfter
-  arriving-bad e scratch′ r o x h = record {
+  arriving-bad o x h = record {
     outcome = h .1 ∙ rw o;
     session = h .0 ∙ rw o;
     wordLeft = rw (h .1);
     scratchLeft = rw (h .1) x;
   }
 
-  -- the scratch after a page was read, whatever the answer
-  page-scratch : (number : ℕ) (marks : List ℕ) (k : ℕ) (a b : Bool)
-      → scratchAfter scratch (cond a (Again number k) (cond b (Refused Refusal.Overflow) (Taken number k))) ≡ replicate (length scratch) 0
-  unfolding answer.scratchAfter
-  page-scratch number marks k true b = refl
-  page-scratch number marks k false true = refl
-  page-scratch number marks k false false = refl
-
-  pub arriving-page : (number : ℕ) (marks : List ℕ) (k : ℕ) (word′ scratch′ : List ℕ) (r : Arrived)
-      → opened clean (σ .shape) word scratch ≡ Page number marks k → Settling σ (Page number marks k) r
+  -- a page was read
+  arriving-page : {number k : ℕ} {marks word′ : List ℕ} → opened clean (σ .shape) word scratch ≡ Page number marks k → Settling σ (Page number marks k) r
       → word′ ≡ cond (isAccepted (r .outcome)) (restored (σ .shape) word) word → scratch′ ≡ replicate (length scratch) 0
       → Arriving clean σ word scratch word′ scratch′ r
   unfolding outcomeOf
-  arriving-page number marks k word′ scratch′ r o settled w x = record {
+  arriving-page {number} {k} {marks} o settled w x = record {
     outcome = settled .outcome ∙ ap (outcomeOf σ) (sym o);
     session = settled .session ∙ ap (sessionAfter σ) (sym o);
     wordLeft = w;
-    scratchLeft = x ∙ sym (ap (scratchAfter scratch) (settled .outcome) ∙ page-scratch number marks k (getD (σ .taken) number false) (overflows (σ .calls) marks));
+    scratchLeft = x ∙ sym (ap (scratchAfter scratch) (settled .outcome) ∙ page-scratch scratch number k (getD (σ .taken) number false) (overflows (σ .calls) marks));
   }
 
 -- ---- after reading: the page in the gathered symbols
-module _ (σ : Session) (word scratch copied symbols : List ℕ) (k : ℕ) (lent : Lent (σ .shape) word scratch copied symbols) (read-ok : Restored (σ .shape) word copied k) (gathered : List ℕ) (got : gathered ≡ extractOf (σ .shape) copied) (found : PageRead) (is : found ≡ pageOf (σ .shape) gathered) where
-  the-symbols : gathered ≡ extractOf (σ .shape) (restored (σ .shape) word)
-  the-symbols = got ∙ ap (extractOf (σ .shape)) (read-ok .copied)
 
-  the-page : pageOf (σ .shape) (extractOf (σ .shape) (restored (σ .shape) word)) ≡ found
-  the-page = ap (pageOf (σ .shape)) (sym the-symbols) ∙ sym is
+-- the word was read, its symbols gathered, the scratch cleared, and the page looked for
+pub record Looked (σ : Session) (word scratch copied symbols : List ℕ) (k : ℕ) (scratch′ symbols′ : List ℕ) (found : PageRead) : Type 0 where
+  pub lent : Lent (σ .shape) word scratch copied symbols
+  pub restored : Restored (σ .shape) word copied k
+  pub cleared : scratch′ ≡ replicate (length scratch) 0
+  pub gathered : symbols′ ≡ extractOf (σ .shape) copied
+  pub page : found ≡ pageOf (σ .shape) symbols′
 
-  gathered-size : length gathered ≡ infoLength (σ .shape)
+module _ {σ : Session} {word scratch copied symbols : List ℕ} {k : ℕ} {scratch′ symbols′ : List ℕ} {found : PageRead} (looked : Looked σ word scratch copied symbols k scratch′ symbols′ found) where
+  gathered-size : length symbols′ ≡ infoLength (σ .shape)
   unfolding extractOf
-  gathered-size = ap length got ∙ length-tabulate (infoLength (σ .shape)) (λ j. at copied (infoPosition (σ .shape) j))
+  gathered-size = ap length (looked .gathered) ∙ length-tabulate (infoLength (σ .shape)) (λ j. at copied (infoPosition (σ .shape) j))
 
-  pub open-bad : (e : Refusal) → found ≡ page.Refused e → (scratch′ : List ℕ) → scratch′ ≡ replicate (length scratch) 0
-      → (r : Arrived) → (r .session ≡ σ) × (r .outcome ≡ Refused e) → Arriving clean σ word scratch word scratch′ r
-  open-bad e h scratch′ x r answered =
-      arriving-bad σ word scratch e scratch′ r
-      (opened-bad (σ .shape) word scratch copied symbols lent k (read-ok .answer) e (the-page ∙ h))
-      (x ∙ sym (page-zeros (σ .shape) gathered (lent .lawful) gathered-size e (sym is ∙ h) scratch)) answered
+  -- what is opened is the page found
+  opened-found : opened clean (σ .shape) word scratch ≡ openPage (σ .shape) symbols′ k found
+  opened-found =
+      opened-read (σ .shape) word scratch (looked .lent)
+      ∙ rw (looked .restored .answer, ← looked .restored .copied, ← looked .gathered, ← looked .page)
 
-  module _ (number c : ℕ) (h : found ≡ page.Page number c) where
+  pub open-bad : {e : Refusal} {r : Arrived} → found ≡ page.Refused e → (r .session ≡ σ) × (r .outcome ≡ Refused e)
+      → Arriving clean σ word scratch word scratch′ r
+  open-bad {e} h answered =
+      arriving-bad (opened-found ∙ ap (openPage (σ .shape) symbols′ k) h)
+      (looked .cleared ∙ sym (page-zeros (σ .shape) symbols′ (looked .lent .lawful) gathered-size e (sym (looked .page) ∙ h) scratch)) answered
+
+  module _ {number c : ℕ} (h : found ≡ page.Page number c) where
     -- the marks, as the part of the symbols that the code lends
-    the-marks : marksOf (σ .shape) gathered ≡ take (2 + c - 2) (drop 2 gathered)
-    the-marks = marks-of (σ .shape) gathered number c (sym is ∙ h) ∙ sym (marks-part c gathered)
+    the-marks : marksOf (σ .shape) symbols′ ≡ take (2 + c - 2) (drop 2 symbols′)
+    the-marks = marks-of (σ .shape) symbols′ number c (sym (looked .page) ∙ h) ∙ sym (marks-part c symbols′)
 
-    pub open-asks : (number < 1024) × Functions (take (2 + c - 2) (drop 2 gathered))
+    pub open-asks : (number < 1024) × Functions (take (2 + c - 2) (drop 2 symbols′))
     open-asks =
-        let f = page-facts (σ .shape) gathered number c (sym is ∙ h) in
+        let f = page-facts (σ .shape) symbols′ number c (sym (looked .page) ∙ h) in
         (f .page, rw (← the-marks) (record { below = λ i l. f .marks i (rw (f .length) at l) }))
 
-    pub open-room : 2 + c ≤ length gathered
-    open-room = marks-within (σ .shape) gathered number c (sym is ∙ h)
+    pub open-room : 2 + c ≤ length symbols′
+    open-room = marks-within (σ .shape) symbols′ number c (sym (looked .page) ∙ h)
 
-    pub open-page : (r : Arrived) → Settling σ (Page number (take (2 + c - 2) (drop 2 gathered)) k) r
-        → (word′ scratch′ : List ℕ) → word′ ≡ cond (isAccepted (r .outcome)) copied word → scratch′ ≡ replicate (length scratch) 0
-        → Arriving clean σ word scratch word′ scratch′ r
-    open-page r settled word′ scratch′ w x =
-        arriving-page σ word scratch number (marksOf (σ .shape) gathered) k word′ scratch′ r
-        (opened-page (σ .shape) word scratch copied symbols lent k (read-ok .answer) number c (the-page ∙ h)
-        ∙ ap (λ (xs : List ℕ). Page number (marksOf (σ .shape) xs) k) (sym the-symbols))
-        (rw the-marks settled) (w ∙ ap (λ (v : List ℕ). cond (isAccepted (r .outcome)) v word) (read-ok .copied)) x
+    module _ {r : Arrived} (settled : Settling σ (Page number (take (2 + c - 2) (drop 2 symbols′)) k) r) where
+      open-page : {word′ : List ℕ} → word′ ≡ cond (isAccepted (r .outcome)) copied word → Arriving clean σ word scratch word′ scratch′ r
+      open-page w =
+          arriving-page (opened-found ∙ ap (openPage (σ .shape) symbols′ k) h) (rw the-marks settled)
+          (w ∙ ap (λ (v : List ℕ). cond (isAccepted (r .outcome)) v word) (looked .restored .copied)) (looked .cleared)
 
--- the word as left: the copy put back where the outcome accepts, and untouched where it does not
-pub put-back : (copied word word′ : List ℕ) (a accepted : Bool) → length copied ≡ length word → a ≡ accepted → a ≡ true
-    → word′ ≡ copied ++ drop (length copied) word → word′ ≡ cond accepted copied word
-put-back copied word word′ a accepted size e t h = rw (sym e ∙ t) (h ∙ whole-copy copied word size)
+      -- the copy is put back where the outcome accepts, and the word untouched where it does not
+      pub open-accepts : isAccepted (r .outcome) ≡ true → {word′ : List ℕ} → word′ ≡ copied ++ drop (length copied) word
+          → Arriving clean σ word scratch word′ scratch′ r
+      open-accepts a w = open-page (rw a (w ∙ whole-copy copied word (looked .lent .copySize ∙ sym (looked .lent .wordSize))))
 
-pub left-alone : (copied word : List ℕ) (a accepted : Bool) → a ≡ accepted → a ≡ false → word ≡ cond accepted copied word
-left-alone copied word a accepted e f = rw (sym e ∙ f)
+      pub open-refuses : isAccepted (r .outcome) ≡ false → Arriving clean σ word scratch word scratch′ r
+      open-refuses a = open-page (rw a)
 
 -- ---- reading, on a copy of the word
-module _ (σ : Session) (word scratch copied symbols : List ℕ) (lent : Lent (σ .shape) word scratch copied symbols) (loaded : List ℕ) (load : loaded ≡ word ++ drop (length word) copied) (left : List ℕ) (found : Decoded) (dec : Decoding (σ .shape) loaded left found) where
+module _ (σ : Session) {word scratch copied symbols : List ℕ} (lent : Lent (σ .shape) word scratch copied symbols) {loaded : List ℕ} (load : loaded ≡ word ++ drop (length word) copied) {left : List ℕ} {found : Decoded} (dec : Decoding (σ .shape) loaded left found) where
   same-word : loaded ≡ word
   same-word = load ∙ whole-copy word copied (lent .wordSize ∙ sym (lent .copySize))
 
   the-answer : decodeOf (σ .shape) word ≡ found
   the-answer = ap (decodeOf (σ .shape)) (sym same-word) ∙ sym (dec .answer)
 
-  pub read-bad : (e : Refusal) → found ≡ decoded.Refused e → (scratch′ : List ℕ) → scratch′ ≡ replicate (length scratch) 0
-      → (r : Arrived) → (r .session ≡ σ) × (r .outcome ≡ Refused e) → Arriving clean σ word scratch word scratch′ r
-  read-bad e h scratch′ x r answered =
-      arriving-bad σ word scratch e scratch′ r (opened-damage (σ .shape) word scratch copied symbols lent e (the-answer ∙ h))
+  pub read-bad : {e : Refusal} {scratch′ : List ℕ} {r : Arrived} → found ≡ decoded.Refused e → scratch′ ≡ replicate (length scratch) 0
+      → (r .session ≡ σ) × (r .outcome ≡ Refused e) → Arriving clean σ word scratch word scratch′ r
+  read-bad {e} h x answered =
+      arriving-bad (opened-read (σ .shape) word scratch lent ∙ ap (openWord (σ .shape) (restored (σ .shape) word)) (the-answer ∙ h))
       (x ∙ sym (read-zeros (σ .shape) word (lent .lawful) (lent .wordSize) e (the-answer ∙ h) scratch)) answered
 
-  pub read-good : (k : ℕ) → found ≡ decoded.Corrected k → Lent (σ .shape) word scratch left symbols × Restored (σ .shape) word left k
+  pub read-good : {k : ℕ} → found ≡ decoded.Corrected k → Lent (σ .shape) word scratch left symbols × Restored (σ .shape) word left k
   unfolding restored
-  read-good k h =
+  read-good h =
       let is : left ≡ restored (σ .shape) word = dec .word ∙ ap (decode.wordAfter (σ .shape) loaded) h ∙ ap (restored (σ .shape)) same-word in (
         record {
           lawful = lent .lawful;

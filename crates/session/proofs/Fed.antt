@@ -1,6 +1,6 @@
 -- The session against the plain machine: they hold the same after every arrival, from a fresh session on.
 use mathlib.Core.Path.{_≡_, refl, sym, ap, ap₂, _∙_, subst}
-use mathlib.Core.Bool.{Bool, true, false, cond, _||_}
+use mathlib.Core.Bool.{Bool, true, false, cond, _||_, or-false}
 use mathlib.Core.List.{List, [], _∷_}
 use mathlib.Core.Logic.{⊎-elim}
 use Prim.Native.Nat.{ℕ, zero, suc, _+_, _*_, _^_, _<_, _≤_}
@@ -22,7 +22,7 @@ use Rattle.session.specs.declared.Outcome.the-variants.{Taken, Again, Re
 use Rattle.session.specs.Session.{freshOf, countOf, added, overflows, recorded}
 use Rattle.session.specs.Arrival.{Way, Sound, Opened, Page, Bad, opened, outcomeOf, sessionBy, sessionAfter}
 use Rattle.session.specs.Recording.{Arrival, openedAt, arrivalAt, TurnedDown, Run, stop, step, Machine, start, fed, feed, machine, Agrees, answerAt, EveryList, answerTo}
-use Rattle.session.proofs.Machine.{or-false, weighed, fed-weight}
+use Rattle.session.proofs.Machine.{weighed, fed-weight}
 use Rattle.session.proofs.Openings.{Sane, opened-sane}
 
 -- ---- one arrival
@@ -87,7 +87,7 @@ taken-after s σ m g number l new p lp =
     ⊎-elim
     (λ (t : eqb p number ≡ true). rw (t, eqb-true p number t, new) (getD-set-same (σ .taken) number true false (rw (g .size) l)))
     (λ (f : eqb p number ≡ false).
-    rw f (getD-set-other (σ .taken) number p true false (eqb-false p number f) ∙ g .agrees .taken p lp ∙ or-false (m .pages p)))
+    rw f (getD-set-other (σ .taken) number p true false (eqb-false p number f) ∙ g .agrees .taken p lp ∙ sym (or-false (m .pages p))))
     (either (eqb p number))
 
 -- after a page the session holds what the machine then holds

@@ -1,6 +1,6 @@
 -- Laws of the plain machine: what one more arrival adds to it.
 use mathlib.Core.Path.{_≡_, refl, sym, ap, _∙_}
-use mathlib.Core.Bool.{Bool, true, false, cond, _||_}
+use mathlib.Core.Bool.{Bool, true, false, cond, _||_, or-false}
 use mathlib.Core.List.{List, [], _∷_}
 use mathlib.Core.Logic.{⊎-elim}
 use Prim.Native.Nat.{ℕ, zero, suc, _+_, _<_}
@@ -8,37 +8,28 @@ use native.Mathlib.Nat.{not-suc-le-zero, le-of-suc-le-suc, add-zero}
 use native.Mathlib.Omega.{arith}
 use lib.Dec.{eqb}
 use lib.ListN.{length, take}
-use borrow.Author.Tests.{eq-eqb, ne-eqb, eqb-true, eqb-false}
+use borrow.Author.Tests.{eq-eqb, ne-eqb, eqb-true}
 use Rattle.parity.specs.Count.{sum}
 use Rattle.parity.proofs.Tests.{either}
 use Rattle.parity.proofs.Sums.{sum-cong, sum-add, sum-only}
 use Rattle.gtb.specs.declared.Shape.{Shape}
+use Rattle.decoder.proofs.Decided.{same-eqb}
 use Rattle.session.specs.Session.{countOf}
 use Rattle.session.specs.Arrival.{Way, Opened, Page, Bad}
 use Rattle.session.specs.Recording.{Arrival, openedAt, hasNumber, Machine, fed, feed, machine}
-
-eqb-sym : (a b : ℕ) → eqb a b ≡ eqb b a
-eqb-sym a b =
-    ⊎-elim (λ (t : eqb a b ≡ true). t ∙ sym (eq-eqb b a (sym (eqb-true a b t))))
-    (λ (f : eqb a b ≡ false). f ∙ sym (ne-eqb b a (λ h. eqb-false a b f (sym h))))
-    (either (eqb a b))
-
-pub or-false : (b : Bool) → b ≡ (b || false)
-or-false true = refl
-or-false false = refl
 
 -- the set after a page: the page, and what it held
 fed-pages : (m : Machine) (number : ℕ) (marks : List ℕ) (known : Bool) → m .pages number ≡ known → (p : ℕ)
     → fed m number marks known .pages p ≡ (m .pages p || eqb number p)
 fed-pages m number marks true h p =
-    ⊎-elim (λ (t : eqb number p ≡ true). rw (← eqb-true number p t, h)) (λ (f : eqb number p ≡ false). rw f (or-false (m .pages p)))
+    ⊎-elim (λ (t : eqb number p ≡ true). rw (← eqb-true number p t, h)) (λ (f : eqb number p ≡ false). rw f (sym (or-false (m .pages p))))
     (either (eqb number p))
-fed-pages m number marks false h p = ap (λ (b : Bool). m .pages p || b) (eqb-sym p number)
+fed-pages m number marks false h p = ap (λ (b : Bool). m .pages p || b) (same-eqb p number number p sym sym)
 
 -- and after an arrival
 pub feed-pages : (m : Machine) (o : Opened) (p : ℕ) → feed m o .pages p ≡ (m .pages p || hasNumber p o)
 feed-pages m (Page number marks k) p = fed-pages m number marks (m .pages number) refl p
-feed-pages m (Bad e) p = or-false (m .pages p)
+feed-pages m (Bad e) p = sym (or-false (m .pages p))
 
 -- a new page adds its marks
 pub fed-counts : (m : Machine) (number : ℕ) (marks : List ℕ) (known : Bool) (f : ℕ)

@@ -1,10 +1,9 @@
 -- Marks counted one after the other.
-use mathlib.Core.Path.{_≡_, refl, sym, ap, ap₂, _∙_, subst}
-use mathlib.Core.Bool.{Bool, true, false, not}
+use mathlib.Core.Path.{_≡_, refl, sym, ap, _∙_, subst}
+use mathlib.Core.Bool.{true, false, not}
 use mathlib.Core.List.{List, [], _∷_, _++_}
-use mathlib.Core.Logic.{⊎-elim}
 use Prim.Native.Nat.{ℕ, zero, suc, _+_, _^_, _<_, _≤_, zero-le}
-use native.Mathlib.Nat.{le-refl, add-zero, add-assoc, zero-add}
+use native.Mathlib.Nat.{add-zero, add-assoc}
 use native.Mathlib.Decide.{ℕ-discrete}
 use native.Mathlib.Numerals.{add-one}
 use native.Mathlib.Omega.{arith}
@@ -12,15 +11,15 @@ use lib.Dec.{eqb, leb}
 use lib.ListN.{length, getD, take, drop, set, length-set, take-append-drop}
 use lib.Seq.{take-suc, take-all, getD-set-same, getD-set-other}
 use borrow.Author.Tests.{eq-eqb, ne-eqb, le-leb, lt-leb}
-use Rattle.parity.specs.Count.{bit, any}
-use Rattle.parity.specs.Lists.{tabulate}
-use Rattle.parity.proofs.Lists.{length-tabulate, at-tabulate, is-tabulate, tabulate-cong}
+use Rattle.parity.specs.Count.{bit}
+use Rattle.parity.proofs.Lists.{length-tabulate, at-tabulate, is-tabulate}
 use Rattle.parity.proofs.Tests.{clash, any-intro, any-none}
 use Rattle.parity.proofs.Sums.{bit-true, bit-false}
 use Rattle.session.specs.Session.{countOf, added, overflows}
 use Rattle.session.specs.Steps.{Adding, Counts, Functions}
 
-pub count-append : (f : ℕ) (xs ys : List ℕ) → countOf f (xs ++ ys) ≡ countOf f xs + countOf f ys
+-- ---- how many marks are for a function
+count-append : (f : ℕ) (xs ys : List ℕ) → countOf f (xs ++ ys) ≡ countOf f xs + countOf f ys
 unfolding countOf
 count-append f [] ys = omega arith
 count-append f (x ∷ xs) ys = ap (λ (k : ℕ). bit (eqb x f) + k) (count-append f xs ys) ∙ sym (add-assoc (bit (eqb x f)) (countOf f xs) (countOf f ys))
@@ -31,26 +30,42 @@ unfolding countOf
 count-more f marks i l =
     rw (add-one, take-suc marks i 0) (count-append f (take i marks) (getD marks i 0 ∷ []) ∙ ap (λ (k : ℕ). countOf f (take i marks) + k) (add-zero (bit (eqb (getD marks i 0) f))))
 
+-- it is for its own function
+count-own : (marks : List ℕ) (i : ℕ) → i < length marks
+    → countOf (getD marks i 0) (take (i + 1) marks) ≡ countOf (getD marks i 0) (take i marks) + 1
+count-own marks i l =
+    let m : ℕ = getD marks i 0 in
+    count-more m marks i l ∙ ap (λ (x : ℕ). countOf m (take i marks) + x) (bit-true (eq-eqb m m refl))
+
+-- and for no other
+count-other : (f : ℕ) (marks : List ℕ) (i : ℕ) → i < length marks → (f ≡ getD marks i 0 → ⊥)
+    → countOf f (take (i + 1) marks) ≡ countOf f (take i marks)
+count-other f marks i l n =
+    count-more f marks i l ∙ ap (λ (x : ℕ). countOf f (take i marks) + x) (bit-false (ne-eqb (getD marks i 0) f (λ h. n (sym h))))
+    ∙ add-zero (countOf f (take i marks))
+
 count-part : (f : ℕ) (marks : List ℕ) (i : ℕ) → countOf f (take i marks) ≤ countOf f marks
 count-part f marks i =
     let e : countOf f marks ≡ countOf f (take i marks) + countOf f (drop i marks) = ap (countOf f) (sym (take-append-drop i marks)) ∙ count-append f (take i marks) (drop i marks) in
     omega arith
 
-added-at : (calls marks : List ℕ) (f : ℕ) → f < 256 → getD (added calls marks) f 0 ≡ getD calls f 0 + countOf f marks
-unfolding added
-added-at calls marks f l = at-tabulate 256 (λ f. getD calls f 0 + countOf f marks) f l
+-- ---- the counts with marks added
+module _ (calls marks : List ℕ) where
+  added-at : (f : ℕ) → f < 256 → getD (added calls marks) f 0 ≡ getD calls f 0 + countOf f marks
+  unfolding added
+  added-at f l = at-tabulate 256 (λ f. getD calls f 0 + countOf f marks) f l
 
-pub added-size : (calls marks : List ℕ) → length (added calls marks) ≡ 256
-unfolding added
-added-size calls marks = length-tabulate 256 (λ f. getD calls f 0 + countOf f marks)
+  added-size : length (added calls marks) ≡ 256
+  unfolding added
+  added-size = length-tabulate 256 (λ f. getD calls f 0 + countOf f marks)
 
 -- no mark: the counts themselves
-pub added-none : (calls : List ℕ) → length calls ≡ 256 → calls ≡ added calls []
+added-none : (calls : List ℕ) → length calls ≡ 256 → calls ≡ added calls []
 unfolding added countOf
 added-none calls len = is-tabulate 256 (λ f. getD calls f 0 + 0) calls len (λ f l. sym (add-zero (getD calls f 0)))
 
 -- one turn of the loop: the count of mark i goes up by one
-pub added-more : (calls marks : List ℕ) (i k : ℕ) → i < length marks → getD marks i 0 < 256
+added-more : (calls marks : List ℕ) (i k : ℕ) → i < length marks → getD marks i 0 < 256
     → k ≡ getD (added calls (take i marks)) (getD marks i 0) 0
     → set (added calls (take i marks)) (getD marks i 0) (k + 1) ≡ added calls (take (i + 1) marks)
 unfolding added
@@ -67,33 +82,31 @@ added-more calls marks i k l small e =
     go : (f : ℕ) → f < 256 → Dec (f ≡ m) → getD (set before m (k + 1)) f 0 ≡ getD calls f 0 + countOf f (take (i + 1) marks)
     go f lf (yes h) =
         let a : getD (set before m (k + 1)) f 0 ≡ k + 1 = ap (λ (x : ℕ). getD (set before m (k + 1)) x 0) h ∙ getD-set-same before m (k + 1) 0 (rw (added-size calls (take i marks)) small) in
-        let b = added-at calls (take i marks) m small in
-        let d = count-more m marks i l ∙ ap (λ (x : ℕ). countOf m (take i marks) + x) (bit-true (eq-eqb m m refl)) in
-        a ∙ rw h (omega arith)
+        a ∙ rw h (omega (arith, added-at calls (take i marks) m small, count-own marks i l))
     go f lf (no n) =
         getD-set-other before m f (k + 1) 0 n ∙ added-at calls (take i marks) f lf
-        ∙ ap (λ (x : ℕ). getD calls f 0 + x) (sym (count-more f marks i l ∙ ap (λ (x : ℕ). countOf f (take i marks) + x) (bit-false (ne-eqb m f (λ h. n (sym h)))) ∙ add-zero (countOf f (take i marks))))
+        ∙ ap (λ (x : ℕ). getD calls f 0 + x) (sym (count-other f marks i l n))
 
 -- a count at its limit with a mark to come
-pub passes : (calls marks : List ℕ) (i : ℕ) → i < length marks → getD marks i 0 < 256
+passes : (calls marks : List ℕ) (i : ℕ) → i < length marks → getD marks i 0 < 256
     → getD (added calls (take i marks)) (getD marks i 0) 0 ≡ 4294967295 → overflows calls marks ≡ true
 unfolding overflows
 passes calls marks i l small e =
     let m : ℕ = getD marks i 0 in
-    let a = added-at calls (take i marks) (getD marks i 0) small in
-    let b = count-more (getD marks i 0) marks i l ∙ ap (λ (x : ℕ). countOf (getD marks i 0) (take i marks) + x) (bit-true (eq-eqb (getD marks i 0) (getD marks i 0) refl)) in
-    let d = count-part (getD marks i 0) marks (i + 1) in
-    any-intro 256 (λ f. leb (2 ^ 32) (getD calls f 0 + countOf f marks)) (getD marks i 0) small (le-leb (2 ^ 32) (getD calls (getD marks i 0) 0 + countOf (getD marks i 0) marks) (omega arith))
+    any-intro 256 (λ f. leb (2 ^ 32) (getD calls f 0 + countOf f marks)) m small
+    (le-leb (2 ^ 32) (getD calls m 0 + countOf m marks)
+    (omega (arith, added-at calls (take i marks) m small, count-own marks i l, count-part m marks (i + 1))))
 
 -- counts that fit after all marks
-pub passes-none : (calls marks : List ℕ) → ((f : ℕ) → getD (added calls marks) f 0 < 2 ^ 32) → overflows calls marks ≡ false
+passes-none : (calls marks : List ℕ) → ((f : ℕ) → getD (added calls marks) f 0 < 2 ^ 32) → overflows calls marks ≡ false
 unfolding overflows
 passes-none calls marks h =
     any-none 256 (λ f. leb (2 ^ 32) (getD calls f 0 + countOf f marks))
     (λ f l. lt-leb (2 ^ 32) (getD calls f 0 + countOf f marks) (subst (λ (x : ℕ). x < 2 ^ 32) (added-at calls marks f l) (h f)))
 
+-- ---- the loop
 -- the counts stay below their limit
-pub set-below : (calls : List ℕ) (m k : ℕ) → ((f : ℕ) → getD calls f 0 < 2 ^ 32) → k < 2 ^ 32 → (f : ℕ) → getD (set calls m k) f 0 < 2 ^ 32
+set-below : (calls : List ℕ) (m k : ℕ) → ((f : ℕ) → getD calls f 0 < 2 ^ 32) → k < 2 ^ 32 → (f : ℕ) → getD (set calls m k) f 0 < 2 ^ 32
 set-below [] m k h lk f = h f
 set-below (x ∷ calls) zero k h lk zero = lk
 set-below (x ∷ calls) zero k h lk (suc f) = h (suc f)
@@ -107,31 +120,32 @@ pub record Turn (calls marks calls′ : List ℕ) (i : ℕ) : Type 0 where
   pub below : (f : ℕ) → getD calls′ f 0 < 2 ^ 32
   pub small : Functions marks
 
-pub turn-none : (calls marks : List ℕ) → Counts calls → Functions marks → Turn calls marks calls 0
-turn-none calls marks h small = record { upto = zero-le; sums = added-none calls (h .size); below = h .below; small = small }
+pub turn-none : {calls marks : List ℕ} → Counts calls → Functions marks → Turn calls marks calls 0
+turn-none {calls} h small = record { upto = zero-le; sums = added-none calls (h .size); below = h .below; small = small }
 
-pub turn-more : (calls marks calls′ : List ℕ) (i : ℕ) → Turn calls marks calls′ i → i < length marks
-    → getD calls′ (getD marks i 0) 0 + 1 < 2 ^ 32
-    → Turn calls marks (set calls′ (getD marks i 0) (getD calls′ (getD marks i 0) 0 + 1)) (i + 1)
-turn-more calls marks calls′ i h l lk = record {
-  upto = omega arith;
-  sums = ap (λ (xs : List ℕ). set xs (getD marks i 0) (getD calls′ (getD marks i 0) 0 + 1)) (h .sums)
-      ∙ added-more calls marks i (getD calls′ (getD marks i 0) 0) l (h .small .below i l) (ap (λ (xs : List ℕ). getD xs (getD marks i 0) 0) (h .sums));
-  below = set-below calls′ (getD marks i 0) (getD calls′ (getD marks i 0) 0 + 1) (h .below) lk;
-  small = h .small;
-}
+module _ {calls marks calls′ : List ℕ} {i : ℕ} (h : Turn calls marks calls′ i) where
+  pub turn-more : i < length marks → getD calls′ (getD marks i 0) 0 + 1 < 2 ^ 32
+      → Turn calls marks (set calls′ (getD marks i 0) (getD calls′ (getD marks i 0) 0 + 1)) (i + 1)
+  turn-more l fits =
+      let m : ℕ = getD marks i 0 in
+      let k : ℕ = getD calls′ m 0 in
+      record {
+        upto = omega arith;
+        sums = ap (λ (xs : List ℕ). set xs m (k + 1)) (h .sums) ∙ added-more calls marks i k l (h .small .below i l) (ap (λ (xs : List ℕ). getD xs m 0) (h .sums));
+        below = set-below calls′ m (k + 1) (h .below) fits;
+        small = h .small;
+      }
 
-pub turn-full : (calls marks calls′ : List ℕ) (i : ℕ) → Turn calls marks calls′ i → i < length marks
-    → getD calls′ (getD marks i 0) 0 ≡ 4294967295 → Adding calls marks calls′ false
-turn-full calls marks calls′ i h l e = record {
-  fits = sym (ap not (passes calls marks i l (h .small .below i l) (ap (λ (xs : List ℕ). getD xs (getD marks i 0) 0) (sym (h .sums)) ∙ e)));
-  sums = λ t. absurd (clash t refl);
-}
+  pub turn-full : i < length marks → getD calls′ (getD marks i 0) 0 ≡ 4294967295 → Adding calls marks calls′ false
+  turn-full l e = record {
+    fits = sym (ap not (passes calls marks i l (h .small .below i l) (ap (λ (xs : List ℕ). getD xs (getD marks i 0) 0) (sym (h .sums)) ∙ e)));
+    sums = λ t. absurd (clash t refl);
+  }
 
-pub turn-all : (calls marks calls′ : List ℕ) (i : ℕ) → Turn calls marks calls′ i → length marks ≤ i → Adding calls marks calls′ true
-turn-all calls marks calls′ i h l =
-    let whole : calls′ ≡ added calls marks = h .sums ∙ ap (added calls) (take-all i marks l) in
-    record {
-      fits = sym (ap not (passes-none calls marks (λ f. subst (λ (xs : List ℕ). getD xs f 0 < 2 ^ 32) whole (h .below f))));
-      sums = λ t. whole;
-    }
+  pub turn-all : length marks ≤ i → Adding calls marks calls′ true
+  turn-all l =
+      let whole : calls′ ≡ added calls marks = h .sums ∙ ap (added calls) (take-all i marks l) in
+      record {
+        fits = sym (ap not (passes-none calls marks (λ f. subst (λ (xs : List ℕ). getD xs f 0 < 2 ^ 32) whole (h .below f))));
+        sums = λ t. whole;
+      }

@@ -16,8 +16,8 @@ ghost use Rattle.session.specs.Steps.{Adding, Counts, Functions, Settlin
 // A session handed in from elsewhere may hold anything, a bad shape too.
 pub struct Session {
     pub shape: Shape,
-    pub taken: [bool; 1024],
-    pub calls: [u32; 256],
+    pub taken: [bool; Session::PAGES],
+    pub calls: [u32; Session::FUNCTIONS],
 }
 
 // The answer of an arrival: page number and symbols changed, or a refusal.
@@ -33,7 +33,7 @@ pub struct Arrived {
     pub outcome: Outcome,
 }
 
-// A fresh session beside the answer; refused, it is of no use.
+// A fresh session beside the answer. An enum holds no array, so one stands beside a refusal too; it is of no use there.
 pub struct Fresh {
     pub session: Session,
     pub status: Status,
@@ -45,48 +45,21 @@ pub enum Counted {
     Refused(Refusal),
 }
 
-// Adds each mark to its function's count; false where a count would pass its limit.
-fn add_marks(calls: &mut [u32; 256], marks: &[u32]) -> bool
-    requires { ⌜ Counts (now calls) × Functions (now marks) ⌝ }
-    ensures { λ r. ⌜ Adding (now (calls .entry)) (now (marks .entry)) (now (calls .exit)) r ⌝ }
-{
-    let mut i = 0;
-    while i < marks.len() {
-        let f = marks[i] as usize;
-        let k = calls[f];
-        if k == 4294967295 {
-            return false;
-        }
-        calls[f] = k + 1;
-        i += 1;
-    }
-    true
-}
-
-// The outcome is taken or again.
-fn accepts(outcome: Outcome) -> bool
-    ensures { λ r. ⌜ r ≡ isAccepted outcome ⌝ }
-{
-    match outcome {
-        Outcome::Taken(_, _) => true,
-        Outcome::Again(_, _) => true,
-        Outcome::Refused(_) => false,
-    }
-}
-
 impl Session {
+    // Page numbers are below this.
     pub const PAGES: usize = 1024;
 
+    // Function numbers are below this.
     pub const FUNCTIONS: usize = 256;
 
-    // A session that has seen nothing. Beside a refusal it stands with the shape that was refused.
+    // A session that has seen nothing.
     pub fn fresh(shape: Shape) -> Fresh
         ensures { λ r. ⌜ Beginning shape r ⌝ }
     {
         let session = Session {
             shape,
-            taken: [false; 1024],
-            calls: [0u32; 256],
+            taken: [false; Session::PAGES],
+            calls: [0u32; Session::FUNCTIONS],
         };
         if gtb::is_lawful(shape) {
             return Fresh {
@@ -100,7 +73,7 @@ impl Session {
         }
     }
 
-    // How often a function was called.
+    // How often a function was called: tests 1, then 7.
     pub fn count(self, function: u32) -> Counted
         ensures { λ r. ⌜ r ≡ countedOf self function ⌝ }
     {
@@ -116,7 +89,7 @@ impl Session {
         Counted::Calls(calls[at])
     }
 
-    // An arrival: tests 1 and 2, then the work on a copy of the word.
+    // An arrival. Past tests 1 and 2 it works on a copy, so that a word refused later is still the word that came.
     pub fn arrive(self, word: &mut [u32], scratch: &mut [u32]) -> Arrived
         ensures { λ r. ⌜ Arriving clean self (now (word .entry)) (now (scratch .entry)) (now (word .exit)) (now (scratch .exit)) r ⌝ }
     {
@@ -137,6 +110,7 @@ impl Session {
         self.read(word, scratch, &mut copied[..size], &mut symbols[..count])
     }
 
+    // Turned down: the session is as it was.
     fn refused(self, refusal: Refusal) -> Arrived
         ensures { λ r. ⌜ (r .session ≡ self) × (r .outcome ≡ Outcome.Refused refusal) ⌝ }
     {
@@ -146,7 +120,7 @@ impl Session {
         }
     }
 
-    // Tests 3 and 4, on the copy.
+    // Tests 3 and 4, on the copy. From here on every answer leaves the scratch cleared.
     fn read(
         self,
         word: &mut [u32],
@@ -168,7 +142,7 @@ impl Session {
         }
     }
 
-    // Tests 5 to 8, then the last step; the word is written after taken and again alone.
+    // Tests 5 to 8, then the last step. The word is written only once the answer is known to be taken or again.
     fn open(
         self,
         word: &mut [u32],
@@ -197,7 +171,7 @@ impl Session {
         }
     }
 
-    // The last step of an arrival, for a page that was read: a marked one is again; else its marks are counted, if none passes its limit.
+    // The last step, for a page whose every mark is known good: a marked one is again; else its marks are counted in a copy, which is kept only if no count passes its limit.
     fn settled(self, number: u32, corrected: u32, marks: &[u32]) -> Arrived
         requires { ⌜ (number < 1024) × Functions (now marks) ⌝ }
         ensures { λ r. ⌜ Settling self (Opened.Page number (now (marks .entry)) corrected) r ⌝ }
@@ -213,10 +187,7 @@ impl Session {
         }
         let mut calls = self.calls;
         if !add_marks(&mut calls, marks) {
-            return Arrived {
-                session: self,
-                outcome: Outcome::Refused(Refusal::Overflow),
-            };
+            return self.refused(Refusal::Overflow);
         }
         taken[at] = true;
         Arrived {
@@ -227,5 +198,34 @@ impl Session {
             },
             outcome: Outcome::Taken(number, corrected),
         }
+    }
+}
+
+// Adds each mark to its function's count; false where a count would pass its limit.
+fn add_marks(calls: &mut [u32; Session::FUNCTIONS], marks: &[u32]) -> bool
+    requires { ⌜ Counts (now calls) × Functions (now marks) ⌝ }
+    ensures { λ r. ⌜ Adding (now (calls .entry)) (now (marks .entry)) (now (calls .exit)) r ⌝ }
+{
+    let mut i = 0;
+    while i < marks.len() {
+        let f = marks[i] as usize;
+        let k = calls[f];
+        if k == 4294967295 {
+            return false;
+        }
+        calls[f] = k + 1;
+        i += 1;
+    }
+    true
+}
+
+// The outcome is taken or again.
+fn accepts(outcome: Outcome) -> bool
+    ensures { λ r. ⌜ r ≡ isAccepted outcome ⌝ }
+{
+    match outcome {
+        Outcome::Taken(_, _) => true,
+        Outcome::Again(_, _) => true,
+        Outcome::Refused(_) => false,
     }
 }

@@ -4,22 +4,23 @@ use Prim.Native.Nat.{_+_, _-_, _≤_}
 use native.Mathlib.Omega.{arith}
 use borrow.Author.Needs.{needs}
 use Rattle.gtb.proofs.Bounds.{bounds}
-use Rattle.encoder.proofs.Bounds.{sizes, Lower, lower}
+use Rattle.gtb.proofs.Sizes.{sizes}
+use Rattle.encoder.proofs.Bounds.{Lower, lower}
 use Rattle.encoder.proofs.Gathers.{Gathered, gathered-none, gathered-more, gathered-all}
 use Rattle.encoder.proofs.gather.Statement.{statement}
 use Rattle.encoder.proofs.gather.Tie as tie
 
 abbrev Inv-loop : tie.InvT-loop
-Inv-loop word symbols₀ q n m rows p i₀ symbols i = (i ≤ rows) × Gathered q m p i word symbols₀ symbols
+Inv-loop word symbols₀ q m rows p i₀ symbols i = (i ≤ rows) × Gathered q m p i word symbols₀ symbols
 
 abbrev μ-loop : tie.MeasureT-loop
-μ-loop word symbols₀ q n m rows p i₀ symbols i = rows - i
+μ-loop word symbols₀ q m rows p i₀ symbols i = rows - i
 
 cast-q : tie.Need-cast-q Inv-loop μ-loop
 cast-q c = search needs
 
-cast-n : tie.Need-cast-n Inv-loop μ-loop
-cast-n c = search needs
+cast-m : tie.Need-cast-m Inv-loop μ-loop
+cast-m c = search needs
 
 sub-m : tie.Need-sub-m Inv-loop μ-loop
 sub-m c = let b = bounds _ (c .before .before .before .before .pre .0) in omega arith
@@ -96,7 +97,7 @@ gather-spec =
     Inv-loop
     μ-loop
     cast-q
-    cast-n
+    cast-m
     sub-m
     sub-rows
     sub-p

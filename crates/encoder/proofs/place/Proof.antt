@@ -4,16 +4,17 @@ use Prim.Native.Nat.{_-_, _≤_}
 use native.Mathlib.Omega.{arith}
 use borrow.Author.Needs.{needs}
 use Rattle.gtb.proofs.Bounds.{bounds}
-use Rattle.encoder.proofs.Bounds.{sizes, Lower, lower}
+use Rattle.gtb.proofs.Sizes.{sizes}
+use Rattle.encoder.proofs.Bounds.{Lower, lower}
 use Rattle.encoder.proofs.Places.{Placing, placing-none, placing-more, placing-all}
 use Rattle.encoder.proofs.place.Statement.{statement}
 use Rattle.encoder.proofs.place.Tie as tie
 
 abbrev Inv-loop : tie.InvT-loop
-Inv-loop symbols word₀ q n m rows p i₀ word i = (i ≤ rows) × Placing q m p i symbols word₀ word
+Inv-loop symbols word₀ q m rows p i₀ word i = (i ≤ rows) × Placing q m p i symbols word₀ word
 
 abbrev μ-loop : tie.MeasureT-loop
-μ-loop symbols word₀ q n m rows p i₀ word i = rows - i
+μ-loop symbols word₀ q m rows p i₀ word i = rows - i
 
 clear-requires : tie.Need-clear-requires Inv-loop μ-loop
 clear-requires c κs = search needs
@@ -21,8 +22,8 @@ clear-requires c κs = search needs
 cast-q : tie.Need-cast-q Inv-loop μ-loop
 cast-q c = search needs
 
-cast-n : tie.Need-cast-n Inv-loop μ-loop
-cast-n c = search needs
+cast-m : tie.Need-cast-m Inv-loop μ-loop
+cast-m c = search needs
 
 sub-m : tie.Need-sub-m Inv-loop μ-loop
 sub-m c = let b = bounds _ (c .before .before .before .before .before .before .before .before .pre .0) in omega arith
@@ -95,7 +96,7 @@ place-spec =
     μ-loop
     clear-requires
     cast-q
-    cast-n
+    cast-m
     sub-m
     sub-rows
     sub-p

@@ -17,8 +17,8 @@ syndromes-requires c κs = search needs
 cast-q : tie.Need-cast-q
 cast-q c = search needs
 
-cast-n : tie.Need-cast-n
-cast-n c = search needs
+cast-m : tie.Need-cast-m
+cast-m c = search needs
 
 sub-m : tie.Need-sub-m
 sub-m c = let b = bounds _ (c .before .before .before .before .before .before .before .before .before .before .pre .0) in omega arith
@@ -69,7 +69,7 @@ write-spec =
     place-requires
     syndromes-requires
     cast-q
-    cast-n
+    cast-m
     sub-m
     slice-aggregate-copy-run
     mul-copy-run

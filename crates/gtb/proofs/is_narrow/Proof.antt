@@ -49,7 +49,7 @@ shl-top : tie.Need-shl-top Inv-loop μ-loop
 shl-top c = omega arith
 
 sub-top : tie.Need-sub-top Inv-loop μ-loop
-sub-top c = bound-pos (c .args .b) (c .pre)
+sub-top c = omega (arith, bound-pos (c .args .b) (c .pre))
 
 cast-top : tie.Need-cast-top Inv-loop μ-loop
 cast-top c = omega (arith, bound-le (c .args .b) (c .pre), bound-pos (c .args .b) (c .pre))

@@ -1,13 +1,11 @@
 -- `session::add_marks` meets its contract: after i turns the first i marks have been added.
 use borrow.Author.Needs.{needs}
 use native.Mathlib.Omega.{arith}
-use Prim.Native.Nat.{_+_, _-_, _^_, _<_}
+use Prim.Native.Nat.{ℕ, _+_, _-_, _^_, _<_}
 use lib.ListN.{length, getD}
 use Rattle.session.proofs.Marks.{Turn, turn-none, turn-more, turn-full, turn-all}
 use Rattle.session.proofs.add_marks.Statement.{statement}
 use Rattle.session.proofs.add_marks.Tie as tie
-use Rattle.session.proofs.add_marks.Reads as reads
-use Rattle.session.proofs.add_marks.Lts as lts
 
 abbrev Inv-loop : tie.InvT-loop
 Inv-loop calls₀ marks i₀ calls i = Turn calls₀ marks calls i
@@ -15,18 +13,23 @@ Inv-loop calls₀ marks i₀ calls i = Turn calls₀ marks calls i
 abbrev μ-loop : tie.MeasureT-loop
 μ-loop calls₀ marks i₀ calls i = length marks - i
 
--- the mark at hand is a function number, and its count below the limit
-mark : (c : tie.In-loop Inv-loop μ-loop) → getD (c .before .before .args .marks .now) (c .before .loop .i) 0 < 256
+abbrev mark-at : tie.At-loop Inv-loop μ-loop → ℕ
+mark-at c = getD (c .before .args .marks .now) (c .loop .i) 0
+
+-- the mark at hand is a function number
+mark : (c : tie.In-loop Inv-loop μ-loop) → mark-at (c .before) < 256
 mark c = c .before .loop .inv .small .below (c .before .loop .i) (c .loop-test .taken)
 
-room : (c : tie.Else1 Inv-loop μ-loop)
-    → getD (c .before .before .before .before .loop .calls) (getD (c .before .before .before .before .before .args .marks .now) (c .before .before .before .before .loop .i) 0) 0 + 1 < 2 ^ 32
-room c =
-    let below = c .before .before .before .before .loop .inv .below (getD (c .before .before .before .before .before .args .marks .now) (c .before .before .before .before .loop .i) 0) in
-    omega (arith, c .if1 .left)
+-- the place where the turn began
+abbrev head : tie.Else1 Inv-loop μ-loop → tie.At-loop Inv-loop μ-loop
+head c = c .before .before .before .before
+
+-- the count of its mark is below the limit
+room : (c : tie.Else1 Inv-loop μ-loop) → getD (head c .loop .calls) (mark-at (head c)) 0 + 1 < 2 ^ 32
+room c = omega (arith, head c .loop .inv .below (mark-at (head c)), c .if1 .left)
 
 loop-holds : tie.Need-loop-holds Inv-loop μ-loop
-loop-holds c = turn-none _ _ (c .pre .0) (c .pre .1)
+loop-holds c = turn-none (c .pre .0) (c .pre .1)
 
 mul-f : tie.Need-mul-f Inv-loop μ-loop
 mul-f c = omega (arith, c .before .before .good .1 .0 .1)
@@ -45,7 +48,7 @@ element-copy-out-k c = mark (c .before)
 
 returns : tie.Need-returns Inv-loop μ-loop
 returns c =
-    turn-full _ _ _ _ (c .before .before .before .before .loop .inv) (c .before .before .before .loop-test .taken) (c .if1 .taken)
+    turn-full (c .before .before .before .before .loop .inv) (c .before .before .before .loop-test .taken) (c .if1 .taken)
 
 add-calls : tie.Need-add-calls Inv-loop μ-loop
 add-calls c = record { fits = room c }
@@ -64,10 +67,10 @@ loop-less c = omega arith
 
 loop-again : tie.Need-loop-again Inv-loop μ-loop
 loop-again c =
-    turn-more _ _ _ _ (c .before .before .before .before .loop .inv) (c .before .before .before .loop-test .taken) (room c)
+    turn-more (head c .loop .inv) (c .before .before .before .loop-test .taken) (room c)
 
 returns-2 : tie.Need-returns-2 Inv-loop μ-loop
-returns-2 c = turn-all _ _ _ _ (c .before .loop .inv) (c .loop-test .left)
+returns-2 c = turn-all (c .before .loop .inv) (c .loop-test .left)
 
 pub add-marks-spec : {M : Type 1} → statement M
 add-marks-spec =

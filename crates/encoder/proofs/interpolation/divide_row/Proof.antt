@@ -32,11 +32,11 @@ walk-requires c κs =
     let f = at-start st in
     (f .low, f .high, c .before .add-mod .ensures .1, f .root-fits, f .row-fits′, both _ _ _ (st .pre .value .cyclic) (st .pre .root .cyclic))
 
-slice-aggregate-xor-run : tie.Need-slice-aggregate-xor-run
-slice-aggregate-xor-run c = search needs
+slice-aggregate-run-sum : tie.Need-slice-aggregate-run-sum
+slice-aggregate-run-sum c = search needs
 
-xor-run-requires : tie.Need-xor-run-requires
-xor-run-requires c κs = let f = at-start (c .before .before .before .before .before .before .before .before) in omega (arith, c .before .walk .ensures .size)
+run-sum-requires : tie.Need-run-sum-requires
+run-sum-requires c κs = let f = at-start (c .before .before .before .before .before .before .before .before) in omega (arith, c .before .walk .ensures .size)
 
 slice-aggregate-store-row : tie.Need-slice-aggregate-store-row
 slice-aggregate-store-row c = search needs
@@ -59,7 +59,7 @@ returns c =
     let q = start .args .shape .q in
     row-divided _ _ _ _ _ _ _ _ _ (start .pre) (ap (λ (x : ℕ). q - x) (root .shift .ensures))
     (step .add-mod .ensures .0 ∙ ap (λ (y : ℕ). (q - root .shift .result + y) % q) (step .before .shift2 .ensures))
-    (walk .walk .ensures) (c .before .before .before .before .before .xor-run .ensures) (c .before .before .store-row .ensures)
+    (walk .walk .ensures) (c .before .before .before .before .before .run-sum .ensures) (c .before .before .store-row .ensures)
 
 pub divide-row-spec : {M : Type 1} → statement M
 divide-row-spec =
@@ -71,8 +71,8 @@ divide-row-spec =
     shift-requires-2
     add-mod-requires
     walk-requires
-    slice-aggregate-xor-run
-    xor-run-requires
+    slice-aggregate-run-sum
+    run-sum-requires
     slice-aggregate-store-row
     mul-store-row
     store-row-requires

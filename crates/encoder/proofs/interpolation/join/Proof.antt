@@ -6,8 +6,9 @@ use borrow.Author.Needs.{needs}
 use lib.ListN.{length}
 use Rattle.gtb.specs.Shape.{wordLength}
 use Rattle.gtb.proofs.Bounds.{bounds}
+use Rattle.gtb.proofs.Sizes.{sizes}
 use Rattle.encoder.specs.Steps.{Joined}
-use Rattle.encoder.proofs.Bounds.{shift-bounds, sizes, Room, rows-fit}
+use Rattle.encoder.proofs.Bounds.{shift-bounds, Room, rows-fit}
 use Rattle.encoder.proofs.Joins.{joined-none, joined-more}
 use Rattle.encoder.proofs.interpolation.join.Statement.{statement}
 use Rattle.encoder.proofs.interpolation.join.Tie as tie

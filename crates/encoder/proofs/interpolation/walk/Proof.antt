@@ -1,13 +1,13 @@
 -- `encoder::interpolation::walk` meets its contract. The loop's invariant: i steps are done, and u is where they lead.
-use mathlib.Core.Path.{_≡_, sym, ap, _∙_}
-use Prim.Native.Nat.{ℕ, _*_, _-_, _%_, _≤_, _<_}
-use native.Mathlib.Nat.{mul-zero, zero-mod}
+use mathlib.Core.Path.{_≡_}
+use Prim.Native.Nat.{_*_, _-_, _%_, _≤_, _<_}
 use native.Mathlib.Omega.{arith}
 use borrow.Author.Needs.{needs}
 use Rattle.parity.specs.Xor.{_⊕_}
 use Rattle.gtb.specs.Square.{at}
+use Rattle.gtb.proofs.Turns.{turn-none, turn-more}
 use Rattle.encoder.specs.Steps.{difference}
-use Rattle.encoder.proofs.Walks.{Walking, walking-none, step-on, walking-more, walking-all, taken-up}
+use Rattle.encoder.proofs.Walks.{Walking, walking-none, walking-more, walking-all, taken-up}
 use Rattle.encoder.proofs.interpolation.walk.Statement.{statement}
 use Rattle.encoder.proofs.interpolation.walk.Tie as tie
 
@@ -23,7 +23,7 @@ sub-last c = search needs
 loop-holds : tie.Need-loop-holds Inv-loop μ-loop
 loop-holds c =
     let a = c .before .args in
-    (search needs, sym (ap (λ (x : ℕ). x % a .q) (mul-zero (a .delta)) ∙ zero-mod (a .q)), search needs, walking-none (a .q) (a .delta) _ (search needs))
+    (search needs, turn-none (a .delta) (a .q), search needs, walking-none (a .q) (a .delta) _ (search needs))
 
 add-mod-requires : tie.Need-add-mod-requires Inv-loop μ-loop
 add-mod-requires c κs = search needs
@@ -78,7 +78,7 @@ loop-again c =
     let st = n .before .before .before .before in
     let a = st .args in (
       omega arith,
-      step-on (a .q) (a .delta) (l .i) (l .u) _ (l .inv .1) (n .add-mod .ensures .0),
+      turn-more (a .delta) (l .i) (a .q) (l .u) _ (l .inv .1) (n .add-mod .ensures .0),
       n .add-mod .ensures .1,
       walking-more (a .q) (a .delta) _ (omega arith) (l .i) (l .u) _ _ _ (omega arith) (st .pre .5) (l .inv .1) (n .add-mod .ensures .0)
           (taken-up (a .q) (a .word .now) (a .k) (a .t) (l .u) (at (l .walked) (l .u)) (l .inv .2)) (l .inv .3),

@@ -1,75 +1,64 @@
--- `encoder::runs::copy_run` meets its contract. The loop's invariant: the first i places are written.
-use mathlib.Core.Path.{_≡_, refl}
+-- `encoder::runs::copy_run` meets its contract.
 use borrow.Author.Needs.{needs}
-use Prim.Native.Nat.{_+_, _-_, _≤_}
-use native.Mathlib.Omega.{arith}
-use Rattle.gtb.specs.Square.{at}
-use Rattle.encoder.specs.Steps.{Written}
-use Rattle.encoder.proofs.Writes.{written-more}
+use Rattle.encoder.proofs.Writes.{written-run}
 use Rattle.encoder.proofs.runs.copy_run.Statement.{statement}
 use Rattle.encoder.proofs.runs.copy_run.Tie as tie
 
-abbrev Inv-loop : tie.InvT-loop
-Inv-loop to₀ from a start count i₀ to i = (i ≤ count) × Written a i (λ k. at from (start + k)) to₀ to
+add-copy : tie.Need-add-copy
+add-copy c = search needs
 
-abbrev μ-loop : tie.MeasureT-loop
-μ-loop to₀ from a start count i₀ to i = count - i
+mul-copy : tie.Need-mul-copy
+mul-copy c = search needs
 
-loop-holds : tie.Need-loop-holds Inv-loop μ-loop
-loop-holds c = search needs
+sub-copy : tie.Need-sub-copy
+sub-copy c = search needs
 
-add-to : tie.Need-add-to Inv-loop μ-loop
-add-to c = search needs
+part-copy-start : tie.Need-part-copy-start
+part-copy-start c = search needs
 
-mul-to : tie.Need-mul-to Inv-loop μ-loop
-mul-to c = search needs
+part-copy-end : tie.Need-part-copy-end
+part-copy-end c = search needs
 
-shared-slice-read-to : tie.Need-shared-slice-read-to Inv-loop μ-loop
-shared-slice-read-to c = search needs
+add-copy-2 : tie.Need-add-copy-2
+add-copy-2 c = search needs
 
-add-to-2 : tie.Need-add-to-2 Inv-loop μ-loop
-add-to-2 c = search needs
+mul-copy-2 : tie.Need-mul-copy-2
+mul-copy-2 c = search needs
 
-mul-to-2 : tie.Need-mul-to-2 Inv-loop μ-loop
-mul-to-2 c = search needs
+sub-copy-2 : tie.Need-sub-copy-2
+sub-copy-2 c = search needs
 
-slice-write-to : tie.Need-slice-write-to Inv-loop μ-loop
-slice-write-to c = search needs
+part-copy-start-2 : tie.Need-part-copy-start-2
+part-copy-start-2 c = search needs
 
-add-i : tie.Need-add-i Inv-loop μ-loop
-add-i c = search needs
+part-copy-end-2 : tie.Need-part-copy-end-2
+part-copy-end-2 c = search needs
 
-loop-less : tie.Need-loop-less Inv-loop μ-loop
-loop-less c = search needs
+copy-requires : tie.Need-copy-requires
+copy-requires c κs = search needs
 
-loop-again : tie.Need-loop-again Inv-loop μ-loop
-loop-again c =
-    let l = c .before .before .loop in
-    (omega arith, written-more _ _ _ _ _ _ (omega arith) refl (l .inv .1))
-
-same-length : tie.Need-same-length Inv-loop μ-loop
+same-length : tie.Need-same-length
 same-length c = search needs
 
-returns : tie.Need-returns Inv-loop μ-loop
+returns : tie.Need-returns
 returns c =
-    let e : c .before .loop .i ≡ c .before .before .args .count = omega arith in
-    rw e at (c .before .loop .inv .1)
+    let start = c .before .before .before .before .before .before .before in
+    written-run _ _ _ _ _ _ (start .pre .0) (start .pre .1) (c .before .before .copy .ensures)
 
 pub copy-run-spec : {M : Type 1} → statement M
 copy-run-spec =
     tie.close
     (tie.spec
-    Inv-loop
-    μ-loop
-    loop-holds
-    add-to
-    mul-to
-    shared-slice-read-to
-    add-to-2
-    mul-to-2
-    slice-write-to
-    add-i
-    loop-less
-    loop-again
+    add-copy
+    mul-copy
+    sub-copy
+    part-copy-start
+    part-copy-end
+    add-copy-2
+    mul-copy-2
+    sub-copy-2
+    part-copy-start-2
+    part-copy-end-2
+    copy-requires
     same-length
     returns)

@@ -11,8 +11,8 @@ add-copy-run c = search needs
 copy-run-requires : tie.Need-copy-run-requires
 copy-run-requires c κs = search needs
 
-xor-run-requires : tie.Need-xor-run-requires
-xor-run-requires c κs = search needs
+run-sum-requires : tie.Need-run-sum-requires
+run-sum-requires c κs = search needs
 
 mul-word : tie.Need-mul-word
 mul-word c = search needs
@@ -24,7 +24,7 @@ same-length : tie.Need-same-length
 same-length c = search needs
 
 returns : tie.Need-returns
-returns c = written-lower _ _ _ _ _ _ (omega (arith, c .before .before .before .before .before .before .before .pre .0)) (c .xor-run .ensures) (c .before .before .before .copy-run .ensures)
+returns c = written-lower _ _ _ _ _ _ (omega (arith, c .before .before .before .before .before .before .before .pre .0)) (c .run-sum .ensures) (c .before .before .before .copy-run .ensures)
 
 pub place-row-spec : {M : Type 1} → statement M
 place-row-spec =
@@ -32,7 +32,7 @@ place-row-spec =
     (tie.spec
     add-copy-run
     copy-run-requires
-    xor-run-requires
+    run-sum-requires
     mul-word
     slice-write-word
     same-length

@@ -1,4 +1,4 @@
--- `gtb::syndrome::add_rows` meets its contract, which with r for the first q is the loop's invariant.
+-- `gtb::syndrome::add_rows` meets its contract, which with `row` for the first q is the loop's invariant.
 use borrow.Author.Needs.{needs}
 use Prim.Native.Nat.{_+_, _-_, _*_, _≤_}
 use native.Mathlib.Omega.{arith}
@@ -11,10 +11,10 @@ use Rattle.gtb.proofs.syndrome.add_rows.Statement.{statement}
 use Rattle.gtb.proofs.syndrome.add_rows.Tie as tie
 
 abbrev Inv-loop : tie.InvT-loop
-Inv-loop syn₀ word q r₀ syn r = (r ≤ q) × Added 0 r (λ k. xorSum q (λ i. at word (k * q + i))) syn₀ syn
+Inv-loop syn₀ word q row₀ syn row = (row ≤ q) × Added 0 row (λ k. xorSum q (λ i. at word (k * q + i))) syn₀ syn
 
 abbrev μ-loop : tie.MeasureT-loop
-μ-loop syn₀ word q r₀ syn r = q - r
+μ-loop syn₀ word q row₀ syn row = q - row
 
 loop-holds : tie.Need-loop-holds Inv-loop μ-loop
 loop-holds c = (search needs, added-none _ _ _ (c .before .pre .0))
@@ -22,10 +22,10 @@ loop-holds c = (search needs, added-none _ _ _ (c .before .pre .0))
 mul-run-sum : tie.Need-mul-run-sum Inv-loop μ-loop
 mul-run-sum c =
     let q = c .before .before .before .args .q in
-    omega (arith, row-in (c .before .loop .r) q (c .loop-test .taken), square-le q (c .before .before .before .pre .2))
+    omega (arith, row-in (c .before .loop .row) q (c .loop-test .taken), square-le q (c .before .before .before .pre .2))
 
 run-sum-requires : tie.Need-run-sum-requires Inv-loop μ-loop
-run-sum-requires c κs = omega (arith, row-in (c .before .loop .r) (c .before .before .before .args .q) (c .loop-test .taken))
+run-sum-requires c κs = omega (arith, row-in (c .before .loop .row) (c .before .before .before .args .q) (c .loop-test .taken))
 
 mul-syn : tie.Need-mul-syn Inv-loop μ-loop
 mul-syn c = search needs
@@ -36,8 +36,8 @@ element-copy-out-syn c = search needs
 element-write-syn : tie.Need-element-write-syn Inv-loop μ-loop
 element-write-syn c = search needs
 
-add-r : tie.Need-add-r Inv-loop μ-loop
-add-r c = search needs
+add-row : tie.Need-add-row Inv-loop μ-loop
+add-row c = search needs
 
 loop-less : tie.Need-loop-less Inv-loop μ-loop
 loop-less c = search needs
@@ -61,7 +61,7 @@ add-rows-spec =
     mul-syn
     element-copy-out-syn
     element-write-syn
-    add-r
+    add-row
     loop-less
     loop-again
     returns)

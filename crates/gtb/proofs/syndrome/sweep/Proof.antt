@@ -36,8 +36,8 @@ add-row-requires c κs =
       turn-lt _ _ _ _ (l .inv .1) (c .before .loop-test .taken),
     )
 
-turned-requires : tie.Need-turned-requires Inv-loop μ-loop
-turned-requires c κs = (turn-lt _ _ _ _ (c .before .before .before .loop .inv .1) (c .before .before .loop-test .taken), search needs, search needs)
+add-mod-requires : tie.Need-add-mod-requires Inv-loop μ-loop
+add-mod-requires c κs = (turn-lt _ _ _ _ (c .before .before .before .loop .inv .1) (c .before .before .loop-test .taken), search needs, search needs)
 
 add-r : tie.Need-add-r Inv-loop μ-loop
 add-r c = search needs
@@ -50,7 +50,7 @@ loop-again c =
     let a = c .before .before .before .before .before .before .args in
     let l = c .before .before .before .before .loop in (
       search needs,
-      turn-more _ _ _ _ _ (l .inv .1) (c .turned .ensures),
+      turn-more _ _ _ _ _ (l .inv .1) (c .add-mod .ensures .0),
       rounds-more _ _ _ _ _ _ _ _ (l .inv .2) (c .before .add-row .ensures)
           (λ L. turn-symbol (a .word .now) (l .r * a .q) _ _ _ _ L (l .inv .1)),
     )
@@ -67,7 +67,7 @@ sweep-spec =
     loop-holds
     mul-add-row
     add-row-requires
-    turned-requires
+    add-mod-requires
     add-r
     loop-less
     loop-again

@@ -1,10 +1,10 @@
--- `encoder::interpolation::add_mod` meets its contract.
+-- `gtb::add_mod` meets its contract.
 use mathlib.Core.Path.{sym, _∙_}
 use native.Mathlib.Nat.{mod-eq-of-lt, mod-eq-sub-mod}
 use native.Mathlib.Omega.{arith}
 use borrow.Author.Needs.{needs}
-use Rattle.encoder.proofs.interpolation.add_mod.Statement.{statement}
-use Rattle.encoder.proofs.interpolation.add_mod.Tie as tie
+use Rattle.gtb.proofs.add_mod.Statement.{statement}
+use Rattle.gtb.proofs.add_mod.Tie as tie
 
 add-sum : tie.Need-add-sum
 add-sum c = search needs

@@ -1,19 +1,19 @@
--- `encoder::runs::xor_run` meets its contract. The loop's invariant: `sum` is the XOR of the first i symbols.
-use mathlib.Core.Path.{_≡_, sym}
+-- `gtb::run_sum` meets its contract, which with i for `count` is the loop's invariant.
 use borrow.Author.Needs.{needs}
+use mathlib.Core.Path.{_≡_, sym}
 use Prim.Native.Nat.{_+_, _-_, _≤_}
 use native.Mathlib.Omega.{arith}
 use Rattle.parity.specs.Xor.{_⊕_, xorSum}
 use Rattle.parity.proofs.XorSums.{xs-zero, more}
 use Rattle.gtb.specs.Square.{at}
-use Rattle.encoder.proofs.runs.xor_run.Statement.{statement}
-use Rattle.encoder.proofs.runs.xor_run.Tie as tie
+use Rattle.gtb.proofs.run_sum.Statement.{statement}
+use Rattle.gtb.proofs.run_sum.Tie as tie
 
 abbrev Inv-loop : tie.InvT-loop
-Inv-loop values start count sum₀ i₀ sum i = (i ≤ count) × (sum ≡ xorSum i (λ k. at values (start + k)))
+Inv-loop values from count sum₀ i₀ sum i = (i ≤ count) × (sum ≡ xorSum i (λ k. at values (from + k)))
 
 abbrev μ-loop : tie.MeasureT-loop
-μ-loop values start count sum₀ i₀ sum i = count - i
+μ-loop values from count sum₀ i₀ sum i = count - i
 
 loop-holds : tie.Need-loop-holds Inv-loop μ-loop
 loop-holds c = (search needs, sym (xs-zero _))
@@ -35,15 +35,15 @@ loop-less c = search needs
 
 loop-again : tie.Need-loop-again Inv-loop μ-loop
 unfolding _⊕_
-loop-again c = (omega arith, more _ _ (c .before .before .loop .inv .1))
+loop-again c = (search needs, more _ _ (c .before .before .loop .inv .1))
 
 returns : tie.Need-returns Inv-loop μ-loop
 returns c =
     let e : c .before .loop .i ≡ c .before .before .args .count = omega arith in
-    rw e at (c .before .loop .inv .1)
+    rw (← e) (c .before .loop .inv .1)
 
-pub xor-run-spec : {M : Type 1} → statement M
-xor-run-spec =
+pub run-sum-spec : {M : Type 1} → statement M
+run-sum-spec =
     tie.close
     (tie.spec
     Inv-loop

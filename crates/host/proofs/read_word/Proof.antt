@@ -1,0 +1,57 @@
+-- `host::read_word` meets its contract. Where the two ways meet, the bytes are those of the restored word, or as they came.
+use mathlib.Core.Path.{ap, _∙_}
+use mathlib.Core.Logic.{⊎-elim}
+use lib.ListN.{length}
+use borrow.Author.Needs.{needs}
+use Rattle.host.proofs.Words.{word-read, put-back, left-alone}
+use Rattle.host.proofs.read_word.Statement.{statement}
+use Rattle.host.proofs.read_word.Tie as tie
+
+load-requires : tie.Need-load-requires
+load-requires c κs = search needs
+
+decode-requires : tie.Need-decode-requires
+decode-requires c κs = search needs
+
+enum-told : tie.Need-enum-told
+enum-told c = search needs
+
+store-requires : tie.Need-store-requires
+store-requires c κs = search needs
+
+enum-told-2 : tie.Need-enum-told-2
+enum-told-2 c = search needs
+
+decoded-requires : tie.Need-decoded-requires
+decoded-requires c κs = search needs
+
+same-length : tie.Need-same-length
+same-length c = ⊎-elim (λ w. ap length (w .7) ∙ w .4 .kept .1 .0) (λ w. ap length (w .2)) (c .before .match .came)
+
+same-length-2 : tie.Need-same-length-2
+same-length-2 c = search needs
+
+returns : tie.Need-returns
+returns c =
+    let start = c .before .before .before .before .before .before .before .before .before .before .before .before .before in
+    let loaded = c .before .before .before .before .before .before .before .before .load .ensures in
+    let read = c .before .before .before .before .decode .ensures in
+    let bytes = start .args .bytes .now in
+    word-read (start .args .shape) bytes (start .pre .0) (start .pre .1) loaded read (c .decoded .ensures)
+    (⊎-elim (λ w. put-back (start .args .shape) bytes (w .1 .given .0 .0) (w .1 .given .1) loaded (read .word) (w .7 ∙ w .4 .ensures))
+    (λ w. left-alone (start .args .shape) bytes (w .1 .given .0 .0) (w .1 .given .1) (w .2))
+    (c .before .match .came))
+
+pub read-word-spec : {M : Type 1} → statement M
+read-word-spec =
+    tie.close
+    (tie.spec
+    load-requires
+    decode-requires
+    enum-told
+    store-requires
+    enum-told-2
+    decoded-requires
+    same-length
+    same-length-2
+    returns)

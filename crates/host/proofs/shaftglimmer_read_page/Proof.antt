@@ -1,0 +1,75 @@
+-- `host::shaftglimmer_read_page` meets its contract.
+use mathlib.Core.Path.{sym, ap, _∙_}
+use Prim.Native.Nat.{_≤_}
+use native.Mathlib.Omega.{arith}
+use lib.Seq.{length-take-le}
+use borrow.Author.Tests.{not-true, not-false}
+use borrow.Author.Needs.{needs}
+use Rattle.gtb.specs.Shape.{Lawful}
+use Rattle.gtb.proofs.Sizes.{sizes}
+use Rattle.page.specs.Page.{readNumber}
+use Rattle.host.specs.Exported.{shapeOf}
+use Rattle.host.proofs.Words.{page-shape, page-length}
+use Rattle.host.proofs.shaftglimmer_read_page.Statement.{statement}
+use Rattle.host.proofs.shaftglimmer_read_page.Tie as tie
+
+-- past the first test the shape is lawful
+legal : (c : tie.Else1) → Lawful (shapeOf (c .before .before .before .args .q) (c .before .before .before .args .n) (c .before .before .before .args .b))
+legal c = sym (c .before .is-lawful .ensures) ∙ not-false _ (c .if1 .left)
+
+-- the symbols fit their array
+room : (c : tie.Else2) → c .before .info-length .result ≤ 900
+room c = omega (arith, c .before .info-length .ensures, sizes _ (legal (c .before .before)) .info)
+
+is-lawful-requires : tie.Need-is-lawful-requires
+is-lawful-requires c κs = search needs
+
+refused-requires : tie.Need-refused-requires
+refused-requires c κs = search needs
+
+returns : tie.Need-returns
+returns c = c .refused .ensures ∙ sym (ap readNumber (page-shape _ _ (sym (c .before .before .is-lawful .ensures) ∙ not-true _ (c .before .if1 .taken))))
+
+info-length-requires : tie.Need-info-length-requires
+info-length-requires c κs = legal c
+
+mul-if2 : tie.Need-mul-if2
+mul-if2 c = omega (arith, c .info-length .ensures, sizes _ (legal (c .before)) .info)
+
+refused-requires-2 : tie.Need-refused-requires-2
+refused-requires-2 c κs = search needs
+
+returns-2 : tie.Need-returns-2
+returns-2 c = c .refused2 .ensures ∙ sym (ap readNumber (page-length _ _ (legal (c .before .before .before)) (λ e. c .before .if2 .taken (rw (c .before .before .info-length .ensures) e))))
+
+array-borrow-prefix-loaded : tie.Need-array-borrow-prefix-loaded
+array-borrow-prefix-loaded c = room c
+
+slice-aggregate-read-page : tie.Need-slice-aggregate-read-page
+slice-aggregate-read-page c = sym (length-take-le _ _ (room (c .before)))
+
+read-page-requires : tie.Need-read-page-requires
+read-page-requires c κs = (
+  legal (c .before .before .before),
+  rw (c .before .before .info-length .ensures) at (c .before .if2 .left),
+  length-take-le _ _ (room (c .before)) ∙ c .before .before .info-length .ensures,
+)
+
+returns-3 : tie.Need-returns-3
+returns-3 c = search needs
+
+pub shaftglimmer-read-page-spec : {M : Type 1} → statement M
+shaftglimmer-read-page-spec =
+    tie.close
+    (tie.spec
+    is-lawful-requires
+    refused-requires
+    returns
+    info-length-requires
+    mul-if2
+    refused-requires-2
+    returns-2
+    array-borrow-prefix-loaded
+    slice-aggregate-read-page
+    read-page-requires
+    returns-3)

@@ -1,0 +1,78 @@
+-- `host::shaftglimmer_read_word` meets its contract.
+use mathlib.Core.Path.{sym, _∙_}
+use Prim.Native.Nat.{_≤_}
+use native.Mathlib.Omega.{arith}
+use lib.Seq.{length-take-le}
+use borrow.Author.Tests.{not-true, not-false}
+use borrow.Author.Needs.{needs}
+use Rattle.gtb.specs.Shape.{Lawful}
+use Rattle.gtb.proofs.Sizes.{sizes}
+use Rattle.host.specs.Exported.{shapeOf}
+use Rattle.host.proofs.Words.{word-shape, word-length, word-refused}
+use Rattle.host.proofs.shaftglimmer_read_word.Statement.{statement}
+use Rattle.host.proofs.shaftglimmer_read_word.Tie as tie
+
+-- past the first test the shape is lawful
+legal : (c : tie.Else1) → Lawful (shapeOf (c .before .before .before .args .q) (c .before .before .before .args .n) (c .before .before .before .args .b))
+legal c = sym (c .before .is-lawful .ensures) ∙ not-false _ (c .if1 .left)
+
+-- the symbols fit their array
+room : (c : tie.Else2) → c .before .word-length .result ≤ 961
+room c = omega (arith, c .before .word-length .ensures, sizes _ (legal (c .before .before)) .word)
+
+is-lawful-requires : tie.Need-is-lawful-requires
+is-lawful-requires c κs = search needs
+
+refused-requires : tie.Need-refused-requires
+refused-requires c κs = search needs
+
+returns : tie.Need-returns
+returns c = word-refused _ _ (word-shape _ _ (sym (c .before .before .is-lawful .ensures) ∙ not-true _ (c .before .if1 .taken))) (c .refused .ensures)
+
+word-length-requires : tie.Need-word-length-requires
+word-length-requires c κs = legal c
+
+mul-if2 : tie.Need-mul-if2
+mul-if2 c = omega (arith, c .word-length .ensures, sizes _ (legal (c .before)) .word)
+
+refused-requires-2 : tie.Need-refused-requires-2
+refused-requires-2 c κs = search needs
+
+returns-2 : tie.Need-returns-2
+returns-2 c = word-refused _ _ (word-length _ _ (legal (c .before .before .before)) (λ e. c .before .if2 .taken (rw (c .before .before .word-length .ensures) e))) (c .refused2 .ensures)
+
+array-borrow-prefix-symbols : tie.Need-array-borrow-prefix-symbols
+array-borrow-prefix-symbols c = room (c .before)
+
+slice-aggregate-read-word : tie.Need-slice-aggregate-read-word
+slice-aggregate-read-word c = sym (length-take-le _ _ (room (c .before .before)))
+
+read-word-requires : tie.Need-read-word-requires
+read-word-requires c κs = (
+  legal (c .before .before .before .before),
+  rw (c .before .before .before .word-length .ensures) at (c .before .before .if2 .left),
+  length-take-le _ _ (room (c .before .before)) ∙ c .before .before .before .word-length .ensures,
+)
+
+same-length : tie.Need-same-length
+same-length c = search needs
+
+returns-3 : tie.Need-returns-3
+returns-3 c = c .before .before .before .read-word .ensures
+
+pub shaftglimmer-read-word-spec : {M : Type 1} → statement M
+shaftglimmer-read-word-spec =
+    tie.close
+    (tie.spec
+    is-lawful-requires
+    refused-requires
+    returns
+    word-length-requires
+    mul-if2
+    refused-requires-2
+    returns-2
+    array-borrow-prefix-symbols
+    slice-aggregate-read-word
+    read-word-requires
+    same-length
+    returns-3)

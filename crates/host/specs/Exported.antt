@@ -1,0 +1,41 @@
+-- What the exported pair answers and leaves. The tests on the shape and on the number of bytes come first, then reading the symbols.
+use mathlib.Core.Path.{_≡_}
+use mathlib.Core.List.{List}
+use Prim.Native.Nat.{ℕ, _*_}
+use lib.Dec.{eqb}
+use lib.ListN.{length}
+use Rattle.gtb.specs.declared.Shape.{Shape}
+use Rattle.gtb.specs.declared.Refusal.{Refusal}
+use Rattle.gtb.specs.Shape.{lawful, wordLength, infoLength}
+use Rattle.decoder.specs.declared.Decoded.{Decoded}
+use Rattle.decoder.specs.declared.Decoded.the-variants.{Corrected, Refused}
+use Rattle.decoder.specs.Decode.{decodedNumber, decodeOf, restored, unless}
+use Rattle.page.specs.declared.PageRead.{PageRead}
+use Rattle.page.specs.Page.{pageOf}
+use Rattle.page.specs.Page as page
+use Rattle.host.specs.Bytes.{symbolsOf, bytesOf}
+
+-- a shape crosses as three numbers
+abbrev pub shapeOf : ℕ → ℕ → ℕ → Shape
+shapeOf q n b = record { q = q; n = n; b = b }
+
+-- word reading over bytes
+unfoldable pub wordOf : Shape → List ℕ → Decoded
+wordOf s bytes =
+    unless (lawful s) Refusal.Shape
+    (unless (eqb (length bytes) (4 * wordLength s)) Refusal.Length (decodeOf s (symbolsOf bytes)))
+
+-- the stored word as bytes, or the bytes as they came
+abbrev pub bytesAfter : Shape → List ℕ → Decoded → List ℕ
+bytesAfter s bytes (Corrected k) = bytesOf (restored s (symbolsOf bytes))
+bytesAfter s bytes (Refused e) = bytes
+
+pub record ReadingWord (s : Shape) (bytes bytes′ : List ℕ) (r : ℕ) : Type 0 where
+  pub answer : r ≡ decodedNumber (wordOf s bytes)
+  pub left : bytes′ ≡ bytesAfter s bytes (wordOf s bytes)
+
+-- page reading over bytes
+unfoldable pub pageIn : Shape → List ℕ → PageRead
+pageIn s bytes =
+    page.unless (lawful s) Refusal.Shape
+    (page.unless (eqb (length bytes) (4 * infoLength s)) Refusal.Length (pageOf s (symbolsOf bytes)))
