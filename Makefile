@@ -1,16 +1,21 @@
-# make run: the tally of the sample capture. make test: the whole gate. make bench: ratios against Rust.
+# make: the static library for C. make test: the whole gate.
 PREFIX ?= /usr/local
-TALLY = target/bin/tally
 
-.PHONY: all run check test bench install clean
+.PHONY: all check test install clean
 
-all: target/staticlib/libhost.a $(TALLY)
+all:
+	rt check host
+	rt staticlib host
 
 check:
 	rt check
 
 test:
 	bash .ci/run
+
+install: all
+	install -D -m 644 include/shaftglimmer.h $(PREFIX)/include/shaftglimmer.h
+	install -D -m 644 target/staticlib/libhost.a $(PREFIX)/lib/libshaftglimmer.a
 
 clean:
 	rm -rf target tests/target

@@ -1,0 +1,63 @@
+//! Timing three ways of doing the same, in turns.
+
+use std::time::{Duration, Instant};
+
+pub const ROUNDS: usize = 31;
+
+/// How long each contestant works in a round, at least, and in how many batches.
+const TURN: Duration = Duration::from_millis(1);
+const BATCHES: usize = 6;
+
+/// Nanoseconds a word of the library, the straightforward code and the tuned code.
+pub struct Times(pub [f64; 3]);
+
+impl Times {
+    pub fn to_straightforward(&self) -> f64 {
+        self.0[0] / self.0[1]
+    }
+
+    pub fn to_tuned(&self) -> f64 {
+        self.0[0] / self.0[2]
+    }
+}
+
+/// A batch of words prepared and worked on by one contestant; it gives the time of the work alone.
+pub type Batch<'a> = Box<dyn FnMut() -> Duration + 'a>;
+
+/// Times the contestants on batches of `words` words. They take turns within each round, so that a
+/// slow moment of the machine hits all of them.
+pub fn times(words: usize, mut contestants: [Batch; 3]) -> Times {
+    let mut rounds: [Vec<f64>; 3] = Default::default();
+    for _ in 0..ROUNDS {
+        for (contestant, times) in contestants.iter_mut().zip(&mut rounds) {
+            times.push(turn(contestant) / words as f64);
+        }
+    }
+    Times(rounds.map(median))
+}
+
+/// The time of a batch in one turn, in nanoseconds: the shortest, since a batch is short enough not
+/// to be interrupted but a turn is not.
+fn turn(contestant: &mut Batch) -> f64 {
+    let mut worked = Duration::ZERO;
+    let mut shortest = Duration::MAX;
+    let mut batches = 0;
+    while worked < TURN || batches < BATCHES {
+        let time = contestant();
+        worked += time;
+        shortest = shortest.min(time);
+        batches += 1;
+    }
+    shortest.as_nanos() as f64
+}
+
+pub fn median(mut values: Vec<f64>) -> f64 {
+    values.sort_by(f64::total_cmp);
+    values[values.len() / 2]
+}
+
+pub fn timed(work: impl FnOnce()) -> Duration {
+    let start = Instant::now();
+    work();
+    start.elapsed()
+}

@@ -1,0 +1,178 @@
+//! One call of one entry, made of the reference or of the library, with all that it leaves behind.
+
+use crate::reference::page::{read_page, write_page};
+use crate::reference::reader::decode;
+use crate::reference::session::{Session, SESSION_LEN};
+use crate::reference::shape::{Refusal, Shape};
+use crate::reference::writer::{encode, extract};
+
+#[derive(Clone, Copy, Debug, PartialEq, Eq)]
+pub enum Entry {
+    Encode,
+    Extract,
+    Decode,
+    ReadPage,
+    WritePage,
+    Fresh,
+    Count,
+    Arrive,
+    HostReadWord,
+    HostReadPage,
+}
+
+impl Entry {
+    /// What the entry calls its slices.
+    pub fn slice_names(self) -> &'static [&'static str] {
+        match self {
+            Entry::Encode => &["data", "scratch", "word"],
+            Entry::Extract => &["word", "scratch", "data"],
+            Entry::Decode | Entry::HostReadWord => &["word"],
+            Entry::ReadPage | Entry::HostReadPage => &["data"],
+            Entry::WritePage => &["marks", "data"],
+            Entry::Fresh | Entry::Count => &["session"],
+            Entry::Arrive => &["session", "word", "scratch", "outcome"],
+        }
+    }
+}
+
+/// An entry with its arguments. The shape of `Count` and `Arrive` is in the session; `number` is the
+/// page of `WritePage` and the function of `Count`. The host's bytes stand as one number each.
+#[derive(Clone, Debug)]
+pub struct Call {
+    pub entry: Entry,
+    pub shape: Shape,
+    pub number: u32,
+    pub slices: Vec<Vec<u32>>,
+}
+
+/// The answer, and every lent slice as it was left.
+#[derive(Clone, Debug, PartialEq, Eq)]
+pub struct After {
+    pub answer: u64,
+    pub slices: Vec<Vec<u32>>,
+}
+
+/// An entry's answer as one u32: a refusal is 2^31 plus its number.
+pub fn answer_of(result: Result<u32, Refusal>) -> u64 {
+    result.map_or_else(|refusal| (1 << 31) + u64::from(refusal.number()), u64::from)
+}
+
+pub fn to_bytes(symbols: &[u32]) -> Vec<u32> {
+    symbols.iter().flat_map(|symbol| symbol.to_le_bytes()).map(u32::from).collect()
+}
+
+fn from_bytes(bytes: &[u32]) -> Vec<u32> {
+    let symbol = |four: &[u32]| four.iter().rev().fold(0, |symbol, byte| symbol << 8 | byte);
+    bytes.chunks(4).map(symbol).collect()
+}
+
+impl Call {
+    pub fn new(entry: Entry, shape: Shape, slices: &[&[u32]]) -> Call {
+        Call::numbered(entry, shape, 0, slices)
+    }
+
+    pub fn numbered(entry: Entry, shape: Shape, number: u32, slices: &[&[u32]]) -> Call {
+        Call { entry, shape, number, slices: slices.iter().map(|slice| slice.to_vec()).collect() }
+    }
+
+    pub fn on_reference(&self) -> After {
+        let mut slices = self.slices.clone();
+        let answer = match (self.entry, &mut slices[..]) {
+            (Entry::Encode, [data, scratch, word]) => answer_of(encode(self.shape, data, scratch, word).map(|()| 0)),
+            (Entry::Extract, [word, scratch, data]) => answer_of(extract(self.shape, word, scratch, data).map(|()| 0)),
+            (Entry::Decode, [word]) => answer_of(decode(self.shape, word)),
+            (Entry::ReadPage, [data]) => answer_of(page_answer(self.shape, data)),
+            (Entry::WritePage, [marks, data]) => {
+                answer_of(write_page(self.shape, self.number, marks, data).map(|()| 0))
+            }
+            (Entry::Fresh, [session]) => answer_of(fresh(self.shape, session)),
+            (Entry::Count, [session]) => count(session, self.number),
+            (Entry::Arrive, [session, word, scratch, outcome]) => answer_of(arrive(session, word, scratch, outcome)),
+            (Entry::HostReadWord, [bytes]) => answer_of(host_read_word(self.shape, bytes)),
+            (Entry::HostReadPage, [bytes]) => answer_of(host_read_page(self.shape, bytes)),
+            _ => panic!("wrong number of slices for {:?}", self.entry),
+        };
+        After { answer, slices }
+    }
+}
+
+fn page_answer(shape: Shape, data: &[u32]) -> Result<u32, Refusal> {
+    read_page(shape, data).map(|head| 1024 * head.page + head.marks as u32)
+}
+
+fn fresh(shape: Shape, session: &mut [u32]) -> Result<u32, Refusal> {
+    if session.len() != SESSION_LEN {
+        return Err(Refusal::Length);
+    }
+    session.copy_from_slice(&Session::fresh(shape)?.values());
+    Ok(0)
+}
+
+/// A refusal is 2^32 plus its number.
+fn count(session: &[u32], function: u32) -> u64 {
+    let result = match session.len() {
+        SESSION_LEN => Session::from_values(session).count(function),
+        _ => Err(Refusal::Length),
+    };
+    result.map_or_else(|refusal| (1 << 32) + u64::from(refusal.number()), u64::from)
+}
+
+fn arrive(session: &mut [u32], word: &mut [u32], scratch: &mut [u32], outcome: &mut [u32]) -> Result<u32, Refusal> {
+    if session.len() != SESSION_LEN || outcome.len() != 3 {
+        return Err(Refusal::Length);
+    }
+    let mut state = Session::from_values(session);
+    outcome.copy_from_slice(&state.arrive(word, scratch).values());
+    session.copy_from_slice(&state.values());
+    Ok(0)
+}
+
+fn host_read_word(shape: Shape, bytes: &mut [u32]) -> Result<u32, Refusal> {
+    if shape.lawful() && bytes.len() != 4 * shape.word_len() {
+        return Err(Refusal::Length);
+    }
+    let mut word = from_bytes(bytes);
+    let corrected = decode(shape, &mut word)?;
+    bytes.copy_from_slice(&to_bytes(&word));
+    Ok(corrected)
+}
+
+fn host_read_page(shape: Shape, bytes: &[u32]) -> Result<u32, Refusal> {
+    if shape.lawful() && bytes.len() != 4 * shape.data_len() {
+        return Err(Refusal::Length);
+    }
+    page_answer(shape, &from_bytes(bytes))
+}
+
+/// The first thing in which the end of a call differs from the expected one.
+pub fn difference(entry: Entry, expected: &After, found: &After) -> Option<String> {
+    if expected.answer != found.answer {
+        return Some(format!("the answer is {}, expected {}", shown(found.answer), shown(expected.answer)));
+    }
+    let slices = expected.slices.iter().zip(&found.slices);
+    entry.slice_names().iter().zip(slices).find_map(|(name, (expected, found))| {
+        let j = (0..expected.len()).find(|&j| found[j] != expected[j])?;
+        Some(format!("{name} is left with {} at {j}, expected {}", found[j], expected[j]))
+    })
+}
+
+fn shown(answer: u64) -> String {
+    match answer {
+        0x8000_0001..=0x8000_000a => format!("refusal {}", answer - (1 << 31)),
+        0x1_0000_0001..=0x1_0000_000a => format!("refusal {}", answer - (1 << 32)),
+        _ => answer.to_string(),
+    }
+}
+
+/// A list of numbers, long runs of one number told by their length.
+pub fn brief(values: &[u32]) -> String {
+    let runs = values.chunk_by(|x, y| x == y);
+    let shown = runs.map(|run| {
+        if run.len() < 4 {
+            vec![run[0].to_string(); run.len()].join(" ")
+        } else {
+            format!("{}(x{})", run[0], run.len())
+        }
+    });
+    format!("[{}]", shown.collect::<Vec<String>>().join(" "))
+}

@@ -1,0 +1,111 @@
+//! Errors to put on codewords: some that are easy to tell, and some that mislead a careless reader.
+
+use crate::random::Random;
+use crate::reference::shape::Shape;
+use crate::reference::square::{check, is_unmasked};
+
+/// Positions, all different, with the nonzero symbols to XOR on.
+pub type Error = Vec<(usize, u32)>;
+
+#[derive(Clone, Copy, Debug)]
+pub enum Style {
+    /// Any positions, any symbols.
+    Spread,
+    /// Any positions, one symbol, as a failing stripe of memory gives.
+    Equal,
+    /// As many as possible on one check, so that a check shows the sum of several.
+    Line,
+    /// Two equal symbols on one check, which then stays silent.
+    Masked,
+    /// On the checks of one position that is not damaged itself.
+    Phantom,
+}
+
+pub const STYLES: [Style; 5] = [Style::Spread, Style::Equal, Style::Line, Style::Masked, Style::Phantom];
+
+pub fn make(style: Style, shape: Shape, weight: usize, random: &mut Random) -> Error {
+    let chosen = match style {
+        Style::Spread | Style::Equal => vec![],
+        Style::Line => on_one_check(shape, weight, random),
+        Style::Masked => on_one_check(shape, weight.min(2), random),
+        Style::Phantom => around_a_position(shape, weight, random),
+    };
+    let positions = fill_up(chosen, shape, weight, random);
+    let mut error: Error = positions.into_iter().map(|j| (j, random.nonzero_symbol(shape))).collect();
+    match style {
+        Style::Equal => equalize(&mut error),
+        Style::Masked => equalize(&mut error[..weight.min(2)]),
+        _ => {}
+    }
+    error
+}
+
+/// An unmasked error, which reading must undo for weights up to n - 1.
+pub fn unmasked(shape: Shape, weight: usize, random: &mut Random) -> Error {
+    for _ in 0..100 {
+        let style = random.pick(&[Style::Spread, Style::Line, Style::Phantom]);
+        let error = make(style, shape, weight, random);
+        if is_unmasked(shape, &spelled_out(shape, &error)) {
+            return error;
+        }
+    }
+    crossing_no_check_twice(shape, weight, random)
+}
+
+pub fn apply(error: &Error, word: &mut [u32]) {
+    error.iter().for_each(|&(j, symbol)| word[j] ^= symbol);
+}
+
+/// The error as a list of N symbols.
+pub fn spelled_out(shape: Shape, error: &Error) -> Vec<u32> {
+    let mut symbols = vec![0; shape.word_len()];
+    apply(error, &mut symbols);
+    symbols
+}
+
+fn equalize(error: &mut [(usize, u32)]) {
+    if let Some(&(_, first)) = error.first() {
+        error.iter_mut().for_each(|(_, symbol)| *symbol = first);
+    }
+}
+
+/// Up to `count` positions of a random check.
+fn on_one_check(shape: Shape, count: usize, random: &mut Random) -> Vec<usize> {
+    let chosen = random.below(shape.checks());
+    let t = chosen / shape.q as usize;
+    let mut positions: Vec<usize> = (0..shape.word_len()).filter(|&j| check(shape, t, j) == chosen).collect();
+    random.shuffle(&mut positions);
+    positions.truncate(count);
+    positions
+}
+
+/// Up to `count` positions, one on each check of a position that is left out.
+fn around_a_position(shape: Shape, count: usize, random: &mut Random) -> Vec<usize> {
+    let centre = random.below(shape.word_len());
+    let neighbour = |t: usize| loop {
+        let j = random.below(shape.word_len());
+        if j != centre && check(shape, t, j) == check(shape, t, centre) {
+            return j;
+        }
+    };
+    (0..count.min(shape.n as usize)).map(neighbour).collect()
+}
+
+/// Up to `weight` positions on a line of slope n - 1: that is no direction, so no two share a check.
+fn crossing_no_check_twice(shape: Shape, weight: usize, random: &mut Random) -> Error {
+    let (q, slope) = (shape.q as usize, shape.n as usize - 1);
+    let line = random.below(q);
+    let on_line = |row: usize| row * q + (line + (q - slope) * row) % q;
+    let rows = random.positions(weight, q);
+    rows.into_iter().map(|row| (on_line(row), random.nonzero_symbol(shape))).collect()
+}
+
+fn fill_up(mut positions: Vec<usize>, shape: Shape, weight: usize, random: &mut Random) -> Vec<usize> {
+    while positions.len() < weight {
+        let j = random.below(shape.word_len());
+        if !positions.contains(&j) {
+            positions.push(j);
+        }
+    }
+    positions
+}

@@ -1,0 +1,137 @@
+//! The proved libraries' exported functions, declared once, and safe wrappers over them.
+//!
+//! A slice crosses as a pointer and a length in elements. No function has a precondition: each
+//! answers every input, so a wrapper has nothing to test.
+
+use crate::reference::shape::Shape;
+
+extern "C" {
+    fn shaftglimmer_read_word(q: u32, n: u32, b: u32, word: *mut u8, len: usize) -> u32;
+    fn shaftglimmer_read_page(q: u32, n: u32, b: u32, data: *const u8, len: usize) -> u32;
+    fn harness_encode(
+        q: u32,
+        n: u32,
+        b: u32,
+        data: *const u32,
+        data_len: usize,
+        scratch: *mut u32,
+        scratch_len: usize,
+        word: *mut u32,
+        word_len: usize,
+    ) -> u32;
+    fn harness_extract(
+        q: u32,
+        n: u32,
+        b: u32,
+        word: *const u32,
+        word_len: usize,
+        scratch: *mut u32,
+        scratch_len: usize,
+        data: *mut u32,
+        data_len: usize,
+    ) -> u32;
+    fn harness_decode(q: u32, n: u32, b: u32, word: *mut u32, word_len: usize) -> u32;
+    fn harness_read_page(q: u32, n: u32, b: u32, data: *const u32, data_len: usize) -> u32;
+    fn harness_write_page(
+        q: u32,
+        n: u32,
+        b: u32,
+        page: u32,
+        marks: *const u32,
+        marks_len: usize,
+        data: *mut u32,
+        data_len: usize,
+    ) -> u32;
+    fn harness_fresh(q: u32, n: u32, b: u32, session: *mut u32, session_len: usize) -> u32;
+    fn harness_count(session: *const u32, session_len: usize, function: u32) -> u64;
+    fn harness_arrive(
+        session: *mut u32,
+        session_len: usize,
+        word: *mut u32,
+        word_len: usize,
+        scratch: *mut u32,
+        scratch_len: usize,
+        outcome: *mut u32,
+        outcome_len: usize,
+    ) -> u32;
+}
+
+// SAFETY, for every call below: each pointer and length is that of a live slice, exclusively lent
+// where the function writes, and the function keeps no pointer.
+
+pub fn host_read_word(shape: Shape, word: &mut [u8]) -> u32 {
+    unsafe { shaftglimmer_read_word(shape.q, shape.n, shape.b, word.as_mut_ptr(), word.len()) }
+}
+
+pub fn host_read_page(shape: Shape, data: &[u8]) -> u32 {
+    unsafe { shaftglimmer_read_page(shape.q, shape.n, shape.b, data.as_ptr(), data.len()) }
+}
+
+pub fn encode(shape: Shape, data: &[u32], scratch: &mut [u32], word: &mut [u32]) -> u32 {
+    unsafe {
+        harness_encode(
+            shape.q,
+            shape.n,
+            shape.b,
+            data.as_ptr(),
+            data.len(),
+            scratch.as_mut_ptr(),
+            scratch.len(),
+            word.as_mut_ptr(),
+            word.len(),
+        )
+    }
+}
+
+pub fn extract(shape: Shape, word: &[u32], scratch: &mut [u32], data: &mut [u32]) -> u32 {
+    unsafe {
+        harness_extract(
+            shape.q,
+            shape.n,
+            shape.b,
+            word.as_ptr(),
+            word.len(),
+            scratch.as_mut_ptr(),
+            scratch.len(),
+            data.as_mut_ptr(),
+            data.len(),
+        )
+    }
+}
+
+pub fn decode(shape: Shape, word: &mut [u32]) -> u32 {
+    unsafe { harness_decode(shape.q, shape.n, shape.b, word.as_mut_ptr(), word.len()) }
+}
+
+pub fn read_page(shape: Shape, data: &[u32]) -> u32 {
+    unsafe { harness_read_page(shape.q, shape.n, shape.b, data.as_ptr(), data.len()) }
+}
+
+pub fn write_page(shape: Shape, page: u32, marks: &[u32], data: &mut [u32]) -> u32 {
+    unsafe {
+        harness_write_page(shape.q, shape.n, shape.b, page, marks.as_ptr(), marks.len(), data.as_mut_ptr(), data.len())
+    }
+}
+
+pub fn fresh(shape: Shape, session: &mut [u32]) -> u32 {
+    unsafe { harness_fresh(shape.q, shape.n, shape.b, session.as_mut_ptr(), session.len()) }
+}
+
+pub fn count(session: &[u32], function: u32) -> u64 {
+    unsafe { harness_count(session.as_ptr(), session.len(), function) }
+}
+
+pub fn arrive(session: &mut [u32], word: &mut [u32], scratch: &mut [u32], outcome: &mut [u32]) -> u32 {
+    unsafe {
+        harness_arrive(
+            session.as_mut_ptr(),
+            session.len(),
+            word.as_mut_ptr(),
+            word.len(),
+            scratch.as_mut_ptr(),
+            scratch.len(),
+            outcome.as_mut_ptr(),
+            outcome.len(),
+        )
+    }
+}

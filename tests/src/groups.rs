@@ -1,0 +1,17 @@
+//! The groups of tests.
+
+#[cfg(not(feature = "reference-only"))]
+pub mod codec;
+mod faults;
+#[cfg(not(feature = "reference-only"))]
+pub mod pages;
+pub mod reference;
+#[cfg(not(feature = "reference-only"))]
+pub mod refusals;
+#[cfg(not(feature = "reference-only"))]
+pub mod sessions;
+pub mod stream;
+pub mod text;
+pub mod vectors;
+#[cfg(not(feature = "reference-only"))]
+pub mod words;

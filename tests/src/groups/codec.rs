@@ -1,0 +1,55 @@
+//! Writing and extraction for every (q, n).
+
+use crate::call::{Call, Entry};
+use crate::random::Random;
+use crate::reference::shape::{orders_and_directions, Shape};
+use crate::reference::writer::codeword;
+use crate::report::{Group, Unit, Verdict};
+use crate::shrink::expect;
+
+pub fn group() -> Group {
+    let mut group = Group::new("writing and extraction", Unit::Calls);
+    for (q, n) in orders_and_directions() {
+        group.test(format!("random symbols of ({q}, {n})"), move |random| random_symbols(q, n, random));
+        group.test(format!("single symbols of ({q}, {n})"), move |random| single_symbols(q, n, random));
+    }
+    group
+}
+
+/// Each call is lent a scratch and a result slice full of old numbers.
+fn encode(shape: Shape, data: &[u32], random: &mut Random) -> Call {
+    let (scratch, word) = (random.numbers(shape.scratch_len()), random.numbers(shape.word_len()));
+    Call::new(Entry::Encode, shape, &[data, &scratch, &word])
+}
+
+fn extract(shape: Shape, word: &[u32], random: &mut Random) -> Call {
+    let (scratch, data) = (random.numbers(shape.scratch_len()), random.numbers(shape.data_len()));
+    Call::new(Entry::Extract, shape, &[word, &scratch, &data])
+}
+
+fn random_symbols(q: u32, n: u32, random: &mut Random) -> Verdict {
+    let mut tried = 0;
+    for b in [1, 8, 11, 31, 32, 1 + random.below(32) as u32] {
+        let shape = Shape::new(q, n, b);
+        for _ in 0..12 {
+            let data = random.symbols(shape, shape.data_len());
+            expect(&encode(shape, &data, random))?;
+            expect(&extract(shape, &codeword(shape, &data), random))?;
+            let any = random.symbols(shape, shape.word_len());
+            expect(&extract(shape, &any, random))?;
+            tried += 3;
+        }
+    }
+    Ok(tried)
+}
+
+/// Each information symbol alone, which shows every parity symbol that it takes part in.
+fn single_symbols(q: u32, n: u32, random: &mut Random) -> Verdict {
+    let shape = Shape::new(q, n, 32);
+    for k in 0..shape.data_len() {
+        let mut data = vec![0; shape.data_len()];
+        data[k] = random.nonzero_symbol(shape);
+        expect(&encode(shape, &data, random))?;
+    }
+    Ok(shape.data_len() as u64)
+}

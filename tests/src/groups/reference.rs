@@ -1,0 +1,131 @@
+//! The reference against document 01's own statements, and its reader against trying everything.
+
+use crate::damage::{apply, make, unmasked, STYLES};
+use crate::random::Random;
+use crate::reference::brute::{all_explained, all_words, explanations, Explanation};
+use crate::reference::elimination::Positions;
+use crate::reference::program::tally;
+use crate::reference::reader::decode;
+use crate::reference::shape::{orders_and_directions, Refusal, Shape};
+use crate::reference::square::{checks_on, is_codeword};
+use crate::reference::writer::{codeword, information};
+use crate::report::{Group, Unit, Verdict};
+
+pub fn group() -> Group {
+    let mut group = Group::new("reference", Unit::Calls);
+    for (q, n) in orders_and_directions() {
+        group.test(format!("checks of ({q}, {n})"), move |_| checks(Shape::new(q, n, 1)));
+        group.test(format!("positions of ({q}, {n})"), move |random| positions(q, n, random));
+        group.test(format!("unmasked errors of ({q}, {n})"), move |random| restores(q, n, random));
+    }
+    for n in [2, 3] {
+        group.test(format!("all words of (3, {n}, 1)"), move |_| every_word(Shape::new(3, n, 1)));
+    }
+    for (q, n, b) in [(3, 2, 2), (3, 3, 2), (3, 3, 3), (5, 2, 1), (5, 3, 1), (5, 4, 1), (5, 5, 1), (7, 2, 1), (7, 3, 1)]
+    {
+        group.test(format!("sampled words of ({q}, {n}, {b})"), move |random| sampled(Shape::new(q, n, b), random));
+    }
+    group.test("document 01's capture", |_| example());
+    group
+}
+
+fn require(holds: bool, claim: &str) -> Result<(), String> {
+    if holds {
+        Ok(())
+    } else {
+        Err(format!("not so: {claim}"))
+    }
+}
+
+/// Each check has q symbols; two different symbols share at most one check.
+fn checks(shape: Shape) -> Verdict {
+    let on: Vec<Vec<usize>> = (0..shape.word_len()).map(|j| checks_on(shape, j).collect()).collect();
+    for check in 0..shape.checks() {
+        let symbols = on.iter().filter(|checks| checks.contains(&check)).count();
+        require(symbols == shape.q as usize, "each check has q symbols")?;
+    }
+    for (j, left) in on.iter().enumerate() {
+        for right in &on[..j] {
+            let shared = left.iter().zip(right).filter(|(x, y)| x == y).count();
+            require(shared <= 1, "two symbols share at most one check")?;
+        }
+    }
+    Ok(shape.word_len() as u64)
+}
+
+fn positions(q: u32, n: u32, random: &mut Random) -> Verdict {
+    let shape = Shape::new(q, n, 32);
+    let found = Positions::of(shape);
+    require(found.parity.len() == shape.checks() - shape.most_errors(), "n×q - (n-1) parity positions")?;
+    require(found.information.len() == shape.data_len(), "K information positions")?;
+    let rounds = 20;
+    for _ in 0..rounds {
+        let data = random.symbols(shape, shape.data_len());
+        let word = codeword(shape, &data);
+        require(is_codeword(shape, &word), "what is written is a codeword")?;
+        require(information(shape, &word) == data, "what is written is found again")?;
+    }
+    Ok(rounds)
+}
+
+/// Reading undoes every unmasked error of weight up to n - 1 and counts its symbols.
+fn restores(q: u32, n: u32, random: &mut Random) -> Verdict {
+    let mut tried = 0;
+    for b in [1, 2, 8, 32] {
+        let shape = Shape::new(q, n, b);
+        let sent = codeword(shape, &random.symbols(shape, shape.data_len()));
+        for weight in 0..=shape.most_errors() {
+            let mut word = sent.clone();
+            apply(&unmasked(shape, weight, random), &mut word);
+            require(decode(shape, &mut word) == Ok(weight as u32), "an unmasked error is counted")?;
+            require(word == sent, "an unmasked error is undone")?;
+            tried += 1;
+        }
+    }
+    Ok(tried)
+}
+
+/// What reading must give for a word with these explanations.
+fn agrees(shape: Shape, received: &[u32], explained: &[Explanation]) -> Result<(), String> {
+    require(explained.windows(2).all(|pair| pair[0] == pair[1]), "a word has at most one explanation")?;
+    let mut word = received.to_vec();
+    let expected = match explained.first() {
+        Some((codeword, weight)) => (Ok(*weight as u32), codeword.clone()),
+        None => (Err(Refusal::Uncorrectable), received.to_vec()),
+    };
+    let found = (decode(shape, &mut word), word);
+    if found == expected {
+        Ok(())
+    } else {
+        Err(format!("{shape:?} {received:?}: {found:?}, by the definition {expected:?}"))
+    }
+}
+
+fn every_word(shape: Shape) -> Verdict {
+    let all = all_explained(shape);
+    let words = all_words(shape);
+    for received in &words {
+        let explained: Vec<Explanation> =
+            all.iter().filter(|(word, _)| word == received).map(|(_, by)| by.clone()).collect();
+        agrees(shape, received, &explained)?;
+    }
+    Ok(words.len() as u64)
+}
+
+fn sampled(shape: Shape, random: &mut Random) -> Verdict {
+    let rounds = 150;
+    for _ in 0..rounds {
+        let mut received = codeword(shape, &random.symbols(shape, shape.data_len()));
+        let (style, weight) = (random.pick(&STYLES), random.below(shape.n as usize + 3));
+        apply(&make(style, shape, weight, random), &mut received);
+        agrees(shape, &received, &explanations(shape, &received))?;
+    }
+    Ok(rounds)
+}
+
+fn example() -> Verdict {
+    let input = "q n b\n3 2 8\nword\n5 2 7 3 1 2 6 3 5\n12 2 7 3 1 2 6 3 5\n1 0 0 0 1 0 0 0 0\n";
+    let output = "outcome page fixed\ntaken 1 0\nagain 1 1\nrefused 4 0\nfunction calls\n3 1\n5 1\n";
+    require(tally(input.as_bytes()) == output.as_bytes(), "document 01's output")?;
+    Ok(1)
+}

@@ -1,0 +1,242 @@
+//! Arrivals in sessions grown from a fresh one and in sessions handed in from elsewhere.
+
+use crate::call::{difference, Call, Entry};
+use crate::capture::{page_numbers, recording, Page};
+use crate::damage::{apply, make, unmasked, STYLES};
+use crate::random::Random;
+use crate::reference::page::{FUNCTIONS, PAGES};
+use crate::reference::session::{Outcome, Session};
+use crate::reference::shape::{orders_and_directions, Shape};
+use crate::reference::writer::codeword;
+use crate::report::{Group, Unit, Verdict};
+use crate::shrink::{expect, without_parts, Case};
+
+pub fn groups() -> [Group; 2] {
+    let mut group = Group::new("arrivals", Unit::Words);
+    let mut queries = Group::new("count queries", Unit::Calls);
+    for (q, n) in orders_and_directions() {
+        group.test(format!("grown, ({q}, {n})"), move |random| grown(q, n, random));
+        group.test(format!("handed in, ({q}, {n})"), move |random| handed_in(q, n, random));
+        group.test(format!("worn counts, ({q}, {n})"), move |random| worn(q, n, random));
+        queries.test(format!("({q}, {n})"), move |random| count_queries(q, n, random));
+    }
+    group.test("all 1024 pages, full of marks", all_pages);
+    [group, queries]
+}
+
+/// What the caller lends beside the session.
+#[derive(Clone)]
+struct Arrival {
+    word: Vec<u32>,
+    scratch: Vec<u32>,
+}
+
+/// A session and a list of arrivals.
+#[derive(Clone)]
+struct Run {
+    start: Vec<u32>,
+    arrivals: Vec<Arrival>,
+}
+
+impl Run {
+    /// Every arrival of the library's compared with the reference's, from the same session; the last
+    /// session and all outcomes.
+    fn follow(&self) -> Result<(Vec<u32>, Vec<[u32; 3]>), String> {
+        let mut session = self.start.clone();
+        let mut outcomes = vec![];
+        for (i, arrival) in self.arrivals.iter().enumerate() {
+            let call =
+                Call::new(Entry::Arrive, shape_of(&session), &[&session, &arrival.word, &arrival.scratch, &[9; 3]]);
+            let (expected, mut found) = (call.on_reference(), call.on_library());
+            if session[3..3 + PAGES].iter().any(|&yes| yes > 1) {
+                // A yes may be any nonzero number; which one an arrival leaves is open.
+                found.slices[0] = Session::from_values(&found.slices[0]).values();
+            }
+            if let Some(difference) = difference(Entry::Arrive, &expected, &found) {
+                return Err(format!("at arrival {i}, {difference}"));
+            }
+            session.copy_from_slice(&found.slices[0]);
+            outcomes.push([found.slices[3][0], found.slices[3][1], found.slices[3][2]]);
+        }
+        Ok((session, outcomes))
+    }
+}
+
+impl Case for Run {
+    fn difference(&self) -> Option<String> {
+        self.follow().err()
+    }
+
+    fn smaller(&self) -> impl Iterator<Item = Run> {
+        without_parts(&self.arrivals).map(|arrivals| Run { start: self.start.clone(), arrivals })
+    }
+
+    fn describe(&self) -> String {
+        let session = Session::from_values(&self.start);
+        let pages: Vec<usize> = (0..PAGES).filter(|&page| session.taken[page]).collect();
+        let calls: Vec<(usize, u32)> = session.calls.into_iter().enumerate().filter(|(_, calls)| *calls > 0).collect();
+        let words: Vec<&Vec<u32>> = self.arrivals.iter().map(|arrival| &arrival.word).collect();
+        format!("{:?}, taken {pages:?}, calls {calls:?}, arrivals {words:?}", session.shape)
+    }
+}
+
+fn shape_of(session: &[u32]) -> Shape {
+    Shape::new(session[0], session[1], session[2])
+}
+
+fn arrival(shape: Shape, word: Vec<u32>, random: &mut Random) -> Arrival {
+    Arrival { word, scratch: random.numbers(shape.scratch_len()) }
+}
+
+/// A page with damage that reading undoes.
+fn readable(shape: Shape, page: &Page, random: &mut Random) -> Arrival {
+    let weight = random.below(shape.n as usize);
+    let error = unmasked(shape, weight, random);
+    arrival(shape, page.damaged(shape, &error), random)
+}
+
+/// Anything: mostly words that are refused, for every reason.
+fn anything(shape: Shape, page: &Page, random: &mut Random) -> Arrival {
+    let mut data = page.symbols(shape);
+    let mut weight = random.below(shape.n as usize);
+    match random.below(8) {
+        0 => data[0] = random.symbol(shape),
+        1 => data[1] = random.symbol(shape),
+        2 => data[random.below(shape.data_len())] = random.symbol(shape),
+        3 => data = random.symbols(shape, shape.data_len()),
+        _ => weight = random.below(shape.n as usize + 3),
+    }
+    let mut word = codeword(shape, &data);
+    let style = random.pick(&STYLES);
+    apply(&make(style, shape, weight, random), &mut word);
+    match random.below(16) {
+        0 => word = random.symbols(shape, shape.word_len()),
+        1 => word[random.below(shape.word_len())] |= shape.largest().saturating_add(1),
+        2 => word.truncate(shape.word_len() - 1),
+        3 => word.push(0),
+        _ => {}
+    }
+    let mut arrival = arrival(shape, word, random);
+    match random.below(16) {
+        0 => arrival.scratch.truncate(shape.scratch_len() - 1),
+        1 => arrival.scratch.push(7),
+        _ => {}
+    }
+    arrival
+}
+
+fn is_refused(shape: Shape, arrival: &Arrival) -> bool {
+    let mut session = Session::fresh(shape).expect("a lawful shape");
+    let outcome = session.arrive(&mut arrival.word.clone(), &mut arrival.scratch.clone());
+    matches!(outcome, Outcome::Refused(_))
+}
+
+/// Every page some times in any order, refused words between: the tally is the recording's own.
+fn grown(q: u32, n: u32, random: &mut Random) -> Verdict {
+    let mut tried = 0;
+    for b in [1, 8, 11, 31, 32] {
+        let shape = Shape::new(q, n, b);
+        let pages = recording(shape, 12, random);
+        let mut arrivals = vec![];
+        for page in &pages {
+            arrivals.extend((0..1 + random.below(3)).map(|_| readable(shape, page, random)));
+            arrivals.extend(Some(anything(shape, page, random)).filter(|arrival| is_refused(shape, arrival)));
+        }
+        random.shuffle(&mut arrivals);
+        tried += fits_recording(shape, &pages, arrivals)?;
+    }
+    Ok(tried)
+}
+
+/// Runs the list from a fresh session and holds the end to the recording.
+fn fits_recording(shape: Shape, pages: &[Page], arrivals: Vec<Arrival>) -> Verdict {
+    let mut start = vec![7; 3 + PAGES + FUNCTIONS];
+    let answer = crate::ffi::fresh(shape, &mut start);
+    let run = Run { start, arrivals };
+    let Ok((session, outcomes)) = run.follow() else { return expect(&run).map(|()| 0) };
+    let mut calls = [0; FUNCTIONS];
+    pages.iter().flat_map(|page| &page.marks).for_each(|&mark| calls[mark as usize] += 1);
+    let taken = outcomes.iter().filter(|outcome| outcome[0] == 0).count();
+    if answer != 0 || session[3 + PAGES..] != calls || taken != pages.len() {
+        return Err(format!("{shape:?}: {taken} pages taken of {}; the tally is not the recording's", pages.len()));
+    }
+    Ok(outcomes.len() as u64)
+}
+
+/// Sessions with any pages taken, any nonzero number for yes, and counts near both ends.
+fn handed_in(q: u32, n: u32, random: &mut Random) -> Verdict {
+    let mut tried = 0;
+    for b in [1, 2, 8, 11, 31, 32] {
+        let shape = Shape::new(q, n, b);
+        for _ in 0..4 {
+            let start = any_session(shape, random);
+            let number = |random: &mut Random| random.below(page_numbers(shape)) as u32;
+            let pages: Vec<Page> = (0..6).map(|_| Page::random(shape, number(random), random)).collect();
+            let some = |page: &Page| {
+                if random.one_in(3) {
+                    anything(shape, page, random)
+                } else {
+                    readable(shape, page, random)
+                }
+            };
+            let run = Run { start, arrivals: pages.iter().map(some).collect() };
+            expect(&run)?;
+            tried += run.arrivals.len() as u64;
+        }
+    }
+    Ok(tried)
+}
+
+fn any_session(shape: Shape, random: &mut Random) -> Vec<u32> {
+    let yes = [1, 1, 2, 255, 256, 1 << 16, 1 << 31, u32::MAX];
+    let mut session = vec![shape.q, shape.n, shape.b];
+    session.extend((0..PAGES).map(|_| if random.one_in(3) { random.pick(&yes) } else { 0 }));
+    let mut count = || match random.below(3) {
+        0 => 0,
+        1 => random.number(),
+        _ => u32::MAX - random.below(4) as u32,
+    };
+    session.extend((0..FUNCTIONS).map(|_| count()));
+    session
+}
+
+/// A function's count that its marks just fill, and one that they just pass: the latter is refused,
+/// but only where the page is new.
+fn worn(q: u32, n: u32, random: &mut Random) -> Verdict {
+    let mut tried = 0;
+    for b in [1, 8, 32] {
+        let shape = Shape::new(q, n, b);
+        for _ in 0..4 {
+            let page = Page::random(shape, random.below(page_numbers(shape)) as u32, random);
+            let Some(&function) = page.marks.last() else { continue };
+            let times = page.marks.iter().filter(|&&mark| mark == function).count() as u32;
+            for (left, taken) in [(times, false), (times - 1, false), (times - 1, true), (0, false)] {
+                let mut session = Session::fresh(shape).expect("a lawful shape");
+                session.calls[function as usize] = u32::MAX - left;
+                session.taken[page.number as usize] = taken;
+                let arrivals = vec![readable(shape, &page, random), readable(shape, &page, random)];
+                expect(&Run { start: session.values(), arrivals })?;
+                tried += 2;
+            }
+        }
+    }
+    Ok(tried)
+}
+
+/// The largest recording there is, each page twice.
+fn all_pages(random: &mut Random) -> Verdict {
+    let shape = Shape::new(31, 2, 32);
+    let mut page =
+        |number| Page { number, marks: (0..shape.most_marks()).map(|_| random.below(3) as u32 * 127).collect() };
+    let pages: Vec<Page> = (0..PAGES as u32).map(&mut page).collect();
+    let mut arrivals: Vec<Arrival> = pages.iter().chain(&pages).map(|page| readable(shape, page, random)).collect();
+    random.shuffle(&mut arrivals);
+    fits_recording(shape, &pages, arrivals)
+}
+
+fn count_queries(q: u32, n: u32, random: &mut Random) -> Verdict {
+    let session = any_session(Shape::new(q, n, 1 + random.below(32) as u32), random);
+    let functions = (0..300).chain([1 << 16, 1 << 31, u32::MAX]);
+    let query = |function| expect(&Call::numbered(Entry::Count, shape_of(&session), function, &[&session]));
+    functions.map(query).try_fold(0, |tried, queried| queried.map(|()| tried + 1))
+}

@@ -1,0 +1,144 @@
+//! Document 01's bench values, as calls with what must come of them.
+
+use crate::call::{answer_of, difference, to_bytes, After, Call, Entry};
+use crate::reference::session::SESSION_LEN;
+use crate::reference::shape::{Refusal, Shape};
+use crate::report::{Group, Unit};
+
+const B3: Shape = Shape::new(3, 3, 3);
+const B8: Shape = Shape::new(3, 2, 8);
+const B9: Shape = Shape::new(3, 2, 9);
+const B11: Shape = Shape::new(3, 2, 11);
+const P4_WORD: [u32; 9] = [3, 6, 5, 5, 3, 6, 6, 5, 3];
+const P5_WORD: [u32; 9] = [3, 6, 5, 2, 2, 6, 6, 5, 3];
+const P6_WORD: [u32; 9] = [3, 6, 5, 2, 4, 6, 6, 5, 3];
+const P7_WORD: [u32; 9] = [5, 2, 7, 3, 1, 2, 6, 3, 5];
+
+struct Vector {
+    name: &'static str,
+    call: Call,
+    expected: After,
+}
+
+/// The group for the reference or for the library, whichever makes the calls.
+pub fn group(name: &'static str, make: fn(&Call) -> After) -> Group {
+    let mut group = Group::new(name, Unit::Calls);
+    for vector in vectors() {
+        group.test(vector.name, move |_| {
+            let Vector { call, expected, .. } = &vector;
+            difference(call.entry, expected, &make(call)).map_or(Ok(1), Err)
+        });
+    }
+    group
+}
+
+fn vectors() -> Vec<Vector> {
+    [positions(), words(), pages(), arrivals(), shapes()].into_iter().flatten().collect()
+}
+
+/// A call that answers `result` and leaves each slice as said.
+fn vector(name: &'static str, call: Call, result: Result<u32, Refusal>, slices: &[&[u32]]) -> Vector {
+    let slices = slices.iter().map(|slice| slice.to_vec()).collect();
+    Vector { name, call, expected: After { answer: answer_of(result), slices } }
+}
+
+/// A call that leaves every slice as it was.
+fn unchanging(name: &'static str, call: Call, result: Result<u32, Refusal>) -> Vector {
+    let expected = After { answer: answer_of(result), slices: call.slices.clone() };
+    Vector { name, call, expected }
+}
+
+/// Extraction from a word whose symbols are their own positions.
+fn positions() -> Vec<Vector> {
+    let word = [0, 1, 2, 3, 4, 5, 6, 7, 8];
+    let extract = |shape: Shape, data: &[u32]| {
+        let scratch = vec![7; shape.scratch_len()];
+        Call::new(Entry::Extract, shape, &[&word, &scratch, data])
+    };
+    vec![
+        vector("P1", extract(B8, &[9; 4]), Ok(0), &[&word, &[0; 6], &[4, 5, 7, 8]]),
+        vector("P2", extract(Shape::new(3, 3, 8), &[9; 2]), Ok(0), &[&word, &[0; 9], &[7, 8]]),
+    ]
+}
+
+fn words() -> Vec<Vector> {
+    let encode = |shape: Shape, data: &[u32]| {
+        let scratch = vec![7; shape.scratch_len()];
+        Call::new(Entry::Encode, shape, &[data, &scratch, &[1; 9]])
+    };
+    let p3 = encode(Shape::new(3, 2, 3), &[3, 5, 6, 7]);
+    let decode = |word: &[u32]| Call::new(Entry::Decode, B3, &[word]);
+    let host = |word: &[u32]| Call::new(Entry::HostReadWord, B3, &[&to_bytes(word)]);
+    vec![
+        vector("P3", p3, Ok(0), &[&[3, 5, 6, 7], &[0; 6], &[7, 5, 2, 6, 3, 5, 1, 6, 7]]),
+        vector("P4", encode(B3, &[5, 3]), Ok(0), &[&[5, 3], &[0; 9], &P4_WORD]),
+        unchanging("P4 read", decode(&P4_WORD), Ok(0)),
+        vector("P5", decode(&P5_WORD), Ok(2), &[&P4_WORD]),
+        vector("P5 for the host", host(&P5_WORD), Ok(2), &[&to_bytes(&P4_WORD)]),
+        unchanging("P6", decode(&P6_WORD), Err(Refusal::Uncorrectable)),
+        unchanging("P6 for the host", host(&P6_WORD), Err(Refusal::Uncorrectable)),
+        vector("P7", encode(B8, &[1, 2, 3, 5]), Ok(0), &[&[1, 2, 3, 5], &[0; 6], &P7_WORD]),
+    ]
+}
+
+fn pages() -> Vec<Vector> {
+    let write = |shape: Shape, page: u32, marks: &[u32]| {
+        Call::numbered(Entry::WritePage, shape, page, &[marks, &vec![9; shape.data_len()]])
+    };
+    let read = |shape: Shape, data: &[u32]| Call::new(Entry::ReadPage, shape, &[data]);
+    let host = |shape: Shape, data: &[u32]| Call::new(Entry::HostReadPage, shape, &[&to_bytes(data)]);
+    vec![
+        vector("P7 page", write(B8, 1, &[3, 5]), Ok(0), &[&[3, 5], &[1, 2, 3, 5]]),
+        unchanging("P7 page read", read(B8, &[1, 2, 3, 5]), Ok(1026)),
+        unchanging("P7 page for the host", host(B8, &[1, 2, 3, 5]), Ok(1026)),
+        unchanging("P8", read(B8, &[1, 3, 0, 0]), Err(Refusal::Count)),
+        unchanging("P8 for the host", host(B8, &[1, 3, 0, 0]), Err(Refusal::Count)),
+        unchanging("P8 written", write(B8, 1, &[0, 0, 0]), Err(Refusal::Count)),
+        unchanging("P9", read(B8, &[0, 1, 4, 9]), Err(Refusal::Tail)),
+        unchanging("P10 1023", read(B11, &[1023, 0, 0, 0]), Ok(1023 * 1024)),
+        unchanging("P10 1024", read(B11, &[1024, 0, 0, 0]), Err(Refusal::Page)),
+        vector("P10 1023 written", write(B11, 1023, &[]), Ok(0), &[&[], &[1023, 0, 0, 0]]),
+        unchanging("P10 1024 written", write(B11, 1024, &[]), Err(Refusal::Page)),
+        unchanging("mark 255", read(B9, &[1, 1, 255, 0]), Ok(1025)),
+        unchanging("mark 256", read(B9, &[1, 1, 256, 0]), Err(Refusal::Function)),
+        vector("mark 255 written", write(B9, 1, &[255]), Ok(0), &[&[255], &[1, 1, 255, 0]]),
+        unchanging("mark 256 written", write(B9, 1, &[256]), Err(Refusal::Function)),
+    ]
+}
+
+/// The words of the program's example, in turn.
+fn arrivals() -> Vec<Vector> {
+    let session = |taken: bool| {
+        let mut session = [[3, 2, 8].as_slice(), &[0; SESSION_LEN - 3]].concat();
+        if taken {
+            session[3 + 1] = 1;
+            session[3 + 1024 + 3] = 1;
+            session[3 + 1024 + 5] = 1;
+        }
+        session
+    };
+    let arrive = |taken: bool, word: &[u32]| Call::new(Entry::Arrive, B8, &[&session(taken), word, &[7; 6], &[9; 3]]);
+    let damaged = [12, 2, 7, 3, 1, 2, 6, 3, 5];
+    let masked = [1, 0, 0, 0, 1, 0, 0, 0, 0];
+    vec![
+        vector("taken", arrive(false, &P7_WORD), Ok(0), &[&session(true), &P7_WORD, &[0; 6], &[0, 1, 0]]),
+        vector("again", arrive(true, &damaged), Ok(0), &[&session(true), &P7_WORD, &[0; 6], &[1, 1, 1]]),
+        vector("refused", arrive(true, &masked), Ok(0), &[&session(true), &masked, &[0; 6], &[2, 4, 0]]),
+    ]
+}
+
+fn shapes() -> Vec<Vector> {
+    let fresh = |shape: Shape| Call::new(Entry::Fresh, shape, &[&[5; SESSION_LEN]]);
+    let made = |shape: Shape| [[shape.q, shape.n, shape.b].as_slice(), &[0; SESSION_LEN - 3]].concat();
+    let accepted = |name, shape| vector(name, fresh(shape), Ok(0), &[&made(shape)]);
+    let refused = |name, shape| unchanging(name, fresh(shape), Err(Refusal::Shape));
+    vec![
+        accepted("shape 31 8 32", Shape::new(31, 8, 32)),
+        accepted("shape 3 3 1", Shape::new(3, 3, 1)),
+        refused("shape 3 4 8", Shape::new(3, 4, 8)),
+        refused("shape 31 9 8", Shape::new(31, 9, 8)),
+        refused("shape 9 2 8", Shape::new(9, 2, 8)),
+        refused("shape 3 2 0", Shape::new(3, 2, 0)),
+        refused("shape 3 2 33", Shape::new(3, 2, 33)),
+    ]
+}

@@ -1,0 +1,160 @@
+//! Reading words with every kind of error, through the harness and through the host pair.
+
+use crate::call::{brief, difference, to_bytes, After, Call, Entry};
+use crate::damage::{apply, make, unmasked, Error, STYLES};
+use crate::random::Random;
+use crate::reference::shape::{orders_and_directions, Shape, ORDERS};
+use crate::reference::writer::codeword;
+use crate::report::{Group, Unit, Verdict};
+use crate::shrink::{expect, without_parts, Case};
+
+const WIDTHS: [u32; 7] = [1, 2, 8, 11, 16, 31, 32];
+
+pub fn group() -> Group {
+    let mut group = Group::new("damaged words", Unit::Words);
+    for (q, n) in orders_and_directions() {
+        group.test(format!("({q}, {n})"), move |random| sweep(q, n, random));
+    }
+    for (q, n) in orders_and_directions() {
+        group.test(format!("random words of ({q}, {n})"), move |random| random_words(q, n, random));
+    }
+    for n in [2, 3] {
+        group.test(format!("all words of (3, {n}, 1)"), move |_| every_word(Shape::new(3, n, 1)));
+    }
+    group
+}
+
+/// Small words are read more often, since they cost less.
+fn rounds(shape: Shape) -> usize {
+    (9_000 / shape.word_len()).clamp(12, 180)
+}
+
+fn sweep(q: u32, n: u32, random: &mut Random) -> Verdict {
+    let mut tried = 0;
+    for b in WIDTHS.into_iter().chain([3 + random.below(28) as u32]) {
+        let shape = Shape::new(q, n, b);
+        for _ in 0..rounds(shape) {
+            let sent = codeword(shape, &random.symbols(shape, shape.data_len()));
+            for error in errors(shape, random) {
+                expect(&Damaged { shape, sent: sent.clone(), error })?;
+                tried += 1;
+            }
+        }
+    }
+    Ok(tried)
+}
+
+/// Errors of every weight from 0 to n + 2, in every style, and unmasked ones up to n - 1.
+fn errors(shape: Shape, random: &mut Random) -> Vec<Error> {
+    let mut errors = vec![];
+    for weight in 0..=shape.n as usize + 2 {
+        errors.extend(STYLES.map(|style| make(style, shape, weight, random)));
+        if weight <= shape.most_errors() {
+            errors.push(unmasked(shape, weight, random));
+        }
+    }
+    errors
+}
+
+/// Words that have nothing to do with a codeword.
+fn random_words(q: u32, n: u32, random: &mut Random) -> Verdict {
+    let mut tried = 0;
+    for b in WIDTHS {
+        let shape = Shape::new(q, n, b);
+        for _ in 0..rounds(shape) {
+            let word = random.symbols(shape, shape.word_len());
+            expect(&Damaged::by_itself(shape, &word))?;
+            tried += 1;
+        }
+    }
+    Ok(tried)
+}
+
+/// All 2^9 words.
+fn every_word(shape: Shape) -> Verdict {
+    for bits in 0..1 << shape.word_len() {
+        let word: Vec<u32> = (0..shape.word_len()).map(|j| bits >> j & 1).collect();
+        expect(&Damaged::by_itself(shape, &word))?;
+    }
+    Ok(1 << shape.word_len())
+}
+
+#[derive(Clone)]
+struct Damaged {
+    shape: Shape,
+    sent: Vec<u32>,
+    error: Error,
+}
+
+impl Damaged {
+    /// A word as an error on the zero word.
+    fn by_itself(shape: Shape, word: &[u32]) -> Damaged {
+        let nonzero = |(j, &symbol): (usize, &u32)| (symbol != 0).then_some((j, symbol));
+        let error = word.iter().enumerate().filter_map(nonzero).collect();
+        Damaged { shape, sent: vec![0; shape.word_len()], error }
+    }
+
+    fn received(&self) -> Vec<u32> {
+        let mut word = self.sent.clone();
+        apply(&self.error, &mut word);
+        word
+    }
+
+    /// The same error on the zero word of another shape, where its symbols and positions exist there.
+    fn moved(&self, shape: Shape) -> Option<Damaged> {
+        let (from, to) = (self.shape.q as usize, shape.q as usize);
+        let place = |&(j, symbol): &(usize, u32)| {
+            let (row, column) = (j / from, j % from);
+            (row < to && column < to && shape.fits(symbol)).then_some((row * to + column, symbol))
+        };
+        let error: Option<Error> = self.error.iter().map(place).collect();
+        Some(Damaged { shape, sent: vec![0; shape.word_len()], error: error? })
+    }
+
+    /// Fewer directions, a smaller order, a smaller width.
+    fn smaller_shapes(&self) -> Vec<Damaged> {
+        let Shape { q, n, b } = self.shape;
+        let orders = ORDERS.into_iter().filter(|&order| order < q).map(|order| Shape::new(order, n, b));
+        let shapes = orders.chain([Shape::new(q, n - 1, b), Shape::new(q, n, 1), Shape::new(q, n, b - 1)]);
+        shapes.filter(|shape| shape.lawful() && *shape != self.shape).filter_map(|shape| self.moved(shape)).collect()
+    }
+
+    /// One symbol of the error replaced by 1, or by half of itself.
+    fn smaller_symbols(&self) -> Vec<Damaged> {
+        let mut smaller = vec![];
+        for i in 0..self.error.len() {
+            let symbol = self.error[i].1;
+            for less in [1, symbol / 2].into_iter().filter(|&less| 0 < less && less < symbol) {
+                let mut case = self.clone();
+                case.error[i].1 = less;
+                smaller.push(case);
+            }
+        }
+        smaller
+    }
+}
+
+impl Case for Damaged {
+    fn difference(&self) -> Option<String> {
+        let word = self.received();
+        let harness = Call::new(Entry::Decode, self.shape, &[&word]);
+        let host = Call::new(Entry::HostReadWord, self.shape, &[&to_bytes(&word)]);
+        let expected = harness.on_reference();
+        let of_host = After { answer: expected.answer, slices: vec![to_bytes(&expected.slices[0])] };
+        let through_host = |found| format!("through the host pair, {found}");
+        difference(harness.entry, &expected, &harness.on_library())
+            .or_else(|| difference(host.entry, &of_host, &host.on_library()).map(through_host))
+    }
+
+    fn smaller(&self) -> impl Iterator<Item = Damaged> {
+        let nonzero = self.sent.iter().any(|&symbol| symbol != 0);
+        let zero_word = nonzero.then(|| Damaged { sent: vec![0; self.sent.len()], ..self.clone() });
+        let lighter = without_parts(&self.error).map(|error| Damaged { error, ..self.clone() });
+        zero_word.into_iter().chain(lighter).chain(self.smaller_shapes()).chain(self.smaller_symbols())
+    }
+
+    fn describe(&self) -> String {
+        let damage: Vec<String> = self.error.iter().map(|(j, symbol)| format!("{symbol} on symbol {j}")).collect();
+        format!("{:?}, codeword {}, error {}", self.shape, brief(&self.sent), damage.join(", "))
+    }
+}

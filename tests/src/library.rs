@@ -1,0 +1,86 @@
+//! Calls of the proved library, compared with the reference.
+
+use crate::call::{brief, difference, After, Call, Entry};
+use crate::ffi;
+use crate::shrink::{with_zeros, Case};
+
+impl Call {
+    pub fn on_library(&self) -> After {
+        let shape = self.shape;
+        let mut slices: Vec<Fenced> = self.slices.iter().map(|slice| Fenced::new(slice)).collect();
+        let answer: u64 = match (self.entry, &mut slices[..]) {
+            (Entry::Encode, [data, scratch, word]) => {
+                ffi::encode(shape, data.lend(), scratch.lend(), word.lend()).into()
+            }
+            (Entry::Extract, [word, scratch, data]) => {
+                ffi::extract(shape, word.lend(), scratch.lend(), data.lend()).into()
+            }
+            (Entry::Decode, [word]) => ffi::decode(shape, word.lend()).into(),
+            (Entry::ReadPage, [data]) => ffi::read_page(shape, data.lend()).into(),
+            (Entry::WritePage, [marks, data]) => ffi::write_page(shape, self.number, marks.lend(), data.lend()).into(),
+            (Entry::Fresh, [session]) => ffi::fresh(shape, session.lend()).into(),
+            (Entry::Count, [session]) => ffi::count(session.lend(), self.number),
+            (Entry::Arrive, [session, word, scratch, outcome]) => {
+                ffi::arrive(session.lend(), word.lend(), scratch.lend(), outcome.lend()).into()
+            }
+            (Entry::HostReadWord, [bytes]) => bytes.lend_bytes(|bytes| ffi::host_read_word(shape, bytes)).into(),
+            (Entry::HostReadPage, [bytes]) => bytes.lend_bytes(|bytes| ffi::host_read_page(shape, bytes)).into(),
+            _ => panic!("wrong number of slices for {:?}", self.entry),
+        };
+        After { answer, slices: slices.into_iter().map(Fenced::take_back).collect() }
+    }
+}
+
+impl Case for Call {
+    fn difference(&self) -> Option<String> {
+        difference(self.entry, &self.on_reference(), &self.on_library())
+    }
+
+    fn smaller(&self) -> impl Iterator<Item = Call> {
+        let with_slice = |i: usize, values: Vec<u32>| {
+            let mut call = self.clone();
+            call.slices[i] = values;
+            call
+        };
+        let zeroed = move |i: usize| with_zeros(&self.slices[i]).map(move |values| with_slice(i, values));
+        (0..self.slices.len()).flat_map(zeroed)
+    }
+
+    fn describe(&self) -> String {
+        let slices = self.entry.slice_names().iter().zip(&self.slices);
+        let slices: Vec<String> = slices.map(|(name, slice)| format!("{name} {}", brief(slice))).collect();
+        format!("{:?} {:?}, number {}, {}", self.entry, self.shape, self.number, slices.join(", "))
+    }
+}
+
+/// Numbers on both sides of a lent slice, to see whether anything outside it was written to.
+const FENCE: [u32; 16] = [0x5a; 16];
+
+struct Fenced(Vec<u32>);
+
+impl Fenced {
+    fn new(values: &[u32]) -> Fenced {
+        Fenced([&FENCE, values, &FENCE].concat())
+    }
+
+    fn lend(&mut self) -> &mut [u32] {
+        let end = self.0.len() - FENCE.len();
+        &mut self.0[FENCE.len()..end]
+    }
+
+    /// Lends the numbers as bytes, the fence being bytes too.
+    fn lend_bytes(&mut self, call: impl FnOnce(&mut [u8]) -> u32) -> u32 {
+        let mut bytes: Vec<u8> = self.0.iter().map(|&byte| byte as u8).collect();
+        let end = bytes.len() - FENCE.len();
+        let answer = call(&mut bytes[FENCE.len()..end]);
+        self.0 = bytes.into_iter().map(u32::from).collect();
+        answer
+    }
+
+    fn take_back(self) -> Vec<u32> {
+        let (before, rest) = self.0.split_at(FENCE.len());
+        let (values, after) = rest.split_at(rest.len() - FENCE.len());
+        assert!(before == FENCE && after == FENCE, "something outside the lent slice was written to");
+        values.to_vec()
+    }
+}

@@ -1,0 +1,64 @@
+//! The test program: `cargo run --release`, with the seed as its argument or in SEED if wanted.
+//!
+//! TALLY names the tally program's executable. Without it the program's tests fail, or are skipped
+//! where ALLOW_SKIP=1. Built with the feature `reference-only`, the library's tests are left out, and
+//! the program's are run only where TALLY is set.
+
+use shaftglimmer_tests::call::Call;
+use shaftglimmer_tests::groups::{reference, stream, text, vectors};
+use shaftglimmer_tests::process::Program;
+use shaftglimmer_tests::report::Report;
+use std::env;
+use std::process::ExitCode;
+use std::time::{SystemTime, UNIX_EPOCH};
+
+fn main() -> ExitCode {
+    let seed = seed();
+    println!("seed {seed}");
+    let mut report = Report::new(seed);
+    report.run(vectors::group("bench values of the reference", Call::on_reference));
+    report.run(reference::group());
+    library(&mut report);
+    program(&mut report);
+    if report.finish() {
+        ExitCode::SUCCESS
+    } else {
+        ExitCode::FAILURE
+    }
+}
+
+/// The seed that was given, else the time.
+fn seed() -> u64 {
+    let given = env::args().nth(1).or_else(|| env::var("SEED").ok());
+    let time = || SystemTime::now().duration_since(UNIX_EPOCH).map_or(0, |since| since.as_nanos() as u64);
+    given.map_or_else(time, |text| text.parse().expect("the seed is a decimal number"))
+}
+
+#[cfg(not(feature = "reference-only"))]
+fn library(report: &mut Report) {
+    use shaftglimmer_tests::groups::{codec, pages, refusals, sessions, words};
+    report.run(vectors::group("bench values of the library", Call::on_library));
+    report.run(codec::group());
+    report.run(words::group());
+    report.run(refusals::group());
+    report.run(pages::group());
+    sessions::groups().into_iter().for_each(|group| report.run(group));
+}
+
+#[cfg(feature = "reference-only")]
+fn library(report: &mut Report) {
+    report.skip("library", "built without it");
+}
+
+fn program(report: &mut Report) {
+    let allowed = env::var_os("ALLOW_SKIP").is_some_and(|value| value == "1");
+    let may_skip = allowed || cfg!(feature = "reference-only");
+    match Program::from_env() {
+        Some(program) => {
+            report.run(text::group(&program));
+            report.run(stream::group(&program));
+        }
+        None if may_skip => report.skip("program", "TALLY is not set"),
+        None => report.fail("program", "TALLY is not set"),
+    }
+}

@@ -1,0 +1,83 @@
+//! Random numbers from a seed (SplitMix64).
+
+use crate::reference::shape::Shape;
+
+pub struct Random(u64);
+
+impl Random {
+    /// A stream of its own for each name, so that a test draws the same whatever else is run.
+    pub fn new(seed: u64, name: &str) -> Random {
+        let hash = |hash: u64, byte: u8| (hash ^ u64::from(byte)).wrapping_mul(0x0000_0100_0000_01b3);
+        Random(name.bytes().fold(seed ^ 0xcbf2_9ce4_8422_2325, hash))
+    }
+
+    fn draw(&mut self) -> u64 {
+        self.0 = self.0.wrapping_add(0x9e37_79b9_7f4a_7c15);
+        let mut mixed = self.0;
+        mixed = (mixed ^ (mixed >> 30)).wrapping_mul(0xbf58_476d_1ce4_e5b9);
+        mixed = (mixed ^ (mixed >> 27)).wrapping_mul(0x94d0_49bb_1331_11eb);
+        mixed ^ (mixed >> 31)
+    }
+
+    pub fn number(&mut self) -> u32 {
+        (self.draw() >> 32) as u32
+    }
+
+    /// From 0 to bound - 1.
+    pub fn below(&mut self, bound: usize) -> usize {
+        (self.draw() % bound as u64) as usize
+    }
+
+    pub fn one_in(&mut self, times: usize) -> bool {
+        self.below(times) == 0
+    }
+
+    pub fn pick<T: Copy>(&mut self, from: &[T]) -> T {
+        from[self.below(from.len())]
+    }
+
+    pub fn shuffle<T>(&mut self, items: &mut [T]) {
+        for i in (1..items.len()).rev() {
+            items.swap(i, self.below(i + 1));
+        }
+    }
+
+    pub fn numbers(&mut self, length: usize) -> Vec<u32> {
+        (0..length).map(|_| self.number()).collect()
+    }
+
+    /// Below 2^b.
+    pub fn symbol(&mut self, shape: Shape) -> u32 {
+        self.number() & shape.largest()
+    }
+
+    pub fn nonzero_symbol(&mut self, shape: Shape) -> u32 {
+        loop {
+            let symbol = self.symbol(shape);
+            if symbol != 0 {
+                return symbol;
+            }
+        }
+    }
+
+    /// Symbols below 2^b: all random, few nonzero, or all as large as can be.
+    pub fn symbols(&mut self, shape: Shape, length: usize) -> Vec<u32> {
+        match self.below(6) {
+            0 => vec![shape.largest(); length],
+            1 => (0..length).map(|_| if self.one_in(8) { self.symbol(shape) } else { 0 }).collect(),
+            _ => (0..length).map(|_| self.symbol(shape)).collect(),
+        }
+    }
+
+    /// Distinct positions below bound, in no order.
+    pub fn positions(&mut self, count: usize, bound: usize) -> Vec<usize> {
+        let mut chosen: Vec<usize> = vec![];
+        while chosen.len() < count {
+            let position = self.below(bound);
+            if !chosen.contains(&position) {
+                chosen.push(position);
+            }
+        }
+        chosen
+    }
+}

@@ -1,0 +1,15 @@
+//! A second implementation, written from document 01 alone, to compare the proved library with.
+//!
+//! It goes by the definitions and takes no short cut that the library takes: information positions
+//! and the writer come from an elimination over the columns of the check matrix, and what the reader
+//! proposes is accepted only if it meets document 01's definition.
+
+pub mod brute;
+pub mod elimination;
+pub mod page;
+pub mod program;
+pub mod reader;
+pub mod session;
+pub mod shape;
+pub mod square;
+pub mod writer;

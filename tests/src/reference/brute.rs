@@ -1,0 +1,59 @@
+//! Reading straight over the definition, by trying everything; only for small shapes.
+
+use super::shape::Shape;
+use super::square::{is_codeword, is_unmasked, weight, xor};
+
+/// A codeword, and how many of its symbols a permitted error changed.
+pub type Explanation = (Vec<u32>, usize);
+
+/// Every list of N symbols below 2^b.
+pub fn all_words(shape: Shape) -> Vec<Vec<u32>> {
+    let mut words = vec![vec![]];
+    for _ in 0..shape.word_len() {
+        let longer = |word: &Vec<u32>| {
+            let word = word.clone();
+            (0..=shape.largest()).map(move |symbol| [word.as_slice(), &[symbol]].concat())
+        };
+        words = words.iter().flat_map(longer).collect();
+    }
+    words
+}
+
+/// All codewords met with all permitted errors: each received word beside its explanation.
+pub fn all_explained(shape: Shape) -> Vec<(Vec<u32>, Explanation)> {
+    let words = all_words(shape);
+    let permitted = |error: &&Vec<u32>| is_unmasked(shape, error) && weight(error) <= shape.most_errors();
+    let errors: Vec<&Vec<u32>> = words.iter().filter(permitted).collect();
+    let mut explained = vec![];
+    for codeword in words.iter().filter(|word| is_codeword(shape, word)) {
+        let met = |error: &&Vec<u32>| (xor(codeword, error), (codeword.clone(), weight(error)));
+        explained.extend(errors.iter().map(met));
+    }
+    explained
+}
+
+/// All explanations of one received word, over every error of permitted weight.
+pub fn explanations(shape: Shape, received: &[u32]) -> Vec<Explanation> {
+    let mut found = vec![];
+    let mut error = vec![0; shape.word_len()];
+    extend(shape, received, &mut error, 0, &mut found);
+    found
+}
+
+/// Tries the error as it stands, then with one more symbol from position `from` on.
+fn extend(shape: Shape, received: &[u32], error: &mut [u32], from: usize, found: &mut Vec<Explanation>) {
+    let word = xor(received, error);
+    if is_codeword(shape, &word) && is_unmasked(shape, error) {
+        found.push((word, weight(error)));
+    }
+    if weight(error) == shape.most_errors() {
+        return;
+    }
+    for j in from..error.len() {
+        for symbol in 1..=shape.largest() {
+            error[j] = symbol;
+            extend(shape, received, error, j + 1, found);
+        }
+        error[j] = 0;
+    }
+}

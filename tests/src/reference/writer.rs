@@ -1,0 +1,55 @@
+//! Writing and data extraction.
+
+use super::elimination::Positions;
+use super::shape::{Refusal, Shape};
+
+/// The codeword with these information symbols. XORed over all positions, symbol times column is
+/// zero; so each parity symbol is the XOR of the information symbols whose column needs its column.
+pub fn codeword(shape: Shape, data: &[u32]) -> Vec<u32> {
+    let positions = Positions::of(shape);
+    let mut word = vec![0; shape.word_len()];
+    for ((&symbol, &j), sum) in data.iter().zip(&positions.information).zip(&positions.sums) {
+        word[j] = symbol;
+        sum.iter().for_each(|&parity| word[parity] ^= symbol);
+    }
+    word
+}
+
+/// The symbols on the information positions.
+pub fn information(shape: Shape, word: &[u32]) -> Vec<u32> {
+    Positions::of(shape).information.iter().map(|&j| word[j]).collect()
+}
+
+pub fn encode(shape: Shape, data: &[u32], scratch: &mut [u32], word: &mut [u32]) -> Result<(), Refusal> {
+    lengths(shape, data, scratch, word)?;
+    scratch.fill(0);
+    if !shape.all_fit(data) {
+        return Err(Refusal::Width);
+    }
+    word.copy_from_slice(&codeword(shape, data));
+    Ok(())
+}
+
+pub fn extract(shape: Shape, word: &[u32], scratch: &mut [u32], data: &mut [u32]) -> Result<(), Refusal> {
+    lengths(shape, data, scratch, word)?;
+    scratch.fill(0);
+    if !shape.all_fit(word) {
+        return Err(Refusal::Width);
+    }
+    data.copy_from_slice(&information(shape, word));
+    Ok(())
+}
+
+/// Tests 1 and 2, the same for both.
+fn lengths(shape: Shape, data: &[u32], scratch: &[u32], word: &[u32]) -> Result<(), Refusal> {
+    if !shape.lawful() {
+        return Err(Refusal::Shape);
+    }
+    let right =
+        data.len() == shape.data_len() && scratch.len() == shape.scratch_len() && word.len() == shape.word_len();
+    if right {
+        Ok(())
+    } else {
+        Err(Refusal::Length)
+    }
+}

@@ -1,0 +1,49 @@
+//! Plain Rust counterparts of the proved entries, for the benchmark. They answer as the harness does:
+//! a refusal is 2^31 plus its number.
+
+pub mod arrival;
+pub mod straightforward;
+pub mod tuned;
+
+use crate::reference::shape::{Refusal, Shape};
+
+/// The most checks, 8 directions of 31 lines.
+const MAX_CHECKS: usize = 248;
+
+/// The most symbols that reading changes.
+const MAX_ERRORS: usize = 7;
+
+pub fn refused(refusal: Refusal) -> u32 {
+    (1 << 31) + refusal.number()
+}
+
+/// Tests 1 to 3 of reading.
+fn judge(shape: Shape, word: &[u32]) -> Option<Refusal> {
+    if !shape.lawful() {
+        Some(Refusal::Shape)
+    } else if word.len() != shape.word_len() {
+        Some(Refusal::Length)
+    } else if !fit(shape, word) {
+        Some(Refusal::Width)
+    } else {
+        None
+    }
+}
+
+/// Tests 1 to 3 of writing. The scratch is cleared as soon as the lengths are right.
+fn judge_writing(shape: Shape, data: &[u32], scratch: &mut [u32], word: &[u32]) -> Option<Refusal> {
+    if !shape.lawful() {
+        return Some(Refusal::Shape);
+    }
+    let right = (shape.data_len(), shape.scratch_len(), shape.word_len());
+    if (data.len(), scratch.len(), word.len()) != right {
+        return Some(Refusal::Length);
+    }
+    scratch.fill(0);
+    (!fit(shape, data)).then_some(Refusal::Width)
+}
+
+/// One OR over all symbols is faster than a test of each.
+fn fit(shape: Shape, symbols: &[u32]) -> bool {
+    shape.fits(symbols.iter().fold(0, |all, symbol| all | symbol))
+}
