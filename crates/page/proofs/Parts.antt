@@ -21,7 +21,7 @@ pub marks-part : (c : ℕ) (xs : List ℕ) → take (2 + c - 2) (drop 2 xs) ≡ 
 marks-part c xs = let e : 2 + c - 2 ≡ c = omega arith in rw e
 
 -- the part from a to the end comes back as ys
-put-rest : (a : ℕ) (xs ys : List ℕ) → putMid a (length xs - a) xs ys ≡ take a xs ++ ys
+pub put-rest : (a : ℕ) (xs ys : List ℕ) → putMid a (length xs - a) xs ys ≡ take a xs ++ ys
 put-rest a xs ys = ap (λ (zs : List ℕ). take a xs ++ (ys ++ zs)) (drop-of-length-le (drop a xs) (le-of-eq (length-drop a xs)))
     ∙ ap (λ (zs : List ℕ). take a xs ++ zs) (append-nil ys)
 

@@ -34,7 +34,7 @@ use Rattle.session.specs.Arrival.{Page, Bad, clean, openPage, openWord, 
 use Rattle.session.specs.Steps.{Lent, Restored, Settling, Functions}
 
 -- a copy of the whole
-whole-copy : (from to : List ℕ) → length from ≡ length to → from ++ drop (length from) to ≡ from
+pub whole-copy : (from to : List ℕ) → length from ≡ length to → from ++ drop (length from) to ≡ from
 whole-copy from to size = rw (drop-of-length-le to {i = length from} (omega arith)) (append-nil from)
 
 -- ---- what is opened

@@ -1,0 +1,95 @@
+-- What the entries answer and leave, by the tests passed.
+use mathlib.Core.Path.{_≡_, refl, ap, _∙_}
+use mathlib.Core.Bool.{Bool, true, false}
+use mathlib.Core.List.{List, [], _∷_}
+use mathlib.Core.Logic.{⊎-elim}
+use Prim.Native.Nat.{ℕ, _+_, _^_}
+use native.Mathlib.Omega.{arith}
+use lib.ListN.{length}
+use borrow.Author.Tests.{eq-eqb, ne-eqb}
+use denote.Enum.Declared.{tagOf}
+use types.Run.{OneOf}
+use Rattle.gtb.specs.declared.Shape.{Shape}
+use Rattle.gtb.specs.declared.Refusal.{Refusal}
+use Rattle.gtb.specs.declared.Status.{Status}
+use Rattle.gtb.specs.declared.Status.the-variants.{Done}
+use Rattle.gtb.specs.declared.Status.the-variants as status
+use Rattle.gtb.specs.Shape.{lawful}
+use Rattle.gtb.specs.Answer.{unless, refusalNumber}
+use Rattle.session.specs.declared.Session.{Session}
+use Rattle.session.specs.declared.Counted.the-variants as counted
+use Rattle.session.specs.declared.Outcome.{Outcome}
+use Rattle.session.specs.declared.Outcome.the-variants.{Taken, Again, Refused}
+use Rattle.session.specs.declared.Arrived.{Arrived}
+use Rattle.session.specs.Session.{freshOf, freshStatus, countedOf}
+use Rattle.session.specs.Arrival.{clean, outcomeValues}
+use Rattle.session.specs.Arrival as arrival
+use Rattle.session.proofs.Outcome.{the-type}
+use Rattle.harness.specs.Crossing.{sessionOf, valuesOf}
+use Rattle.harness.specs.Entries.{beginningOf, Beginning, countedIn, sessionIn, Arriving}
+
+-- ---- a fresh session
+refuses : (t : Bool) (e′ e : Refusal) (next : Status) → unless t e′ Done ≡ status.Refused e → unless t e′ next ≡ status.Refused e
+refuses true e′ e next h = let z : _≡_ {A = ℕ} 0 1 = cc in absurd (omega arith)
+refuses false e′ e next h = h
+
+passes : (t : Bool) (e : Refusal) (next : Status) → unless t e Done ≡ Done → unless t e next ≡ next
+passes true e next h = refl
+passes false e next h = let z : _≡_ {A = ℕ} 0 1 = cc in absurd (omega arith)
+
+module _ (s : Shape) (session : List ℕ) where
+  -- a refusal leaves the slice
+  fresh-refused : {e : Refusal} {r : ℕ} → beginningOf s session ≡ status.Refused e → r ≡ 2 ^ 31 + refusalNumber e → Beginning s session session r
+  fresh-refused h is = record { answer = rw h is; left = rw h }
+
+  pub fresh-shape : {e : Refusal} {r : ℕ} → freshStatus s ≡ status.Refused e → r ≡ 2 ^ 31 + refusalNumber e → Beginning s session session r
+  unfolding beginningOf freshStatus
+  fresh-shape h = fresh-refused (refuses (lawful s) _ _ _ h)
+
+  pub fresh-length : {r : ℕ} → freshStatus s ≡ Done → (length session ≡ 1283 → ⊥) → r ≡ 2 ^ 31 + refusalNumber Refusal.Length → Beginning s session session r
+  unfolding beginningOf freshStatus
+  fresh-length h l = fresh-refused {e = Refusal.Length} (passes (lawful s) _ _ h ∙ rw (ne-eqb _ _ l))
+
+  pub fresh-done : {σ : Session} {session′ : List ℕ} → freshStatus s ≡ Done → length session ≡ 1283 → σ ≡ freshOf s → session′ ≡ valuesOf σ → Beginning s session session′ 0
+  unfolding beginningOf freshStatus
+  fresh-done h l f v =
+      let done : beginningOf s session ≡ Done = passes (lawful s) _ _ h ∙ rw (eq-eqb _ _ l) in
+      record { answer = rw done; left = rw done (v ∙ ap valuesOf f) }
+
+-- ---- a count query
+module _ (session : List ℕ) (f : ℕ) where
+  pub count-length : (length session ≡ 1283 → ⊥) → countedIn session f ≡ counted.Refused Refusal.Length
+  unfolding countedIn
+  count-length l = rw (ne-eqb _ _ l)
+
+  pub count-past : length session ≡ 1283 → countedIn session f ≡ countedOf (sessionOf session) f
+  unfolding countedIn
+  count-past l = rw (eq-eqb _ _ l)
+
+-- ---- an arrival
+-- written after a page was taken
+pub written : (session session′ : List ℕ) (σ : Session) (o : Outcome) {p k : ℕ} → o ≡ Taken p k → session′ ≡ valuesOf σ → session′ ≡ sessionIn session σ o
+written session session′ σ o h v = rw h v
+
+-- and as it was after every other answer
+pub as-it-was : (session : List ℕ) (σ : Session) (o : Outcome) → OneOf (1 ∷ 2 ∷ []) (tagOf the-type o) → session ≡ sessionIn session σ o
+as-it-was session σ (Taken p k) h = ⊎-elim (λ e. absurd (omega arith)) (λ e. absurd (omega arith)) h
+as-it-was session σ (Again p k) h = refl
+as-it-was session σ (Refused e) h = refl
+
+module _ (session word scratch outcome : List ℕ) where
+  pub arrive-wrong : {r : ℕ} → ((length session ≡ 1283) × (length outcome ≡ 3) → ⊥) → r ≡ 2 ^ 31 + refusalNumber Refusal.Length
+      → Arriving session word scratch outcome session word scratch outcome r
+  arrive-wrong h is = record {
+    right = λ l m. absurd (h (l, m));
+    wrong = λ _. record { sessionLeft = refl; wordLeft = refl; scratchLeft = refl; outcomeLeft = refl; answer = is };
+  }
+
+  pub arrive-right : {σ : Session} {session′ word′ scratch′ outcome′ : List ℕ} (a : Arrived) → length session ≡ 1283 → length outcome ≡ 3
+      → σ ≡ sessionOf session → arrival.Arriving clean σ word scratch word′ scratch′ a
+      → session′ ≡ sessionIn session (a .session) (a .outcome) → outcome′ ≡ outcomeValues (a .outcome)
+      → Arriving session word scratch outcome session′ word′ scratch′ outcome′ 0
+  arrive-right a l m is holds s o = record {
+    right = λ _ _. record { arrived = a; holds = rw (← is) holds; outcomeLeft = o; sessionLeft = s; answer = refl };
+    wrong = λ h. absurd (h (l, m));
+  }

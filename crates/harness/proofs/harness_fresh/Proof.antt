@@ -1,0 +1,54 @@
+-- `harness::harness_fresh` meets its contract: each answer follows from the tests passed.
+use mathlib.Core.Path.{sym, _∙_}
+use borrow.Author.Needs.{needs}
+use Rattle.harness.proofs.Answers.{fresh-shape, fresh-length, fresh-done}
+use Rattle.harness.proofs.harness_fresh.Statement.{statement}
+use Rattle.harness.proofs.harness_fresh.Tie as tie
+
+fresh-requires : tie.Need-fresh-requires
+fresh-requires c κs = search needs
+
+enum-known-status : tie.Need-enum-known-status
+enum-known-status c = search needs
+
+refused-requires : tie.Need-refused-requires
+refused-requires c κs = search needs
+
+returns : tie.Need-returns
+returns c = fresh-shape _ _ (sym (c .before .before .before .before .fresh .ensures .status) ∙ c .before .before .status .given .1) (c .refused .ensures)
+
+enum-told : tie.Need-enum-told
+enum-told c = search needs
+
+refused-requires-2 : tie.Need-refused-requires-2
+refused-requires-2 c κs = search needs
+
+returns-2 : tie.Need-returns-2
+returns-2 c = fresh-length _ _ (sym (c .before .before .before .before .fresh .ensures .status) ∙ c .before .before .enum-told .given .1) (c .before .if1 .taken) (c .refused2 .ensures)
+
+store-requires : tie.Need-store-requires
+store-requires c κs = search needs
+
+same-length : tie.Need-same-length
+same-length c = search needs
+
+returns-3 : tie.Need-returns-3
+returns-3 c =
+    let made = c .before .before .before .before .before .before .before in
+    fresh-done _ _ (sym (made .fresh .ensures .status) ∙ c .before .before .before .before .before .enum-told .given .1) (c .before .before .before .before .if1 .left)
+    (made .fresh .ensures .session) (c .before .before .store .ensures)
+
+pub harness-fresh-spec : {M : Type 1} → statement M
+harness-fresh-spec =
+    tie.close
+    (tie.spec
+    fresh-requires
+    enum-known-status
+    refused-requires
+    returns
+    enum-told
+    refused-requires-2
+    returns-2
+    store-requires
+    same-length
+    returns-3)
