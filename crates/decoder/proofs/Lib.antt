@@ -1,5 +1,6 @@
 pub mod Decided
 pub mod Numbers
+pub mod Shifts
 pub mod Toggles
 pub mod Listing
 pub mod Private

@@ -3,7 +3,7 @@ use mathlib.Core.Path.{_≡_, refl, sym, ap, ap₂, _∙_}
 use mathlib.Core.Bool.{true, false, not}
 use mathlib.Core.List.{List}
 use Prim.Native.Nat.{ℕ, zero, suc, _+_, _*_, _/_, _%_, _<_, _≤_}
-use native.Mathlib.Nat.{zero-mul, suc-mul, zero-add, mul-le-mul, lt-of-lt-of-le, div-lt-iff-lt-mul}
+use native.Mathlib.Nat.{zero-mul, suc-mul, zero-add, mul-le-mul, lt-of-lt-of-le}
 use native.Mathlib.Numerals.{add-one}
 use native.Mathlib.Omega.{arith}
 use lib.Arith.{digits-lt, digits-div}
@@ -37,11 +37,10 @@ check-line s zero j ne = absurd (ne refl)
 check-line s (suc t) j ne = ap (λ (x : ℕ). suc t * s .q + x) (sym (line-suc s t j))
 
 -- slope × row fits
-pub offset-le : (s : Shape) → Lawful s → (t j : ℕ) → (t ≡ 0 → ⊥) → t < s .n → j < wordLength s → slopeOf s t * (j / s .q) ≤ 961
-offset-le s h t j ne lt lj =
+pub offset-le : (s : Shape) → Lawful s → (t row : ℕ) → 1 ≤ t → t < s .n → row < s .q → slopeOf s t * row ≤ 961
+offset-le s h t row one lt lr =
     let b = bounds s h in
-    let slope = slope-lt s h t (omega arith) lt in
-    let row : j / s .q < s .q = div-lt-iff-lt-mul (positive s h) .1 lj in
+    let slope = slope-lt s h t one lt in
     mul-le-mul {n₂ = 31} {m₂ = 31} (omega arith) (omega arith)
 
 -- a position's check number is below 248
@@ -63,9 +62,11 @@ in-word s lr lc = digits-lt lr lc
 pub next-row : (row q : ℕ) → (row + 1) * q ≡ row * q + q
 next-row row q = ap (λ (x : ℕ). x * q) (add-one row) ∙ suc-mul row q
 
+-- the row's own check
+pub own-check : (s : Shape) (row : ℕ) {c : ℕ} → c < s .q → row ≡ checkOf s (row * s .q + c) 0
+own-check s row {c} l = sym (digits-div row l) ∙ check-row s 0 (row * s .q + c) refl
+
 -- no position of a row whose own check is silent is located
 pub silent-row : (s : Shape) → Lawful s → (syn : List ℕ) (row : ℕ) → at syn row ≡ 0 → (c : ℕ) → c < s .q → judged s syn (row * s .q + c) ≡ false
 unfolding judged
-silent-row s h syn row z c l =
-    all-no (s .n) _ 0 (let b = bounds s h in omega arith)
-    (silent syn (sym (digits-div row l) ∙ check-row s 0 (row * s .q + c) refl) z)
+silent-row s h syn row z c l = all-no (s .n) _ 0 (let b = bounds s h in omega arith) (silent syn (own-check s row l) z)

@@ -2,14 +2,14 @@
 use mathlib.Core.Path.{_≡_}
 use mathlib.Core.Bool.{Bool, true, false, not, _&&_}
 use mathlib.Core.List.{List}
-use Prim.Native.Nat.{ℕ, _+_, _*_, _<_, _≤_}
+use Prim.Native.Nat.{ℕ, _+_, _*_, _%_, _<_, _≤_}
 use lib.Dec.{eqb}
 use lib.ListN.{length}
 use Rattle.parity.specs.Xor.{_⊕_, xorSum, when}
 use Rattle.parity.specs.Count.{count, any, all}
 use Rattle.gtb.specs.declared.Shape.{Shape}
 use Rattle.gtb.specs.declared.Refusal.{Refusal}
-use Rattle.gtb.specs.Shape.{wordLength}
+use Rattle.gtb.specs.Shape.{wordLength, slopeOf}
 use Rattle.gtb.specs.Square.{lineOf, at, Syndromes}
 use Rattle.decoder.specs.declared.Decoded.{Decoded}
 use Rattle.decoder.specs.declared.Decoded.the-variants.{Corrected}
@@ -22,6 +22,11 @@ checkOf s j t = t * s .q + lineOf s t j
 -- `located` by the table: all n checks on position j are nonzero
 unfoldable pub judged : Shape → List ℕ → ℕ → Bool
 judged s syn j = all (s .n) (λ t. not (eqb (at syn (checkOf s j t)) 0))
+
+-- a row in the directions 1 .. m - 1: column c is on line c + shift modulo q
+pub record Shifts (s : Shape) (row m : ℕ) (shifts : List ℕ) : Type 0 where
+  pub size : length shifts ≡ 8
+  pub shift : (t : ℕ) → t < m → 1 ≤ t → at shifts t ≡ slopeOf s t * row % s .q
 
 -- i is another position than j on the check of direction t on j
 unfoldable pub shares : Shape → ℕ → ℕ → ℕ → Bool

@@ -29,7 +29,7 @@ line-suc s t j = refl
 line-row : (s : Shape) (r c : ℕ) → c < s .q → lineOf s 0 (r * s .q + c) ≡ r
 line-row s r c l = line-zero s (r * s .q + c) ∙ digits-div r l
 
-line-at : (s : Shape) (t r c : ℕ) → c < s .q → lineOf s (suc t) (r * s .q + c) ≡ (c + slopeOf s (suc t) * r) % s .q
+pub line-at : (s : Shape) (t r c : ℕ) → c < s .q → lineOf s (suc t) (r * s .q + c) ≡ (c + slopeOf s (suc t) * r) % s .q
 line-at s t r c l =
     line-suc s t (r * s .q + c)
     ∙ ap₂ (λ (x y : ℕ). (x + slopeOf s (suc t) * y) % s .q) (digits-mod r l) (digits-div r l)

@@ -1,7 +1,7 @@
 -- `decoder::checks::check_number` meets its contract. A number is below 248, so nothing wraps.
 use mathlib.Core.Path.{_≡_}
 use Prim.Native.Nat.{_+_, _*_, _/_, _%_, _≤_}
-use native.Mathlib.Nat.{mod-lt}
+use native.Mathlib.Nat.{mod-lt, div-lt-iff-lt-mul}
 use native.Mathlib.Omega.{arith}
 use borrow.Author.Needs.{needs}
 use Rattle.gtb.proofs.Bounds.{bounds}
@@ -31,7 +31,7 @@ slope-requires c κs = search needs
 -- slope × row, and what is added to it
 module _ (c : tie.After-slope) where
   offset : c .slope .result * (c .before .before .before .args .j / c .before .before .before .args .shape .q) ≤ 961
-  offset = let a = c .before .before .before in rw (c .slope .ensures) (offset-le (a .args .shape) (a .pre .0) (a .args .t) (a .args .j) (c .before .if1 .left) (a .pre .1) (a .pre .2))
+  offset = let a = c .before .before .before in rw (c .slope .ensures) (offset-le (a .args .shape) (a .pre .0) (a .args .t) _ (omega (arith, c .before .if1 .left)) (a .pre .1) (div-lt-iff-lt-mul (positive (a .args .shape) (a .pre .0)) .1 (a .pre .2)))
 
 mul-result-2 : tie.Need-mul-result-2
 mul-result-2 c = omega (arith, offset c)

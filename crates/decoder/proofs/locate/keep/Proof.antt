@@ -1,22 +1,40 @@
 -- `decoder::locate::keep` meets its contract.
 use mathlib.Core.Path.{sym, _∙_}
-use Prim.Native.Nat.{_<_}
+use Prim.Native.Nat.{_+_, _*_, _<_}
+use native.Mathlib.Nat.{lt-of-lt-of-le}
 use native.Mathlib.Omega.{arith}
 use borrow.Author.Needs.{needs}
 use Rattle.gtb.proofs.Bounds.{bounds}
+use Rattle.gtb.proofs.Turns.{square-le}
+use Rattle.decoder.proofs.Numbers.{in-word}
 use Rattle.decoder.proofs.Listing.{listed-keep, listed-skip}
 use Rattle.decoder.proofs.locate.keep.Statement.{statement}
 use Rattle.decoder.proofs.locate.keep.Tie as tie
 
-judge-requires : tie.Need-judge-requires
-judge-requires c κs = search needs
+cast-q : tie.Need-cast-q
+cast-q c = search needs
 
--- there is room for one more
-room : (c : tie.Then1) → c .before .before .args .count < 8
-room c = omega (arith, bounds (c .before .before .args .shape) (c .before .before .pre .0) .n8)
+judge-requires : tie.Need-judge-requires
+judge-requires c κs = let p = c .before .pre in (p .0, p .1, p .2, p .4)
+
+-- the position is in the word, and small
+place : (c : tie.Then1) → c .before .before .before .args .row * c .before .before .before .args .shape .q + c .before .before .before .args .column < 961
+place c =
+    let s = c .before .before .before in
+    lt-of-lt-of-le (in-word (s .args .shape) (s .pre .3) (s .pre .4)) (square-le (s .args .shape .q) (bounds (s .args .shape) (s .pre .0) .q31))
 
 mul-places : tie.Need-mul-places
-mul-places c = omega (arith, room c)
+mul-places c = omega (arith, place c)
+
+add-places : tie.Need-add-places
+add-places c = omega (arith, place c)
+
+-- there is room for one more
+room : (c : tie.Then1) → c .before .before .before .args .count < 8
+room c = omega (arith, bounds (c .before .before .before .args .shape) (c .before .before .before .pre .0) .n8)
+
+mul-places-2 : tie.Need-mul-places-2
+mul-places-2 c = omega (arith, room c)
 
 element-write-places : tie.Need-element-write-places
 element-write-places c = room c
@@ -25,12 +43,21 @@ add-result : tie.Need-add-result
 add-result c = omega (arith, room c)
 
 returns : tie.Need-returns
-returns c = listed-keep (sym (c .before .judge .ensures) ∙ c .if1 .taken) (room c) (c .before .before .pre .3)
+returns c = listed-keep (sym (c .before .judge .ensures) ∙ c .if1 .taken) (room c) (c .before .before .before .pre .6)
 
 returns-2 : tie.Need-returns-2
-returns-2 c = listed-skip (sym (c .before .judge .ensures) ∙ c .if1 .left) (c .before .before .pre .3)
+returns-2 c = listed-skip (sym (c .before .judge .ensures) ∙ c .if1 .left) (c .before .before .before .pre .6)
 
 pub keep-spec : {M : Type 1} → statement M
 keep-spec =
     tie.close
-    (tie.spec judge-requires mul-places element-write-places add-result returns returns-2)
+    (tie.spec
+    cast-q
+    judge-requires
+    mul-places
+    add-places
+    mul-places-2
+    element-write-places
+    add-result
+    returns
+    returns-2)

@@ -1,21 +1,20 @@
 -- `decoder::locate::scan_row` meets its contract. The loop's invariant: the list holds the located positions up to here, fewer than n.
 use Prim.Native.Nat.{_+_, _-_, _*_, _<_, _≤_}
 use Rattle.decoder.specs.Steps.{judged, Listed}
-use native.Mathlib.Nat.{add-zero, add-assoc, le-antisymm, lt-of-lt-of-le}
+use native.Mathlib.Nat.{add-zero, add-assoc, le-antisymm}
 use native.Mathlib.Omega.{arith}
 use borrow.Author.Needs.{needs}
 use Rattle.gtb.proofs.Bounds.{bounds}
-use Rattle.gtb.proofs.Turns.{square-le}
-use Rattle.decoder.proofs.Numbers.{in-word, silent-row}
+use Rattle.decoder.proofs.Numbers.{silent-row}
 use Rattle.decoder.proofs.Listing.{listed-skips, scanned-few, scanned-many}
 use Rattle.decoder.proofs.locate.scan_row.Statement.{statement}
 use Rattle.decoder.proofs.locate.scan_row.Tie as tie
 
 abbrev Inv-loop : tie.InvT-loop
-Inv-loop shape syn row places₀ count q n found₀ c₀ places found c = (c ≤ q) × (found < n) × Listed (judged shape syn) (row * q + c) found places
+Inv-loop shape syn row places₀ count q n shifts found₀ c₀ places found c = (c ≤ q) × (found < n) × Listed (judged shape syn) (row * q + c) found places
 
 abbrev μ-loop : tie.MeasureT-loop
-μ-loop shape syn row places₀ count q n found₀ c₀ places found c = q - c
+μ-loop shape syn row places₀ count q n shifts found₀ c₀ places found c = q - c
 
 -- a row's own check is in the table
 inside : (c : tie.Start Inv-loop μ-loop) → c .args .row < 248
@@ -38,31 +37,25 @@ cast-q c = search needs
 cast-n : tie.Need-cast-n Inv-loop μ-loop
 cast-n c = search needs
 
+shifts-of-requires : tie.Need-shifts-of-requires Inv-loop μ-loop
+shifts-of-requires c κs = search needs
+
 loop-holds : tie.Need-loop-holds Inv-loop μ-loop
-loop-holds c = (search needs, c .before .before .before .before .pre .2, rw (add-zero (c .before .before .before .before .args .row * c .before .before .before .before .args .shape .q)) (c .before .before .before .before .pre .3))
-
--- the position is in the word, and small
-place : (c : tie.In-loop Inv-loop μ-loop) → c .before .before .before .before .before .before .args .row * c .before .before .before .before .before .before .args .shape .q + c .before .loop .c < 961
-place c =
-    let s = c .before .before .before .before .before .before in
-    let b = bounds (s .args .shape) (s .pre .0) in
-    lt-of-lt-of-le (in-word (s .args .shape) (s .pre .1) (c .loop-test .taken)) (square-le (s .args .shape .q) (b .q31))
-
-mul-keep : tie.Need-mul-keep Inv-loop μ-loop
-mul-keep c = omega (arith, place c)
-
-add-keep : tie.Need-add-keep Inv-loop μ-loop
-add-keep c = omega (arith, place c)
+loop-holds c =
+    let s = c .before .before .before .before .before in
+    (search needs, s .pre .2, rw (add-zero (s .args .row * s .args .shape .q)) (s .pre .3))
 
 keep-requires : tie.Need-keep-requires Inv-loop μ-loop
 keep-requires c κs =
-    let s = c .before .before .before .before .before .before .before in
-    (s .pre .0, in-word (s .args .shape) (s .pre .1) (c .before .loop-test .taken), c .before .before .loop .inv .1, c .before .before .loop .inv .2)
+    let l = c .before .before .before in
+    let e = l .before .before .before .before in
+    let p = e .before .before .pre in
+    (p .0, l .before .shifts-of .ensures, e .if1 .left, p .1, c .before .before .loop-test .taken, l .loop .inv .1, l .loop .inv .2)
 
 returns-2 : tie.Need-returns-2 Inv-loop μ-loop
 returns-2 c =
-    let s = c .before .before .before .before .before .before .before .before .before .args in
-    scanned-many (s .row * s .shape .q + c .before .before .before .before .loop .c + 1) (omega arith) (omega (arith, c .before .keep .ensures .counted))
+    let s = c .before .before .before .before .before .before .before .before .before .before .before .args in
+    scanned-many (s .row * s .shape .q + c .before .before .before .before .before .loop .c + 1) (omega arith) (omega (arith, c .before .keep .ensures .counted))
 
 add-c : tie.Need-add-c Inv-loop μ-loop
 add-c c = search needs
@@ -87,9 +80,8 @@ scan-row-spec =
     returns
     cast-q
     cast-n
+    shifts-of-requires
     loop-holds
-    mul-keep
-    add-keep
     keep-requires
     returns-2
     add-c
