@@ -86,7 +86,7 @@ decimal-digits =
     (λ n l h. rw (decimal-more n l) (all-append (decimal (n / 10)) (digit (n % 10) ∷ []) h (is-digit (n % 10) (omega arith), tt)))
 
 -- the number that digits spell, after a number n to their left
-pub value : ℕ → List ℕ → ℕ
+unfoldable pub value : ℕ → List ℕ → ℕ
 value n [] = n
 value n (b ∷ l) = value (n * 10 + (b - 48)) l
 

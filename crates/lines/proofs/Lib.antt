@@ -5,3 +5,4 @@ pub mod Parses
 pub mod Same
 pub mod Pasting
 pub mod Examples
+pub mod Contents

@@ -1,3 +1,4 @@
 pub mod Text
 pub mod Parse
 pub mod Scan
+pub mod Content

@@ -134,7 +134,7 @@ pub fn find_newline(block: &[u8], from: usize, to: usize) -> usize
 }
 
 // Writes the text over `out` from `at` on, and answers the place after it.
-fn put_text(out: &mut [u8], at: usize, text: &[u8]) -> usize
+pub fn put_text(out: &mut [u8], at: usize, text: &[u8]) -> usize
     requires { ⌜ at + length (now text) ≤ length (now out) ⌝ }
     ensures { λ r. ⌜ Put (now (out .entry)) at (now (text .entry)) (now (out .exit)) r ⌝ }
 {
