@@ -1,0 +1,179 @@
+-- The line so far, in its buffer, and a block taken line by line.
+use mathlib.Core.Path.{_≡_, refl, sym, ap, _∙_, subst}
+use mathlib.Core.Logic.{⊎-elim}
+use mathlib.Core.Bool.{true, false}
+use mathlib.Core.List.{List, [], _++_, append-nil}
+use Prim.Native.Nat.{ℕ, _+_, _-_, _*_, _≤_, _<_}
+use native.Mathlib.Omega.{arith}
+use borrow.Author.Tests.{ltb-true, ltb-false}
+use lib.Dec.{ltb}
+use lib.ListN.{length, take, drop, length-append}
+use lib.Seq.{length-take-le}
+use Rattle.parity.proofs.Tests.{either}
+use Rattle.lines.specs.Text.{Put}
+use Rattle.lines.specs.Parse.{FirstNewline}
+use Rattle.capture.specs.declared.Tally.{Tally}
+use Rattle.capture.specs.declared.Judged.{Judged}
+use Rattle.capture.specs.declared.Reader.{Reader}
+use Rattle.capture.specs.Output.{answerText}
+use Rattle.capture.specs.Judge.{judgedOf}
+use Rattle.capture.specs.Feed.{Fed, after, feed}
+use Rattle.capture.specs.Steps.{Appended, Holds, Extended, LineEnded, FedBy, BlockTaken}
+use Rattle.capture.proofs.Texts.{put-appended}
+use Rattle.capture.proofs.Judges.{long-judged}
+use Rattle.capture.proofs.Feeds.{after-after, piece, feed-rest, feed-line}
+
+-- ---- bytes join the line
+module _ {buffer : List ℕ} {held : ℕ} (bytes : List ℕ) (full : length buffer ≡ 16384) where
+  held-length : (line : List ℕ) → Holds buffer held line → held < 16384 → length line ≡ held
+  held-length line h l = ap length (sym (h .kept l)) ∙ length-take-le held buffer (omega arith)
+
+  -- it was too long already
+  pub extended-long : 16383 < held → Extended buffer held bytes buffer 16384
+  extended-long l =
+      record {
+        joined = λ line h. record { size = full; kept = λ m. absurd (omega arith); long = λ _. rw length-append (omega (arith, h .long (omega arith))) };
+        size = full;
+      }
+
+  -- it is now
+  pub extended-over : held ≤ 16383 → 16383 - held < length bytes → Extended buffer held bytes buffer 16384
+  extended-over l m =
+      record {
+        joined = λ line h. record { size = full; kept = λ k. absurd (omega arith); long = λ _. rw length-append (omega (arith, held-length line h (omega arith))) };
+        size = full;
+      }
+
+  -- it is not
+  pub extended-put : {buffer′ : List ℕ} {r : ℕ} → held ≤ 16383 → length bytes ≤ 16383 - held → Put buffer held bytes buffer′ r → Extended buffer held bytes buffer′ r
+  extended-put {buffer′} {r} l m p =
+      let a = put-appended (omega arith) p in
+      let size : length buffer′ ≡ 16384 = a .size ∙ full in
+      record {
+        joined = λ line h.
+            record {
+              size = size;
+              kept = λ _. a .front ∙ ap (λ (x : List ℕ). x ++ bytes) (h .kept (omega arith));
+              long = λ k. absurd (omega (arith, a .next));
+            };
+        size = size;
+      }
+
+-- ---- the line is judged: all of it, or nothing where it is too long
+pub record End (held end : ℕ) : Type 0 where
+  pub short : held < 16384 → end ≡ held
+  pub long : 16384 ≤ held → end ≡ 0
+  pub most : end < 16384
+
+pub end-short : {held end : ℕ} → held < 16384 → end ≡ held → End held end
+end-short l e = record { short = λ _. e; long = λ m. absurd (omega arith); most = omega arith }
+
+pub end-long : {held end : ℕ} → 16384 ≤ held → end ≡ 0 → End held end
+end-long l e = record { short = λ m. absurd (omega arith); long = λ _. e; most = omega arith }
+
+judged-held : (t : Tally) {buffer line : List ℕ} {held end : ℕ} → End held end → Holds buffer held line → judgedOf t (take end buffer) ≡ judgedOf t line
+judged-held t {buffer} {line} {held} {end} e h =
+    ⊎-elim
+    (λ (b : ltb held 16384 ≡ true).
+    let l = ltb-true held 16384 b in
+    ap (λ (k : ℕ). judgedOf t (take k buffer)) (e .short l) ∙ ap (judgedOf t) (h .kept l))
+    (λ (b : ltb held 16384 ≡ false).
+    let l = ltb-false held 16384 b in
+    ap (λ (k : ℕ). judgedOf t (take k buffer)) (e .long l) ∙ sym (long-judged t line (h .long l)))
+    (either (ltb held 16384))
+
+pub line-ended : (reader : Reader) {buffer out scratch′ out′ : List ℕ} {j : Judged} {end at : ℕ} → End (reader .held) end
+    → j ≡ judgedOf (reader .tally) (take end buffer) → length scratch′ ≡ 7688
+    → Appended out (reader .at) (answerText (j .answer)) out′ at → at ≤ reader .at + 30
+    → LineEnded reader buffer out scratch′ out′ (record { tally = j .tally; held = 0; at = at })
+line-ended reader {out = out} {out′ = out′} {j = j} {at = at} e is room a few =
+    record {
+      tally = λ line h. ap (λ (x : Judged). x .tally) (is ∙ judged-held (reader .tally) e h);
+      output = λ line h.
+          subst (λ (x : Judged). Appended out (reader .at) (answerText (x .answer)) out′ at) (is ∙ judged-held (reader .tally) e h) a;
+      empty = refl;
+      short = few;
+      size = a .size;
+      room = room;
+    }
+
+-- ---- a block, of which the first `from` bytes have been taken
+-- the line so far; what is left leads to the same end
+pub record Left (fed : Fed) (block buffer out : List ℕ) (reader : Reader) (from : ℕ) : Type 0 where
+  pub line : List ℕ
+  pub held : Holds buffer (reader .held) line
+  pub same : after (take (reader .at) out) (feed (reader .tally) line (drop from block)) ≡ fed
+
+pub record Reading (reader₀ : Reader) (buffer₀ block buffer scratch out : List ℕ) (reader : Reader) (from : ℕ) : Type 0 where
+  pub left : (line : List ℕ) → Holds buffer₀ (reader₀ .held) line → Left (feed (reader₀ .tally) line block) block buffer out reader from
+  pub low : from ≤ length block
+  pub few : reader .at ≤ 30 * from
+  pub buffer-size : length buffer ≡ 16384
+  pub scratch-size : length scratch ≡ 7688
+  pub out-size : length out ≡ 491584
+
+-- none yet
+pub reading-begins : (reader : Reader) (buffer block scratch out : List ℕ) → reader .at ≡ 0 → length buffer ≡ 16384 → length scratch ≡ 7688 → length out ≡ 491584
+    → Reading reader buffer block buffer scratch out reader 0
+reading-begins reader buffer block scratch out none b s o =
+    record {
+      left = λ line h. record { line = line; held = h; same = ap (λ (k : ℕ). after (take k out) (feed (reader .tally) line block)) none };
+      low = omega arith;
+      few = omega arith;
+      buffer-size = b;
+      scratch-size = s;
+      out-size = o;
+    }
+
+module _ {reader₀ : Reader} {buffer₀ block buffer scratch out : List ℕ} {reader : Reader} {from to : ℕ}
+    (r : Reading reader₀ buffer₀ block buffer scratch out reader from) (f : FirstNewline block from (length block) to)
+    {buffer′ : List ℕ} {held′ : ℕ} (x : Extended buffer (reader .held) (piece block from to) buffer′ held′) where
+  -- the line with the bytes up to the newline
+  abbrev grown : Reader
+  grown = record { tally = reader .tally; held = held′; at = reader .at }
+
+  -- the last piece
+  pub block-taken : to ≡ length block → length block ≤ 16384 → BlockTaken reader₀ buffer₀ block buffer′ scratch out grown
+  block-taken all few =
+      record {
+        fed = λ line h.
+            let l = r .left line h in
+            let end = ap (after (take (reader .at) out)) (sym (feed-rest (reader .tally) (l .line) f all)) ∙ l .same in
+            record {
+              tally = ap (λ (y : Fed). y .tally) end;
+              held = subst (Holds buffer′ held′) (ap (λ (y : Fed). y .held) end) (x .joined (l .line) (l .held));
+              output = sym (append-nil (take (reader .at) out)) ∙ ap (λ (y : Fed). y .text) end;
+            };
+        within = omega (arith, r .few, r .low);
+        line = x .size;
+        room = r .scratch-size;
+        size = r .out-size;
+      }
+
+  -- a line, and on with the byte after its newline
+  pub reading-on : {scratch′ out′ : List ℕ} {reader′ : Reader} → to < length block → LineEnded grown buffer′ out scratch′ out′ reader′
+      → Reading reader₀ buffer₀ block buffer′ scratch′ out′ reader′ (to + 1)
+  reading-on {scratch′} {out′} {reader′} more e =
+      record {
+        left = λ line h.
+            let l = r .left line h in
+            let line′ = l .line ++ piece block from to in
+            let held = x .joined (l .line) (l .held) in
+            let j = judgedOf (reader .tally) line′ in
+            let rest = drop (to + 1) block in
+            record {
+              line = [];
+              held = record { size = x .size; kept = λ _. ap (λ (k : ℕ). take k buffer′) (e .empty); long = λ m. absurd (omega (arith, e .empty)) };
+              same =
+                  ap (λ (t : List ℕ). after t (feed (reader′ .tally) [] rest)) (e .output line′ held .front)
+                  ∙ ap (λ (t : Tally). after (take (reader .at) out ++ answerText (j .answer)) (feed t [] rest)) (e .tally line′ held)
+                  ∙ after-after (take (reader .at) out) (answerText (j .answer)) (feed (j .tally) [] rest)
+                  ∙ ap (after (take (reader .at) out)) (sym (feed-line (reader .tally) (l .line) f more))
+                  ∙ l .same;
+            };
+        low = omega arith;
+        few = omega (arith, r .few, e .short, f .low);
+        buffer-size = x .size;
+        scratch-size = e .room;
+        out-size = e .size ∙ r .out-size;
+      }

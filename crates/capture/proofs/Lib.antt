@@ -1,0 +1,5 @@
+pub mod Texts
+pub mod Judges
+pub mod Feeds
+pub mod Frames
+pub mod Examples

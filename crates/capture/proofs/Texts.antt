@@ -1,0 +1,146 @@
+-- Texts written one after another at the end of the output that waits.
+use mathlib.Core.Path.{_≡_, refl, sym, ap, _∙_}
+use mathlib.Core.Bool.{Bool, true, false}
+use mathlib.Core.List.{List, [], _++_, map-id, append-assoc, append-nil}
+use mathlib.Core.Logic.{⊎-elim}
+use Prim.Native.Nat.{ℕ, _+_, _*_, _^_, _≤_, _<_}
+use native.Mathlib.Numerals.{add-one}
+use native.Mathlib.Omega.{arith}
+use borrow.Author.Tests.{ltb-true, ltb-false, ne-eqb}
+use lib.Dec.{eqb, ltb}
+use lib.ListN.{length, getD, take, drop, length-append, length-take, length-drop, drop-of-length-le}
+use lib.Seq.{take-at, length-take-le, drop-cons}
+use mir.Syntax.{w32}
+use mir.Val.{Val}
+use denote.Plain.{UInt}
+use denote.Array.{Array}
+use denote.Laws.{Is}
+use Rattle.gtb.specs.declared.Refusal.{Refusal}
+use Rattle.parity.proofs.Tests.{either}
+use Rattle.lines.specs.Text.{countText, outcomeText, Put, pasted}
+use Rattle.lines.proofs.Decimals.{at-most-ten}
+use Rattle.lines.proofs.Pasting.{name-length}
+use Rattle.session.specs.Steps.{Counts}
+use Rattle.session.proofs.Arrays.{counts}
+use Rattle.capture.specs.declared.Phase.{Phase}
+use Rattle.capture.specs.declared.Phase.the-variants.{Words}
+use Rattle.capture.specs.declared.Tally.{Tally}
+use Rattle.capture.specs.Output.{refusedLine, callsFrom, callsText}
+use Rattle.capture.specs.Feed.{closing, closingIn}
+use Rattle.capture.specs.Steps.{Appended, Holds, Closed}
+
+-- a text written over the output that waits stands at its end
+pub put-appended : {old text new : List ℕ} {at r : ℕ} → at + length text ≤ length old → Put old at text new r → Appended old at text new r
+unfolding pasted
+put-appended {old} {text} {new} {at} {r} fits p =
+    record {
+      size = rw (p .written) (simp (length-append, length-take, length-drop) (omega arith));
+      next = p .next;
+      front = rw (p .next, p .written) (take-at (take at old ++ text) (drop (at + length text) old) (at + length text) (rw (length-append, length-take-le at old (omega arith))));
+    }
+
+-- no text
+pub appended-none : (old : List ℕ) (at : ℕ) → Appended old at [] old at
+appended-none old at = record { size = refl; next = omega arith; front = sym (append-nil (take at old)) }
+
+-- one text and then another
+pub appended-both : {old a mid b new : List ℕ} {at m r : ℕ} → Appended old at a mid m → Appended mid m b new r → Appended old at (a ++ b) new r
+appended-both {old} {a} {b = b} {at = at} p q =
+    record {
+      size = q .size ∙ p .size;
+      next = rw (q .next, p .next, length-append) (omega arith);
+      front = q .front ∙ rw (p .front) (append-assoc (take at old) a b);
+    }
+
+-- what has been written is within the list
+pub appended-within : {old text new : List ℕ} {at r : ℕ} → at ≤ length old → Appended old at text new r → r ≤ length new
+appended-within {old} {text} {new} {at} {r} l p =
+    let e : length (take r new) ≡ length (take at old ++ text) = ap length (p .front) in
+    let h = simp (length-append, length-take) at e in
+    omega arith
+
+-- ---- the lines of the output
+pub count-short : (function calls : ℕ) → function < 2 ^ 32 → calls < 2 ^ 32 → length (countText function calls) ≤ 22
+unfolding countText
+count-short function calls l m = simp length-append (omega (arith, at-most-ten function l, at-most-ten calls m))
+
+pub outcome-short : (kind number fixed : ℕ) → number < 2 ^ 32 → fixed < 2 ^ 32 → length (outcomeText kind number fixed) ≤ 30
+unfolding outcomeText
+outcome-short kind number fixed l m = simp length-append (omega (arith, name-length kind, at-most-ten number l, at-most-ten fixed m))
+
+pub put-outcome : {old new : List ℕ} {at r : ℕ} (kind number fixed : ℕ) → number < 2 ^ 32 → fixed < 2 ^ 32 → at + 40 ≤ length old
+    → Put old at (outcomeText kind number fixed) new r → Appended old at (outcomeText kind number fixed) new r × (r ≤ at + 30)
+put-outcome kind number fixed l m fits p =
+    let short = outcome-short kind number fixed l m in
+    (put-appended (omega arith) p, omega arith)
+
+-- ---- the counts
+-- what owning the array of counts tells
+pub owned-counts : (calls : List ℕ) (vs : List Val) → Is (Array (UInt w32) 256) calls vs → Counts calls
+owned-counts calls vs h = counts calls vs (rw (map-id calls) h)
+
+module _ (f : ℕ) (calls : List ℕ) (l : f < length calls) where
+  calls-none : getD calls f 0 ≡ 0 → callsFrom f (drop f calls) ≡ callsFrom (f + 1) (drop (f + 1) calls)
+  unfolding callsFrom
+  calls-none e = rw (drop-cons calls f 0 l, e, add-one f)
+
+  calls-some : (getD calls f 0 ≡ 0 → ⊥) → callsFrom f (drop f calls) ≡ countText f (getD calls f 0) ++ callsFrom (f + 1) (drop (f + 1) calls)
+  unfolding callsFrom
+  calls-some e = rw (drop-cons calls f 0 l, ne-eqb (getD calls f 0) 0 e, add-one f)
+
+-- the counts of the functions below f have been written: with what is left after them, all is
+pub record Counting (old : List ℕ) (at : ℕ) (calls out : List ℕ) (next f : ℕ) : Type 0 where
+  pub size : length out ≡ length old
+  pub short : next ≤ at + 22 * f
+  pub left : (new : List ℕ) (r : ℕ) → Appended out next (callsFrom f (drop f calls)) new r → Appended old at (callsFrom 0 calls) new r
+
+pub counting-begins : (old : List ℕ) (at : ℕ) (calls : List ℕ) → Counting old at calls old at 0
+counting-begins old at calls = record { size = refl; short = omega arith; left = λ new r p. p }
+
+pub counting-passes : {old calls out : List ℕ} {at next f : ℕ} → f < length calls → getD calls f 0 ≡ 0 → Counting old at calls out next f
+    → Counting old at calls out next (f + 1)
+counting-passes {calls = calls} {f = f} l e h =
+    record { size = h .size; short = omega arith; left = λ new r p. h .left new r (rw (calls-none f calls l e) p) }
+
+pub counting-writes : {old calls out out′ : List ℕ} {at next next′ f : ℕ} → f < length calls → f < 2 ^ 32 → getD calls f 0 < 2 ^ 32 → (getD calls f 0 ≡ 0 → ⊥)
+    → next + 22 ≤ length out → Put out next (countText f (getD calls f 0)) out′ next′ → Counting old at calls out next f
+    → Counting old at calls out′ next′ (f + 1)
+counting-writes {calls = calls} {f = f} l m k e fits p h =
+    let short = count-short f (getD calls f 0) m k in
+    let q = put-appended (omega arith) p in
+    record {
+      size = q .size ∙ h .size;
+      short = omega arith;
+      left = λ new r s. h .left new r (rw (calls-some f calls l e) (appended-both q s));
+    }
+
+pub counting-ends : {old calls out : List ℕ} {at next f : ℕ} → length calls ≤ f → Counting old at calls out next f → Appended old at (callsFrom 0 calls) out next
+unfolding callsFrom
+counting-ends {calls = calls} {out} {next = next} {f = f} l h = h .left out next (rw (drop-of-length-le calls {i = f} l) (appended-none out next))
+
+-- ---- the end of the input
+pub closing-in : (t : Tally) (line : List ℕ) {p : Phase} → t .phase ≡ p → closing t line ≡ closingIn p (t .session) line
+unfolding closing
+closing-in t line e = rw e
+
+module _ (t : Tally) (line : List ℕ) (words : t .phase ≡ Words) {whole : Bool} (same : whole ≡ eqb (length line) 0) where
+  pub closing-whole : whole ≡ true → closing t line ≡ callsText (t .session .calls)
+  closing-whole e = closing-in t line words ∙ rw (← same, e)
+
+  pub closing-begun : whole ≡ false → closing t line ≡ refusedLine Refusal.Syntax ++ callsText (t .session .calls)
+  closing-begun e = closing-in t line words ∙ rw (← same, e)
+
+-- the text at the end, written from the start on
+pub closed-by : {t : Tally} {whole : Bool} {old text new : List ℕ} {r : ℕ} → ((line : List ℕ) → whole ≡ eqb (length line) 0 → closing t line ≡ text)
+    → Appended old 0 text new r → Closed t whole new r
+closed-by text p = record { output = λ line same. p .front ∙ sym (text line same); within = appended-within (omega arith) p }
+
+-- the line so far is empty when nothing is held
+pub held-none : {buffer line : List ℕ} {held : ℕ} → Holds buffer held line → eqb held 0 ≡ eqb (length line) 0
+held-none {buffer} {line} {held} h =
+    ⊎-elim
+    (λ s. rw (← h .kept (ltb-true held 16384 s), length-take-le held buffer (omega (arith, ltb-true held 16384 s, h .size))))
+    (λ s.
+    let far = ltb-false held 16384 s in
+    ne-eqb held 0 (λ e. omega arith) ∙ sym (ne-eqb (length line) 0 (λ e. omega (arith, h .long far))))
+    (either (ltb held 16384))

@@ -1,0 +1,67 @@
+-- The program over its whole input (document 01, "The tally program"), byte by byte: the bytes since the last newline are held.
+use mathlib.Core.Path.{_≡_}
+use mathlib.Core.Bool.{Bool, true, false, cond}
+use mathlib.Core.List.{List, [], _∷_, _++_}
+use Prim.Native.Nat.{ℕ, _-_, _^_}
+use lib.Dec.{eqb}
+use lib.ListN.{length, take}
+use Rattle.gtb.specs.declared.Refusal.{Refusal}
+use Rattle.lines.specs.Text.{newline, namesOutcome}
+use Rattle.session.specs.declared.Session.{Session}
+use Rattle.session.specs.Session.{freshOf}
+use Rattle.host.specs.Exported.{shapeOf}
+use Rattle.capture.specs.declared.Phase.{Phase}
+use Rattle.capture.specs.declared.Phase.the-variants.{ShapeNames, ShapeValues, WordNames, Words, Ended}
+use Rattle.capture.specs.declared.Tally.{Tally}
+use Rattle.capture.specs.Output.{answerText, refusedLine, callsText}
+use Rattle.capture.specs.Judge.{judgedOf}
+
+-- before the first line; the session is of no use until line 2 has come
+unfoldable pub start : Tally
+start = record { phase = ShapeNames; session = freshOf (shapeOf 0 0 0) }
+
+-- a fault ends the program
+abbrev pub isEnded : Phase → Bool
+isEnded ShapeNames = false
+isEnded ShapeValues = false
+isEnded WordNames = false
+isEnded Words = false
+isEnded Ended = true
+
+-- what some bytes of input lead to: the tally, the bytes of the line that they end in, and the output on the way
+pub record Fed : Type 0 where
+  pub tally : Tally
+  pub held : List ℕ
+  pub text : List ℕ
+
+-- the same after some output
+abbrev pub after : List ℕ → Fed → Fed
+after text r = record { tally = r .tally; held = r .held; text = text ++ r .text }
+
+-- a newline ends a line, which is judged
+unfoldable pub feed : Tally → List ℕ → List ℕ → Fed
+feed t held [] = record { tally = t; held = held; text = [] }
+feed t held (b ∷ bytes) =
+    elim (eqb b newline) [
+      | true ↦ after (answerText (judgedOf t held .answer)) (feed (judgedOf t held .tally) [] bytes)
+      | false ↦ feed t (held ++ (b ∷ [])) bytes
+    ]
+
+-- a last line without its newline is refused with 10, as is a missing one of the first three
+abbrev pub closingIn : Phase → Session → List ℕ → List ℕ
+closingIn ShapeNames σ held = refusedLine Refusal.Syntax
+closingIn ShapeValues σ held = refusedLine Refusal.Syntax
+closingIn WordNames σ held = refusedLine Refusal.Syntax
+closingIn Words σ held = cond (eqb (length held) 0) [] (refusedLine Refusal.Syntax) ++ callsText (σ .calls)
+closingIn Ended σ held = []
+
+-- the output at the end of the input
+unfoldable pub closing : Tally → List ℕ → List ℕ
+closing t held = closingIn (t .phase) (t .session) held
+
+abbrev pub written : Fed → List ℕ
+written r = namesOutcome ++ r .text ++ closing (r .tally) (r .held)
+
+-- what the program writes for an input, of which at most 2^32 - 1 bytes are read
+unfoldable pub outputOf : List ℕ → List ℕ
+outputOf input = written (feed start [] (take (2 ^ 32 - 1) input))

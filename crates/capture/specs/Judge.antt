@@ -1,0 +1,74 @@
+-- What the program makes of one line (document 01, "The tally program"). A line comes without its newline.
+use mathlib.Core.Bool.{Bool, true, false, cond}
+use mathlib.Core.List.{List}
+use Prim.Native.Nat.{ℕ}
+use lib.Dec.{eqb, ltb}
+use lib.ListN.{length, getD, replicate}
+use Rattle.gtb.specs.declared.Shape.{Shape}
+use Rattle.gtb.specs.declared.Refusal.{Refusal}
+use Rattle.gtb.specs.declared.Status.{Status}
+use Rattle.gtb.specs.declared.Status.the-variants as status
+use Rattle.gtb.specs.Shape.{scratchLength}
+use Rattle.lines.specs.Text.{sameBytes, namesShape, namesWord}
+use Rattle.lines.specs.Content.{Content, Spelled, Unreadable, contentOf}
+use Rattle.session.specs.declared.Session.{Session}
+use Rattle.session.specs.declared.Outcome.the-variants.{Refused}
+use Rattle.session.specs.Session.{freshOf, freshStatus}
+use Rattle.session.specs.Arrival.{clean, Opened, opened, outcomeOf, sessionAfter}
+use Rattle.host.specs.Exported.{shapeOf}
+use Rattle.capture.specs.declared.Phase.{Phase}
+use Rattle.capture.specs.declared.Phase.the-variants.{ShapeNames, ShapeValues, WordNames, Words, Ended}
+use Rattle.capture.specs.declared.Tally.{Tally}
+use Rattle.capture.specs.declared.Answer.the-variants.{Silent, Line}
+use Rattle.capture.specs.declared.Judged.{Judged}
+
+-- the values of a line of at most 16,384 bytes, the newline counted
+unfoldable pub lineContent : List ℕ → Content
+lineContent line = cond (ltb (length line) 16384) (contentOf line) Unreadable
+
+-- no line of output; the next line is looked at in this phase
+unfoldable pub passed : Phase → Session → Judged
+passed phase σ = record { tally = record { phase = phase; session = σ }; answer = Silent }
+
+-- a fault of the first three lines is answered, and ends the program
+unfoldable pub fault : Session → Refusal → Judged
+fault σ e = record { tally = record { phase = Ended; session = σ }; answer = Line (Refused e) }
+
+-- a line of names is the expected one, or a fault
+abbrev pub named : Session → Bool → Phase → Judged
+named σ true next = passed next σ
+named σ false next = fault σ Refusal.Syntax
+
+-- line 2 begins the session; a shape outside its lists is a fault before line 3 is looked at
+abbrev pub begun : Session → Shape → Status → Judged
+begun σ s status.Done = passed WordNames (freshOf s)
+begun σ s (status.Refused e) = fault σ e
+
+abbrev pub shapeIn : List ℕ → Shape
+shapeIn xs = shapeOf (getD xs 0 0) (getD xs 1 0) (getD xs 2 0)
+
+abbrev pub shaped : Session → Content → Judged
+shaped σ (Spelled xs) = cond (eqb (length xs) 3) (begun σ (shapeIn xs) (freshStatus (shapeIn xs))) (fault σ Refusal.Syntax)
+shaped σ Unreadable = fault σ Refusal.Syntax
+
+-- the values of a word line arrive; what the scratch holds has no bearing
+abbrev pub broughtBy : Session → List ℕ → Opened
+broughtBy σ xs = opened clean (σ .shape) xs (replicate (scratchLength (σ .shape)) 0)
+
+-- the outcome of an arrival, and the session after it
+unfoldable pub arrived : Session → Opened → Judged
+arrived σ o = record { tally = record { phase = Words; session = sessionAfter σ o }; answer = Line (outcomeOf σ o) }
+
+abbrev pub worded : Session → Content → Judged
+worded σ (Spelled xs) = arrived σ (broughtBy σ xs)
+worded σ Unreadable = record { tally = record { phase = Words; session = σ }; answer = Line (Refused Refusal.Syntax) }
+
+abbrev pub judgedIn : Phase → Session → List ℕ → Judged
+judgedIn ShapeNames σ line = named σ (sameBytes line namesShape) ShapeValues
+judgedIn ShapeValues σ line = shaped σ (lineContent line)
+judgedIn WordNames σ line = named σ (sameBytes line namesWord) Words
+judgedIn Words σ line = worded σ (lineContent line)
+judgedIn Ended σ line = passed Ended σ
+
+unfoldable pub judgedOf : Tally → List ℕ → Judged
+judgedOf t line = judgedIn (t .phase) (t .session) line

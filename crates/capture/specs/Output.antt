@@ -1,0 +1,39 @@
+-- The program's answers as text (document 01, "The tally program").
+use mathlib.Core.Bool.{cond}
+use mathlib.Core.List.{List, [], _∷_, _++_}
+use Prim.Native.Nat.{ℕ, suc}
+use lib.Dec.{eqb}
+use Rattle.gtb.specs.declared.Refusal.{Refusal}
+use Rattle.lines.specs.Text.{namesCalls, outcomeText, countText}
+use Rattle.session.specs.declared.Outcome.{Outcome}
+use Rattle.session.specs.declared.Outcome.the-variants.{Refused}
+use Rattle.session.specs.Arrival.{outcomeValues}
+use Rattle.capture.specs.declared.Answer.{Answer}
+use Rattle.capture.specs.declared.Answer.the-variants.{Silent, Line}
+
+-- a line of three values
+abbrev pub valuesText : List ℕ → List ℕ
+valuesText [] = []
+valuesText (kind ∷ []) = []
+valuesText (kind ∷ number ∷ []) = []
+valuesText (kind ∷ number ∷ fixed ∷ rest) = outcomeText kind number fixed
+
+-- outcome, page or refusal number, digits changed
+unfoldable pub outcomeLine : Outcome → List ℕ
+outcomeLine r = valuesText (outcomeValues r)
+
+abbrev pub answerText : Answer → List ℕ
+answerText Silent = []
+answerText (Line r) = outcomeLine r
+
+abbrev pub refusedLine : Refusal → List ℕ
+refusedLine e = outcomeLine (Refused e)
+
+-- function and calls from function f on, counts above zero only
+unfoldable pub callsFrom : ℕ → List ℕ → List ℕ
+callsFrom f [] = []
+callsFrom f (k ∷ calls) = cond (eqb k 0) (callsFrom (suc f) calls) (countText f k ++ callsFrom (suc f) calls)
+
+-- the second table
+unfoldable pub callsText : List ℕ → List ℕ
+callsText calls = namesCalls ++ callsFrom 0 calls

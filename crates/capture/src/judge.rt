@@ -1,0 +1,139 @@
+// One line judged, by the phase.
+use crate::Answer;
+use crate::Judged;
+use crate::Phase;
+use crate::Tally;
+use gtb::Refusal;
+use gtb::Shape;
+use gtb::Status;
+use lines::Parsed;
+use session::Outcome;
+use session::Session;
+ghost use mathlib.Core.Path.{_≡_};
+ghost use Prim.Native.Nat.{_<_};
+ghost use lib.ListN.{length};
+ghost use Rattle.lines.specs.Content.{contentOf};
+ghost use Rattle.session.specs.Session.{freshStatus};
+ghost use Rattle.capture.specs.Judge.{passed, fault, named, begun, shaped, worded, judgedOf};
+ghost use Rattle.capture.specs.Steps.{Room};
+
+// No output; the next line is looked at in this phase.
+fn pass(phase: Phase, session: Session) -> Judged
+    ensures { λ r. ⌜ r ≡ passed phase session ⌝ }
+{
+    Judged {
+        tally: Tally { phase, session },
+        answer: Answer::Silent,
+    }
+}
+
+// A fault of the first three lines ends the program.
+fn fail(session: Session, refusal: Refusal) -> Judged
+    ensures { λ r. ⌜ r ≡ fault session refusal ⌝ }
+{
+    Judged {
+        tally: Tally {
+            phase: Phase::Ended,
+            session,
+        },
+        answer: Answer::Line(Outcome::Refused(refusal)),
+    }
+}
+
+// A line of names.
+fn take_names(session: Session, expected: bool, next: Phase) -> Judged
+    ensures { λ r. ⌜ r ≡ named session expected next ⌝ }
+{
+    if expected {
+        return pass(next, session);
+    }
+    fail(session, Refusal::Syntax)
+}
+
+fn start(session: Session, shape: Shape) -> Judged
+    ensures { λ r. ⌜ r ≡ begun session shape (freshStatus shape) ⌝ }
+{
+    let fresh = Session::fresh(shape);
+    let begun = fresh.session;
+    let status = fresh.status;
+    match status {
+        Status::Done => pass(Phase::WordNames, begun),
+        Status::Refused(e) => fail(session, e),
+    }
+}
+
+// Line 2: three values.
+fn take_shape(session: Session, line: &[u8]) -> Judged
+    ensures { λ r. ⌜ r ≡ shaped session (contentOf (now (line .entry))) ⌝ }
+{
+    let mut values = [0u32; 1024];
+    let Parsed::Values(count) = lines::parse(line, &mut values) else {
+        return fail(session, Refusal::Syntax);
+    };
+    if count != 3 {
+        return fail(session, Refusal::Syntax);
+    }
+    let shape = Shape {
+        q: values[0],
+        n: values[1],
+        b: values[2],
+    };
+    start(session, shape)
+}
+
+// How long a scratch the arrival wants.
+fn room_for(shape: Shape) -> usize
+    ensures { λ r. ⌜ Room shape r ⌝ }
+{
+    if gtb::is_lawful(shape) {
+        return gtb::size::scratch_length(shape);
+    }
+    0
+}
+
+// A word line. No word has 1024 values, so that of a longer line the first 1024 stand for all.
+fn take_word(session: Session, line: &[u8], scratch: &mut [u32]) -> Judged
+    requires { ⌜ length (now scratch) ≡ 7688 ⌝ }
+    ensures { λ r. ⌜ (r ≡ worded session (contentOf (now (line .entry)))) × (length (now (scratch .exit)) ≡ 7688) ⌝ }
+{
+    let mut values = [0u32; 1024];
+    let Parsed::Values(count) = lines::parse(line, &mut values) else {
+        return Judged {
+            tally: Tally {
+                phase: Phase::Words,
+                session,
+            },
+            answer: Answer::Line(Outcome::Refused(Refusal::Syntax)),
+        };
+    };
+    let size = if count < 1024 { count } else { 1024 };
+    let shape = session.shape;
+    let room = room_for(shape);
+    let arrived = session.arrive(&mut values[..size], &mut scratch[..room]);
+    let after = arrived.session;
+    let outcome = arrived.outcome;
+    Judged {
+        tally: Tally {
+            phase: Phase::Words,
+            session: after,
+        },
+        answer: Answer::Line(outcome),
+    }
+}
+
+pub fn judge(tally: Tally, line: &[u8], scratch: &mut [u32]) -> Judged
+    requires { ⌜ (length (now line) < 16384) × (length (now scratch) ≡ 7688) ⌝ }
+    ensures { λ r. ⌜ (r ≡ judgedOf tally (now (line .entry))) × (length (now (scratch .exit)) ≡ 7688) ⌝ }
+{
+    let phase = tally.phase;
+    let session = tally.session;
+    match phase {
+        Phase::ShapeNames => {
+            take_names(session, lines::is_shape_names(line), Phase::ShapeValues)
+        }
+        Phase::ShapeValues => take_shape(session, line),
+        Phase::WordNames => take_names(session, lines::is_word_names(line), Phase::Words),
+        Phase::Words => take_word(session, line, scratch),
+        Phase::Ended => pass(Phase::Ended, session),
+    }
+}
