@@ -7,17 +7,19 @@ mod words;
 
 /// Prints all tables.
 pub fn run() {
-    println!("Times are medians of {} rounds, in which all three take turns on the same words.", contest::ROUNDS);
+    println!("Times and ratios are medians of {} rounds; all three take turns on the same words.", contest::ROUNDS);
     println!("Ours / other below 1 means that the library is faster.");
     println!("All three test shape, length and width, and clear the lent scratch where they are lent one.");
-    println!("In an arrival the session crosses as 1,283 numbers, for all three.");
+    println!("In an arrival the session crosses as 1,283 numbers and is written back after taken, for all three.");
     println!();
-    let missed = words::table();
+    let mut missed = words::table();
     println!();
-    program::table();
+    missed.extend(program::table());
     println!();
+    println!("Targets: reading at most 0.50 of the straightforward reader and 1.20 of the tuned one; the program on");
+    println!("(17, 4, 32) at least 150 MB/s or at most 1.50 of the Rust program's time.");
     if missed.is_empty() {
-        println!("Every reader target is met: at most 0.50 of the straightforward reader, 1.20 of the tuned one.");
+        println!("Every target measured is met.");
     }
     missed.iter().for_each(|row| println!("Target missed: {row}"));
 }

@@ -8,32 +8,26 @@ pub const ROUNDS: usize = 31;
 const TURN: Duration = Duration::from_millis(1);
 const BATCHES: usize = 6;
 
-/// Nanoseconds a word of the library, the straightforward code and the tuned code.
-pub struct Times(pub [f64; 3]);
-
-impl Times {
-    pub fn to_straightforward(&self) -> f64 {
-        self.0[0] / self.0[1]
-    }
-
-    pub fn to_tuned(&self) -> f64 {
-        self.0[0] / self.0[2]
-    }
+/// Nanoseconds a word of the library, and its time over that of the straightforward and the tuned code.
+pub struct Times {
+    pub ours: f64,
+    pub to_straightforward: f64,
+    pub to_tuned: f64,
 }
 
 /// A batch of words prepared and worked on by one contestant; it gives the time of the work alone.
 pub type Batch<'a> = Box<dyn FnMut() -> Duration + 'a>;
 
-/// Times the contestants on batches of `words` words. They take turns within each round, so that a
-/// slow moment of the machine hits all of them.
+/// Times the contestants on batches of `words` words. They take turns within each round, and a ratio
+/// is one round's, so that a slow moment of the machine hits all of them.
 pub fn times(words: usize, mut contestants: [Batch; 3]) -> Times {
-    let mut rounds: [Vec<f64>; 3] = Default::default();
-    for _ in 0..ROUNDS {
-        for (contestant, times) in contestants.iter_mut().zip(&mut rounds) {
-            times.push(turn(contestant) / words as f64);
-        }
+    let rounds: Vec<[f64; 3]> = (0..ROUNDS).map(|_| contestants.each_mut().map(turn)).collect();
+    let over_rounds = |value: fn(&[f64; 3]) -> f64| median(rounds.iter().map(value).collect());
+    Times {
+        ours: over_rounds(|round| round[0]) / words as f64,
+        to_straightforward: over_rounds(|round| round[0] / round[1]),
+        to_tuned: over_rounds(|round| round[0] / round[2]),
     }
-    Times(rounds.map(median))
 }
 
 /// The time of a batch in one turn, in nanoseconds: the shortest, since a batch is short enough not

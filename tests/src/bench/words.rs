@@ -93,8 +93,8 @@ struct Row {
 impl Row {
     fn text(&self) -> String {
         let (Shape { q, n, b }, times) = (self.shape, &self.times);
-        let (straightforward, tuned) = (times.to_straightforward(), times.to_tuned());
-        format!("| ({q}, {n}, {b}) | {} | {:.0} | {straightforward:.2} | {tuned:.2} |", self.work, times.0[0])
+        let Times { ours, to_straightforward, to_tuned } = times;
+        format!("| ({q}, {n}, {b}) | {} | {ours:.0} | {to_straightforward:.2} | {to_tuned:.2} |", self.work)
     }
 
     fn print(&self) {
@@ -102,7 +102,7 @@ impl Row {
     }
 
     fn meets_target(&self) -> bool {
-        self.times.to_straightforward() <= 0.5 && self.times.to_tuned() <= 1.2
+        self.times.to_straightforward <= 0.5 && self.times.to_tuned <= 1.2
     }
 }
 

@@ -1,5 +1,6 @@
 //! The tally program in plain Rust over the tuned reader, to compare the proved program's speed with.
-//! Both read blocks of 64 KiB, copy only lines that straddle two blocks, and gather their output.
+//! It reads blocks of 64 KiB, as the proved one does, copies only lines that straddle two blocks, and
+//! gathers its output.
 
 use shaftglimmer_tests::reference::program::{MAX_INPUT, MAX_LINE};
 use shaftglimmer_tests::reference::session::Outcome;

@@ -75,7 +75,8 @@ impl State {
     }
 }
 
-/// An arrival whose session crosses as numbers, as it does in the harness.
+/// An arrival whose session crosses as numbers, as it does in the harness: it is written back only
+/// after a page was taken.
 pub fn arrive(way: Way, session: &mut [u32], word: &mut [u32], scratch: &mut [u32], outcome: &mut [u32]) -> u32 {
     if session.len() != SESSION_LEN || outcome.len() != 3 {
         return refused(Refusal::Length);
@@ -87,10 +88,13 @@ pub fn arrive(way: Way, session: &mut [u32], word: &mut [u32], scratch: &mut [u3
         *yes = number != 0;
     }
     state.calls.copy_from_slice(calls);
-    outcome.copy_from_slice(&state.arrive(way, word, scratch).values());
-    for (number, &yes) in taken.iter_mut().zip(&state.taken) {
-        *number = u32::from(yes);
+    let answer = state.arrive(way, word, scratch);
+    outcome.copy_from_slice(&answer.values());
+    if let Outcome::Taken { .. } = answer {
+        for (number, &yes) in taken.iter_mut().zip(&state.taken) {
+            *number = u32::from(yes);
+        }
+        calls.copy_from_slice(&state.calls);
     }
-    calls.copy_from_slice(&state.calls);
     0
 }
