@@ -1,5 +1,6 @@
 /*
- * Shaftglimmer: reading words and pages of trace captures. Link with libhost.a.
+ * Shaftglimmer: reading words and pages of trace captures. Link with libshaftglimmer.a, which stands
+ * in target/staticlib as libhost.a before it is installed.
  *
  * A shape is three numbers: the order q (3, 5, 7, 11, 13, 17, 19, 23, 29 or 31), the directions n
  * (from 2 to the smaller of q and 8) and the width b (1 to 32). A word has q * q digits and carries
