@@ -3,3 +3,4 @@ pub mod Judges
 pub mod Feeds
 pub mod Frames
 pub mod Examples
+pub mod Whole

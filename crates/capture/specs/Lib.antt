@@ -2,3 +2,4 @@ pub mod Output
 pub mod Judge
 pub mod Feed
 pub mod Steps
+pub mod Whole
