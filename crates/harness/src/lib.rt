@@ -1,4 +1,4 @@
-// Every entry over numbers and slices of u32, so that a program in another language can try it.
+// Every entry but `page::marks` over numbers and slices of u32, so that a program in another language can try it.
 mod crossing;
 
 use crate::crossing::LENGTH;
