@@ -25,7 +25,7 @@ pub fn table() -> Vec<String> {
     };
     let here = env::current_exe().expect("this program has a path");
     let rust = Program::new(here.with_file_name("tally_rust"));
-    println!("Speeds and ratios are by processor time, medians of {RUNS} runs in turns.");
+    println!("A speed is that of the median processor time of {RUNS} runs in turns; a row's ratio is that of its two speeds.");
     println!();
     println!("| shape | text | our MB/s | Rust MB/s | time, ours / Rust |");
     println!("|---|---|---:|---:|---:|");
@@ -58,12 +58,13 @@ fn row(ours: &Program, rust: &Program, shape: Shape, name: &str, text: &str) -> 
     let output = |program: &Program| program.run(text.as_bytes()).expect("the program runs");
     assert!(output(ours) == output(rust), "the programs disagree");
     let runs: Vec<[f64; 2]> = (0..RUNS).map(|_| [ours, rust].map(|program| seconds(program, &file))).collect();
-    let over_runs = |value: fn(&[f64; 2]) -> f64| median(runs.iter().map(value).collect());
-    let speed = |seconds: f64| text.len() as f64 / 1e6 / seconds;
-    let (ours, rust) = (speed(over_runs(|run| run[0])), speed(over_runs(|run| run[1])));
-    let ratio = over_runs(|run| run[0] / run[1]);
+    let megabytes = text.len() as f64 / 1e6;
+    let speed = |of: usize| megabytes / median(runs.iter().map(|run| run[of]).collect());
+    let (ours, rust) = (speed(0), speed(1));
+    // from the two speeds of this row, so that the three figures agree
+    let ratio = rust / ours;
     let Shape { q, n, b } = shape;
-    let row = format!("| ({q}, {n}, {b}) | {name} | {ours:.0} | {rust:.0} | {ratio:.2} |");
+    let row = format!("| ({q}, {n}, {b}) | {name} | {ours:.1} | {rust:.1} | {ratio:.2} |");
     println!("{row}");
     let met = shape != TARGET || ours >= SPEED || ratio <= RATIO;
     (!met).then_some(row)
