@@ -1,41 +1,42 @@
 -- One line judged: the cases of the definitions.
 use mathlib.Core.Path.{_≡_, refl, sym, ap, _∙_}
 use mathlib.Core.Logic.{⊎-elim}
-use mathlib.Core.Bool.{Bool, true, false, cond, _&&_}
+use mathlib.Core.Bool.{Bool, true, false, _&&_}
 use mathlib.Core.List.{List, [], _++_}
 use Prim.Native.Nat.{ℕ, _≤_, _<_}
 use native.Mathlib.Omega.{arith}
 use borrow.Author.Tests.{lt-ltb, le-ltb, ne-eqb, eq-eqb, leb-true, leb-false}
-use lib.Dec.{eqb, ltb, leb}
+use lib.Dec.{eqb, leb}
 use lib.ListN.{length, getD, take, drop, replicate, length-replicate, length-append, length-drop}
 use lib.Seq.{length-take-le, getD-take, ext-getD}
-use Rattle.parity.proofs.Tests.{either, and-no-left}
+use Rattle.parity.proofs.Tests.{either}
+use Rattle.gtb.proofs.Answers.{scratch-size}
 use Rattle.gtb.specs.declared.Shape.{Shape}
 use Rattle.gtb.specs.declared.Refusal.{Refusal}
 use Rattle.gtb.specs.declared.Status.{Status}
 use Rattle.gtb.specs.declared.Status.the-variants as status
-use Rattle.gtb.specs.Shape.{lawful, wordLength, scratchLength}
+use Rattle.gtb.specs.Shape.{lawful, wordLength, scratchLength, shapeOf}
 use Rattle.gtb.specs.Answer as answer
 use Rattle.gtb.proofs.Sizes.{sizes}
 use Rattle.lines.specs.Text.{sameBytes, namesShape, namesWord}
 use Rattle.lines.specs.Content.{Content, Spelled, Unreadable, contentOf}
 use Rattle.lines.specs.Parse.{Holds}
 use Rattle.lines.proofs.Same.{differ-same}
-use Rattle.lines.proofs.Contents.{content-spelled, content-none}
+use Rattle.lines.proofs.Contents.{content-spelled}
 use Rattle.session.specs.declared.Session.{Session}
 use Rattle.session.specs.Session.{freshOf, freshStatus}
 use Rattle.session.specs.declared.Arrived.{Arrived}
 use Rattle.session.specs.declared.Outcome.{Outcome}
 use Rattle.session.specs.declared.Outcome.the-variants.{Refused}
 use Rattle.session.specs.declared.Outcome.the-variants as outcome
-use Rattle.session.specs.Arrival.{clean, Opened, opened, unless, outcomeOf, sessionAfter, scratchAfter, Arriving}
-use Rattle.host.specs.Exported.{shapeOf}
+use Rattle.session.specs.Arrival.{clean, opened, outcomeOf, sessionAfter, outcomeScratch, Arriving, Bad}
+use Rattle.gtb.specs.Answer.{unless}
 use Rattle.capture.specs.declared.Phase.{Phase}
 use Rattle.capture.specs.declared.Phase.the-variants.{ShapeNames, ShapeValues, WordNames, Words, Ended}
 use Rattle.capture.specs.declared.Tally.{Tally}
-use Rattle.capture.specs.declared.Answer.the-variants.{Silent, Line}
+use Rattle.capture.specs.declared.Answer.the-variants.{Line}
 use Rattle.capture.specs.declared.Judged.{Judged}
-use Rattle.capture.specs.Judge.{lineContent, passed, fault, named, begun, shaped, shapeIn, worded, broughtBy, arrived, judgedIn, judgedOf}
+use Rattle.capture.specs.Judge.{lineContent, passed, fault, named, begun, shaped, worded, broughtBy, arrived, judgedIn, judgedOf}
 use Rattle.capture.specs.Steps.{Room}
 
 -- ---- lines by length
@@ -106,7 +107,7 @@ module _ (σ : Session) {line stored : List ℕ} {count : ℕ} (h : Holds line s
 
 -- an arrival of wrong lengths is turned down whatever they are, and of the scratch only the length counts
 opened-lawful : (s : Shape) (word scratch : List ℕ) → lawful s ≡ true
-    → opened clean s word scratch ≡ unless (eqb (length word) (wordLength s) && eqb (length scratch) (scratchLength s)) Refusal.Length (Rattle.session.specs.Arrival.openWord s (clean .word s word) (clean .answer s word))
+    → opened clean s word scratch ≡ unless (eqb (length word) (wordLength s) && eqb (length scratch) (scratchLength s)) (Bad Refusal.Length) (Rattle.session.specs.Arrival.openWord s (clean .word s word) (clean .answer s word))
 unfolding opened
 opened-lawful s word scratch t = rw t
 
@@ -164,23 +165,10 @@ worded-arrived σ {line} {stored} {count} {size} {room} h full cut r scratch lon
     rw (says σ h) (λ i. record { tally = record { phase = Words; session = after i }; answer = Line (answer i) })
 
 -- an arrival leaves a scratch of the same length
-cleared : (e : Refusal) (x : List ℕ) → length (answer.scratchAfter e x) ≡ length x
-unfolding answer.scratchAfter
-cleared Refusal.Shape x = refl
-cleared Refusal.Length x = refl
-cleared Refusal.Width x = length-replicate (length x) 0
-cleared Refusal.Uncorrectable x = length-replicate (length x) 0
-cleared Refusal.Page x = length-replicate (length x) 0
-cleared Refusal.Count x = length-replicate (length x) 0
-cleared Refusal.Function x = length-replicate (length x) 0
-cleared Refusal.Tail x = length-replicate (length x) 0
-cleared Refusal.Overflow x = length-replicate (length x) 0
-cleared Refusal.Syntax x = length-replicate (length x) 0
-
-scratch-length : (x : List ℕ) (r : Outcome) → length (scratchAfter x r) ≡ length x
+scratch-length : (x : List ℕ) (r : Outcome) → length (outcomeScratch x r) ≡ length x
 scratch-length x (outcome.Taken p k) = length-replicate (length x) 0
 scratch-length x (outcome.Again p k) = length-replicate (length x) 0
-scratch-length x (outcome.Refused e) = cleared e x
+scratch-length x (outcome.Refused e) = scratch-size e x
 
 pub scratch-kept : {σ : Session} {word word′ scratch′ : List ℕ} {a : Arrived} (scratch : List ℕ) (room : ℕ) → length scratch ≡ 7688 → room ≤ 7688
     → Arriving clean σ word (take room scratch) word′ scratch′ a → length (scratch′ ++ drop room scratch) ≡ 7688

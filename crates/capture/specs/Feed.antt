@@ -1,5 +1,4 @@
 -- The program over its whole input (document 01, "The tally program"), byte by byte: the bytes since the last newline are held.
-use mathlib.Core.Path.{_≡_}
 use mathlib.Core.Bool.{Bool, true, false, cond}
 use mathlib.Core.List.{List, [], _∷_, _++_}
 use Prim.Native.Nat.{ℕ, _-_, _^_}
@@ -9,7 +8,7 @@ use Rattle.gtb.specs.declared.Refusal.{Refusal}
 use Rattle.lines.specs.Text.{newline, namesOutcome}
 use Rattle.session.specs.declared.Session.{Session}
 use Rattle.session.specs.Session.{freshOf}
-use Rattle.host.specs.Exported.{shapeOf}
+use Rattle.gtb.specs.Shape.{shapeOf}
 use Rattle.capture.specs.declared.Phase.{Phase}
 use Rattle.capture.specs.declared.Phase.the-variants.{ShapeNames, ShapeValues, WordNames, Words, Ended}
 use Rattle.capture.specs.declared.Tally.{Tally}

@@ -8,14 +8,13 @@ use Rattle.gtb.specs.declared.Shape.{Shape}
 use Rattle.gtb.specs.declared.Refusal.{Refusal}
 use Rattle.gtb.specs.declared.Status.{Status}
 use Rattle.gtb.specs.declared.Status.the-variants as status
-use Rattle.gtb.specs.Shape.{scratchLength}
+use Rattle.gtb.specs.Shape.{scratchLength, shapeOf}
 use Rattle.lines.specs.Text.{sameBytes, namesShape, namesWord}
 use Rattle.lines.specs.Content.{Content, Spelled, Unreadable, contentOf}
 use Rattle.session.specs.declared.Session.{Session}
 use Rattle.session.specs.declared.Outcome.the-variants.{Refused}
 use Rattle.session.specs.Session.{freshOf, freshStatus}
 use Rattle.session.specs.Arrival.{clean, Opened, opened, outcomeOf, sessionAfter}
-use Rattle.host.specs.Exported.{shapeOf}
 use Rattle.capture.specs.declared.Phase.{Phase}
 use Rattle.capture.specs.declared.Phase.the-variants.{ShapeNames, ShapeValues, WordNames, Words, Ended}
 use Rattle.capture.specs.declared.Tally.{Tally}

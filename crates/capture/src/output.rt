@@ -3,7 +3,6 @@ use crate::Answer;
 use crate::Phase;
 use crate::Tally;
 use gtb::Refusal;
-use host::number;
 use session::Outcome;
 use session::Session;
 ghost use Prim.Native.Nat.{_+_, _≤_};
@@ -18,7 +17,7 @@ fn put_line(out: &mut [u8], at: usize, outcome: Outcome) -> usize
     match outcome {
         Outcome::Taken(page, fixed) => lines::put_outcome(out, at, 0, page, fixed),
         Outcome::Again(page, fixed) => lines::put_outcome(out, at, 1, page, fixed),
-        Outcome::Refused(e) => lines::put_outcome(out, at, 2, number::refusal(e), 0),
+        Outcome::Refused(e) => lines::put_outcome(out, at, 2, gtb::number::refusal(e), 0),
     }
 }
 

@@ -5,16 +5,17 @@ use mathlib.Core.List.{List}
 use Prim.Native.Nat.{ℕ}
 use lib.Dec.{eqb}
 use lib.ListN.{length}
-use Rattle.parity.specs.Xor.{_⊕_}
-use Rattle.parity.proofs.Lists.{is-tabulate}
 use Rattle.gtb.specs.declared.Shape.{Shape}
 use Rattle.gtb.specs.declared.Refusal.{Refusal}
 use Rattle.gtb.specs.Shape.{lawful, wordLength}
 use Rattle.gtb.specs.Square.{at, narrow}
-use Rattle.decoder.specs.declared.Decoded.{Decoded}
-use Rattle.decoder.specs.declared.Decoded.the-variants.{Corrected, Refused}
-use Rattle.decoder.specs.Decode.{restored, correctable, decodeOf, wordAfter, Decoding}
-use Rattle.decoder.specs.Steps.{Toggled, Corrections, Corrects}
+use Rattle.correction.specs.declared.Decoded.{Decoded}
+use Rattle.correction.specs.declared.Decoded.the-variants.{Corrected, Refused}
+use Rattle.decoder.specs.Decode.{restored, correctable, decodeOf, Decoding}
+use Rattle.correction.specs.Answer.{decodedWord}
+use Rattle.decoder.specs.Steps.{Corrections, Corrects}
+use Rattle.correction.specs.Steps.{Toggled}
+use Rattle.correction.proofs.Tables.{mends}
 use Rattle.decoder.proofs.Meaning.{decode-meets}
 
 -- ---- past the first three tests
@@ -24,15 +25,12 @@ uncorrected e = record { answer = rw e; word = refl }
 pub corrected : {s : Shape} {w w′ places errors : List ℕ} {k : ℕ} → length w ≡ wordLength s
     → Corrections s w k places errors → Toggled k (at places) (at errors) w w′ → Corrects s w w′ (Corrected k)
 unfolding restored
-corrected {s} {w} {w′} size c g = record {
-  answer = rw (c .accepted, c .changed);
-  word = is-tabulate (wordLength s) _ w′ (g .size ∙ size) (λ j lj. g .entry j ∙ ap (λ (x : ℕ). at w j ⊕ x) (sym (c .error j lj)));
-}
+corrected size c g = record { answer = rw (c .accepted, c .changed); word = mends (c .listed) size g }
 
 -- ---- the contract from its two equations
-decoding : {s : Shape} {w w′ : List ℕ} {r : Decoded} → r ≡ decodeOf s w → w′ ≡ wordAfter s w r → Decoding s w w′ r
+decoding : {s : Shape} {w w′ : List ℕ} {r : Decoded} → r ≡ decodeOf s w → w′ ≡ decodedWord w (restored s w) r → Decoding s w w′ r
 decoding {s} {w} {w′} {r} answer word =
-    subst₂ (λ (x : List ℕ) (y : Decoded). Decoding s w x y) (sym (word ∙ ap (wordAfter s w) answer)) (sym answer) (decode-meets s w)
+    subst₂ (λ (x : List ℕ) (y : Decoded). Decoding s w x y) (sym (word ∙ ap (decodedWord w (restored s w)) answer)) (sym answer) (decode-meets s w)
 
 module _ {s : Shape} {w : List ℕ} where
   pub refuses-shape : lawful s ≡ false → Decoding s w w (Refused Refusal.Shape)

@@ -1,51 +1,31 @@
 -- Clean decoding: an unmasked error of weight at most n - 1 is found whole.
 use mathlib.Core.Path.{_≡_, sym, ap, _∙_}
-use mathlib.Core.Bool.{Bool, true, false, not, cond}
+use mathlib.Core.Bool.{Bool, true, false, not}
 use mathlib.Core.List.{List}
 use mathlib.Core.Logic.{⊎-elim}
-use Prim.Native.Nat.{ℕ, zero, suc, _-_, _<_, _≤_, suc-le-suc}
-use native.Mathlib.Nat.{not-suc-le-zero, le-of-suc-le-suc, zero-lt-suc}
+use Prim.Native.Nat.{ℕ, _-_, _<_, _≤_}
 use native.Mathlib.Omega.{arith}
 use lib.Dec.{eqb}
 use lib.ListN.{length}
 use borrow.Author.Tests.{le-leb, eq-eqb, ne-eqb, eqb-true, eqb-false, not-true, not-false}
 use Rattle.parity.specs.Xor.{_⊕_, when}
-use Rattle.parity.specs.Count.{count, all}
+use Rattle.parity.specs.Count.{count, all, firstValue}
 use Rattle.parity.proofs.Xors.{xors, zero-l}
 use Rattle.parity.proofs.Tests.{either, and-both, not-of-true, not-of-false, all-intro, all-no}
+use Rattle.parity.proofs.First.{first-some}
 use Rattle.parity.proofs.Sums.{count-cong}
 use Rattle.parity.proofs.Pigeon.{others-le}
 use Rattle.parity.proofs.Lists.{is-tabulate}
 use Rattle.gtb.specs.declared.Shape.{Shape}
 use Rattle.gtb.specs.Shape.{Lawful, wordLength}
-use Rattle.gtb.specs.Square.{lineOf, at, syndrome, Silent}
+use Rattle.gtb.specs.Square.{lineOf, at, syndrome, Silent, silentTest}
 use Rattle.gtb.proofs.Bounds.{bounds}
 use Rattle.gtb.proofs.Lines.{line-lt}
 use Rattle.gtb.proofs.Rows.{syndrome-cong, syndrome-linear}
 use Rattle.gtb.proofs.Crossing.{others, private-check, private-value}
-use Rattle.decoder.specs.Damage.{Unmasked, weight}
-use Rattle.decoder.specs.Decode.{onCheck, located, alone, firstValue, errorAt, restored, correctable}
-
--- the value at 0, if it passes, or else the first one after it
-first-here : (n : ℕ) (p : ℕ → Bool) (v : ℕ → ℕ) → p 0 ≡ true → firstValue (suc n) p v ≡ v 0
-unfolding firstValue
-first-here n p v h = ap (λ (b : Bool). cond b (v 0) (firstValue n (λ t. p (suc t)) (λ t. v (suc t)))) h
-
-first-later : (n : ℕ) (p : ℕ → Bool) (v : ℕ → ℕ) → p 0 ≡ false → firstValue (suc n) p v ≡ firstValue n (λ t. p (suc t)) (λ t. v (suc t))
-unfolding firstValue
-first-later n p v h = ap (λ (b : Bool). cond b (v 0) (firstValue n (λ t. p (suc t)) (λ t. v (suc t)))) h
-
--- where some number passes, the first value is that of one that passes
-first-some : (n : ℕ) (p : ℕ → Bool) (v : ℕ → ℕ) (t : ℕ) → t < n → p t ≡ true
-    → (u : ℕ) × (u < n) × (p u ≡ true) × (firstValue n p v ≡ v u)
-first-some zero p v t l h = absurd (not-suc-le-zero l)
-first-some (suc n) p v zero l h = (0, l, h, first-here n p v h)
-first-some (suc n) p v (suc t) l h =
-    ⊎-elim (λ (z : p 0 ≡ true). (0, zero-lt-suc n, z, first-here n p v z))
-    (λ (z : p 0 ≡ false).
-    let (u, lu, hu, e) = first-some n (λ t. p (suc t)) (λ t. v (suc t)) t (le-of-suc-le-suc l) h in
-    (suc u, suc-le-suc lu, hu, first-later n p v z ∙ e))
-    (either (p 0))
+use Rattle.decoder.specs.Damage.{Unmasked}
+use Rattle.correction.specs.Error.{weight, onCheck, mended}
+use Rattle.decoder.specs.Decode.{located, alone, errorAt, restored, correctable}
 
 -- the error is this value at a located position, and 0 elsewhere
 pub error-located : (s : Shape) (f : ℕ → ℕ) (j : ℕ) → located s f j ≡ true → errorAt s f j ≡ firstValue (s .n) (alone s f j) (onCheck s f j)
@@ -134,7 +114,7 @@ module _ (s : Shape) (law : Lawful s) (f v e : ℕ → ℕ) (r : Received s f v 
 -- over words: the error is taken off whole
 module _ (s : Shape) (law : Lawful s) (w v : List ℕ) (e : ℕ → ℕ) (size : length v ≡ wordLength s) (r : Received s (at w) (at v) e) where
   pub clean-restored : restored s w ≡ v
-  unfolding restored
+  unfolding restored mended
   clean-restored =
       sym
       (is-tabulate (wordLength s) (λ j. at w j ⊕ errorAt s (at w) j) v size
@@ -142,7 +122,7 @@ module _ (s : Shape) (law : Lawful s) (w v : List ℕ) (e : ℕ → ℕ) (size :
 
   -- the located positions are few, and the restored word is silent
   pub clean-correctable : correctable s w ≡ true
-  unfolding correctable
+  unfolding correctable silentTest
   clean-correctable =
       and-both
       (le-leb (count (wordLength s) (located s (at w))) (s .n - 1) (rw (located-count s law (at w) (at v) e r) (r .few)))

@@ -1,10 +1,7 @@
-pub mod Decided
 pub mod Numbers
 pub mod Shifts
-pub mod Toggles
 pub mod Listing
 pub mod Private
-pub mod Silence
 pub mod Reading
 pub mod Answers
 pub mod Clean

@@ -19,53 +19,39 @@ use Rattle.parity.proofs.Lists.{length-tabulate, at-tabulate, is-tabulate}
 use Rattle.gtb.specs.declared.Shape.{Shape}
 use Rattle.gtb.specs.declared.Refusal.{Refusal}
 use Rattle.gtb.specs.Shape.{lawful, Lawful, wordLength}
-use Rattle.gtb.specs.Square.{lineOf, at, narrow, syndrome, Word, Silent}
+use Rattle.gtb.specs.Square.{lineOf, at, narrow, syndrome, Word, Silent, silentTest}
 use Rattle.gtb.proofs.Bounds.{bounds}
 use Rattle.gtb.proofs.Lines.{line-lt}
 use Rattle.gtb.proofs.Rows.{syndrome-cong, syndrome-linear, syndrome-width}
 use Rattle.gtb.proofs.Crossing.{eqb-xor}
-use Rattle.gtb.proofs.Words.{word-narrow, narrow-word, tabulate-word, silentTest, test-silent}
-use Rattle.decoder.specs.declared.Decoded.the-variants.{Corrected, Refused}
-use Rattle.decoder.specs.Damage.{Unmasked, weight, damaged, Explains}
-use Rattle.decoder.specs.Decode.{onCheck, located, errorAt, restored, correctable, unless, decodeOf, wordAfter, Decoding}
+use Rattle.gtb.proofs.Words.{word-narrow, narrow-word, tabulate-word, test-silent}
+use Rattle.correction.specs.declared.Decoded.the-variants.{Corrected, Refused}
+use Rattle.decoder.specs.Damage.{Unmasked, Explains}
+use Rattle.correction.specs.Error.{weight, damaged, onCheck}
+use Rattle.decoder.specs.Decode.{located, errorAt, restored, correctable, decodeOf, Decoding}
+use Rattle.gtb.specs.Answer.{unless}
+use Rattle.correction.specs.Answer.{decodedWord}
+use Rattle.gtb.proofs.Answers.{unless-passed}
+use Rattle.correction.proofs.Errors.{damaged-at, damaged-word, damaged-places, errorWord, error-at, error-weight, put-back, same-syndrome, error-word, mended-word}
 use Rattle.decoder.proofs.Clean.{Received, first-private, error-located, error-elsewhere, located-count, clean-restored, clean-correctable}
 
 -- ---- what explains a word
 module _ (s : Shape) (w v : List ℕ) (k : ℕ) (x : Explains s w v k) where
-  explained-size : length w ≡ wordLength s
-  unfolding damaged
-  explained-size = ap length (x .received) ∙ length-tabulate (length v) (λ j. at v j ⊕ at (x .error) j) ∙ x .codeword .word .size
-
-  explained-at : (j : ℕ) → j < wordLength s → at w j ≡ at v j ⊕ at (x .error) j
-  unfolding damaged
-  explained-at j l =
-      ap (λ (u : List ℕ). at u j) (x .received) ∙ at-tabulate (length v) (λ j. at v j ⊕ at (x .error) j) j (rw (x .codeword .word .size) l)
-
-  -- it is a word of N symbols below 2^b
   explained-word : Word s w
-  explained-word =
-      rw (is-tabulate (wordLength s) (λ j. at v j ⊕ at (x .error) j) w explained-size explained-at)
-      (tabulate-word s (λ j. at v j ⊕ at (x .error) j)
-      (λ j l. lt-pow (s .b) (at v j) (at (x .error) j) (x .codeword .word .width j) (x .word .width j)))
+  explained-word = rw (x .received) (damaged-word s v (x .error) (x .codeword .word) (x .word))
 
-  -- and received with a clean error
+  -- the codeword received with a clean error
   explained : Received s (at w) (at v) (at (x .error))
   explained = record {
     quiet = x .codeword .checks;
     clean = x .unmasked;
     few = rw (x .changed) (x .few);
-    sum = explained-at;
+    sum = rw (x .received) (damaged-at s v (x .error) (x .codeword .word) (x .word));
   }
 
   -- the number of symbols changed is the number of places where received and restored differ
   pub changed-places : k ≡ count (wordLength s) (λ j. not (eqb (at w j) (at v j)))
-  unfolding weight
-  changed-places =
-      sym (x .changed)
-      ∙ count-cong (wordLength s) (λ j. not (eqb (at (x .error) j) 0)) (λ j. not (eqb (at w j) (at v j)))
-      (λ j l.
-      let differ : at w j ⊕ at v j ≡ at (x .error) j = rw (explained-at j l) (simp xors) in
-      ap (λ (y : ℕ). not (eqb y 0)) (sym differ) ∙ ap not (eqb-xor (at w j) (at v j)))
+  changed-places = sym (x .changed) ∙ rw (x .received) (damaged-places s v (x .error) (x .codeword .word) (x .word))
 
 -- an explained word is accepted, with that codeword and that number
 pub explains-decode : (s : Shape) → Lawful s → (w v : List ℕ) (k : ℕ) → Explains s w v k → (decodeOf s w ≡ Corrected k) × (restored s w ≡ v)
@@ -73,7 +59,7 @@ unfolding decodeOf
 explains-decode s law w v k x = (
   rw (
     law,
-    eq-eqb (length w) (wordLength s) (explained-size s w v k x),
+    eq-eqb (length w) (wordLength s) (explained-word s w v k x .size),
     word-narrow s w (explained-word s w v k x),
     clean-correctable s law w v (at (x .error)) size r,
     located-count s law (at w) (at v) (at (x .error)) r,
@@ -96,9 +82,6 @@ explains-unique s law w v v′ k k′ x y =
     (sym b ∙ b′, cc)
 
 -- ---- the errors found in a correctable word explain it
-abbrev errors : Shape → List ℕ → List ℕ
-errors s w = tabulate (wordLength s) (errorAt s (at w))
-
 module _ (s : Shape) (law : Lawful s) (w : List ℕ) (hw : Word s w) (ok : correctable s w ≡ true) where
   -- the two parts of the test
   few : count (wordLength s) (located s (at w)) ≤ s .n - 1
@@ -106,7 +89,7 @@ module _ (s : Shape) (law : Lawful s) (w : List ℕ) (hw : Word s w) (ok : corre
   few = leb-true (count (wordLength s) (located s (at w))) (s .n - 1) (and-left _ _ ok)
 
   quiet : Silent s (at (restored s w))
-  unfolding correctable silentTest
+  unfolding correctable
   quiet = test-silent s (at (restored s w)) (and-right (leb (count (wordLength s) (located s (at w))) (s .n - 1)) _ ok)
 
   -- the error at a located position is the value of one of its checks
@@ -142,79 +125,50 @@ module _ (s : Shape) (law : Lawful s) (w : List ℕ) (hw : Word s w) (ok : corre
       (λ (h : located s (at w) j ≡ false). not-of-true (eq-eqb (errorAt s (at w) j) 0 (error-elsewhere s (at w) j h)) ∙ sym h)
       (either (located s (at w) j))
 
-  -- the symbols of the error and of the restored word
-  error-at : (j : ℕ) → j < wordLength s → at (errors s w) j ≡ errorAt s (at w) j
-  error-at j l = at-tabulate (wordLength s) (errorAt s (at w)) j l
-
-  restored-at : (j : ℕ) → j < wordLength s → at (restored s w) j ≡ at w j ⊕ at (errors s w) j
-  unfolding restored
-  restored-at j l = at-tabulate (wordLength s) (λ j. at w j ⊕ errorAt s (at w) j) j l ∙ ap (λ (x : ℕ). at w j ⊕ x) (sym (error-at j l))
-
-  restored-size : length (restored s w) ≡ wordLength s
-  unfolding restored
-  restored-size = length-tabulate (wordLength s) (λ j. at w j ⊕ errorAt s (at w) j)
-
   -- the error has the word's syndromes
-  same-syndrome : (t L : ℕ) → t < s .n → L < s .q → syndrome s (at w) t L ≡ syndrome s (at (errors s w)) t L
-  same-syndrome t L lt lL =
-      eq-of-zero (syndrome s (at w) t L) (syndrome s (at (errors s w)) t L)
-      (sym (syndrome-linear s (at w) (at (errors s w)) t L)
-      ∙ sym (syndrome-cong s (at (restored s w)) (λ j. at w j ⊕ at (errors s w) j) t L restored-at)
-      ∙ quiet .silent t L lt lL)
+  shows : (t L : ℕ) → t < s .n → L < s .q → syndrome s (at w) t L ≡ syndrome s (at (errorWord s (errorAt s (at w)))) t L
+  unfolding restored
+  shows = same-syndrome s w (errorAt s (at w)) quiet
 
   -- so it is unmasked
-  clean : Unmasked s (at (errors s w))
+  clean : Unmasked s (at (errorWord s (errorAt s (at w))))
   clean = record {
     unmasked = λ t j lt lj nonzero masked.
         ⊎-elim
-        (λ (h : located s (at w) j ≡ true). sounds j h t lt (same-syndrome t (lineOf s t j) lt (line-lt s law t j lt lj) ∙ masked))
-        (λ (h : located s (at w) j ≡ false). nonzero (error-at j lj ∙ error-elsewhere s (at w) j h))
+        (λ (h : located s (at w) j ≡ true). sounds j h t lt (shows t (lineOf s t j) lt (line-lt s law t j lt lj) ∙ masked))
+        (λ (h : located s (at w) j ≡ false). nonzero (error-at s w (errorAt s (at w)) j lj ∙ error-elsewhere s (at w) j h))
         (either (located s (at w) j));
   }
 
-  -- and on the restored word it gives the word
-  put-back : w ≡ damaged (restored s w) (errors s w)
-  unfolding damaged
-  put-back =
-      is-tabulate (length (restored s w)) (λ j. at (restored s w) j ⊕ at (errors s w) j) w (hw .size ∙ sym restored-size)
-      (λ j l. let lj : j < wordLength s = rw restored-size at l in rw (restored-at j lj) (simp xors))
-
   -- a correctable word is explained by what is restored and by the number located
   pub decode-explains : Explains s w (restored s w) (count (wordLength s) (located s (at w)))
-  unfolding restored weight
-  decode-explains = record {
-    codeword = record {
-      word =
-          tabulate-word s (λ j. at w j ⊕ errorAt s (at w) j)
-          (λ j l. lt-pow (s .b) (at w j) (errorAt s (at w) j) (hw .width j) (error-narrow j l));
-      checks = quiet;
-    };
-    error = errors s w;
-    word = tabulate-word s (errorAt s (at w)) error-narrow;
-    unmasked = clean;
-    changed =
-        count-cong (wordLength s) (λ j. not (eqb (at (errors s w) j) 0)) (located s (at w))
-        (λ j l. ap (λ (x : ℕ). not (eqb x 0)) (error-at j l) ∙ error-where j l);
-    few = few;
-    received = put-back;
-  }
+  unfolding restored
+  decode-explains =
+      let error = errorAt s (at w) in
+      record {
+        codeword = record { word = mended-word s w error hw error-narrow; checks = quiet };
+        error = errorWord s error;
+        word = error-word s w error hw error-narrow;
+        unmasked = clean;
+        changed = error-weight s w error ∙ count-cong (wordLength s) (λ j. not (eqb (error j) 0)) (located s (at w)) error-where;
+        few = few;
+        received = put-back s w error (hw .size);
+      }
 
 -- ---- the four tests
--- the answer is a number: each test was passed
-passed : (a b c d : Bool) (m k : ℕ)
-    → unless a Refusal.Shape (unless b Refusal.Length (unless c Refusal.Width (unless d Refusal.Uncorrectable (Corrected m)))) ≡ Corrected k
-    → (a ≡ true) × (b ≡ true) × (c ≡ true) × (d ≡ true) × (m ≡ k)
-passed true true true true m k h = (refl, refl, refl, refl, cc)
-passed true true true false m k h = let z : _≡_ {A = ℕ} 0 1 = cc in absurd (omega arith)
-passed true true false d m k h = let z : _≡_ {A = ℕ} 0 1 = cc in absurd (omega arith)
-passed true false c d m k h = let z : _≡_ {A = ℕ} 0 1 = cc in absurd (omega arith)
-passed false b c d m k h = let z : _≡_ {A = ℕ} 0 1 = cc in absurd (omega arith)
+-- an answer is no refusal
+corrected-not : (e : Refusal) (k : ℕ) → Refused e ≡ Corrected k → ⊥
+corrected-not e k h = let z : _≡_ {A = ℕ} 0 1 = cc in omega arith
 
 -- an accepted word is explained by the restored one
 accepted-explains : (s : Shape) (w : List ℕ) (k : ℕ) → decodeOf s w ≡ Corrected k → Explains s w (restored s w) k
 unfolding decodeOf
 accepted-explains s w k h =
-    let (law, size, slim, ok, e) = passed (lawful s) (eqb (length w) (wordLength s)) (narrow (s .b) w) (correctable s w) _ k h in
+    let (law, h2) = unless-passed (lawful s) _ _ (corrected-not Refusal.Shape k) h in
+    let (size, h3) = unless-passed (eqb (length w) (wordLength s)) _ _ (corrected-not Refusal.Length k) h2 in
+    let (slim, h4) = unless-passed (narrow (s .b) w) _ _ (corrected-not Refusal.Width k) h3 in
+    let (ok, last) = unless-passed (correctable s w) _ _ (corrected-not Refusal.Uncorrectable k) h4 in
+    let e : count (wordLength s) (located s (at w)) ≡ k = cc in
     rw e at (decode-explains s law w (narrow-word s w (eqb-true (length w) (wordLength s) size) slim) ok)
 
 -- the answer is 4: the shape's test was passed
@@ -226,9 +180,10 @@ uncorrectable-lawful s w h =
     (either (lawful s))
 
 -- for every shape and word: the answer by equation, and what it means
-pub decode-meets : (s : Shape) (w : List ℕ) → Decoding s w (wordAfter s w (decodeOf s w)) (decodeOf s w)
+pub decode-meets : (s : Shape) (w : List ℕ) → Decoding s w (decodedWord w (restored s w) (decodeOf s w)) (decodeOf s w)
 decode-meets s w = record {
   answer = refl;
+  number = refl;
   word = refl;
   accepted = λ k h. rw h (accepted-explains s w k h);
   uncorrectable = λ h v k x.

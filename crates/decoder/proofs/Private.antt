@@ -10,36 +10,12 @@ use lib.ListN.{length, set, length-set}
 use lib.Seq.{getD-set-same, getD-set-other}
 use borrow.Author.Count.{below-none, below-more}
 use borrow.Author.Tests.{eq-eqb, ne-eqb}
-use Rattle.parity.proofs.Tests.{and-no-left}
+use Rattle.parity.proofs.Tests.{and-no-left, same-eqb}
 use Rattle.gtb.specs.declared.Shape.{Shape}
 use Rattle.gtb.specs.Square.{lineOf, at}
-use Rattle.decoder.specs.Decode.{firstValue}
-use Rattle.decoder.specs.Steps.{checkOf, shares, errorAmong, Measured}
-use Rattle.decoder.proofs.Decided.{same-eqb}
-
--- ---- the first number that passes
--- `error_of`: the value at the first, or 0
-pub first-at : (n : ℕ) (p : ℕ → Bool) (v : ℕ → ℕ) (t : ℕ) → t < n → ((u : ℕ) → u < t → p u ≡ false) → p t ≡ true → firstValue n p v ≡ v t
-unfolding firstValue
-first-at zero p v t l fails pass = absurd (not-suc-le-zero l)
-first-at (suc n) p v zero l fails pass = ap (λ (b : Bool). cond b (v 0) (firstValue n (λ t. p (suc t)) (λ t. v (suc t)))) pass
-first-at (suc n) p v (suc t) l fails pass =
-    ap (λ (b : Bool). cond b (v 0) (firstValue n (λ t. p (suc t)) (λ t. v (suc t)))) (fails 0 (zero-lt-suc t))
-    ∙ first-at n (λ t. p (suc t)) (λ t. v (suc t)) t (le-of-suc-le-suc l) (λ u lu. fails (suc u) (suc-le-suc lu)) pass
-
-pub first-none : (n : ℕ) (p : ℕ → Bool) (v : ℕ → ℕ) → ((u : ℕ) → u < n → p u ≡ false) → firstValue n p v ≡ 0
-unfolding firstValue
-first-none zero p v fails = refl
-first-none (suc n) p v fails =
-    ap (λ (b : Bool). cond b (v 0) (firstValue n (λ t. p (suc t)) (λ t. v (suc t)))) (fails 0 (zero-lt-suc n))
-    ∙ first-none n (λ t. p (suc t)) (λ t. v (suc t)) (λ u lu. fails (suc u) (suc-le-suc lu))
-
-pub first-cong : (n : ℕ) (p p′ : ℕ → Bool) (v v′ : ℕ → ℕ) → ((t : ℕ) → t < n → p t ≡ p′ t) → ((t : ℕ) → t < n → v t ≡ v′ t) → firstValue n p v ≡ firstValue n p′ v′
-unfolding firstValue
-first-cong zero p p′ v v′ hp hv = refl
-first-cong (suc n) p p′ v v′ hp hv = λ i.
-    cond (hp 0 (zero-lt-suc n) i) (hv 0 (zero-lt-suc n) i)
-    (first-cong n (λ t. p (suc t)) (λ t. p′ (suc t)) (λ t. v (suc t)) (λ t. v′ (suc t)) (λ t l. hp (suc t) (suc-le-suc l)) (λ t l. hv (suc t) (suc-le-suc l)) i)
+use Rattle.parity.specs.Count.{firstValue}
+use Rattle.decoder.specs.Steps.{shares, errorAmong, Measured}
+use Rattle.correction.specs.Error.{checkOf}
 
 -- ---- two positions on one check
 pub shares-self : (s : Shape) (t j i : ℕ) → i ≡ j → shares s t j i ≡ false

@@ -9,33 +9,23 @@ use lib.Arith.{digits-lt}
 use lib.Dec.{eqb}
 use borrow.Author.Tests.{le-leb, lt-leb, eq-eqb, ne-eqb}
 use Rattle.parity.specs.Xor.{_⊕_, xorSum, when}
-use Rattle.parity.specs.Count.{count, all}
+use Rattle.parity.specs.Count.{count, all, firstValue}
 use Rattle.parity.proofs.XorSums.{cong, only}
 use Rattle.parity.proofs.Sums.{count-cong}
-use Rattle.parity.proofs.Tests.{and-no-left, all-elim, all-intro, all-cong, any-cong}
+use Rattle.parity.proofs.Tests.{and-no-left, all-elim, all-intro, all-cong, any-cong, same}
 use Rattle.parity.proofs.Lists.{at-tabulate}
 use Rattle.gtb.specs.declared.Shape.{Shape}
 use Rattle.gtb.specs.Shape.{Lawful, wordLength}
 use Rattle.gtb.specs.Square.{lineOf, at, syndrome, Syndromes}
-use Rattle.gtb.proofs.Bounds.{bounds}
+use Rattle.gtb.proofs.Bounds.{bounds, positive}
 use Rattle.gtb.proofs.Lines.{line-lt}
 use Rattle.gtb.proofs.Rows.{syndrome-cong, syndrome-linear}
-use Rattle.decoder.specs.Decode.{onCheck, located, alone, firstValue, errorAt, restored, correctable}
-use Rattle.decoder.specs.Steps.{checkOf, judged, shares, aloneAmong, errorAmong, Listed, Within, Measured, Cancelled, Found}
-use Rattle.decoder.proofs.Decided.{same}
-use Rattle.decoder.proofs.Numbers.{positive}
-use Rattle.decoder.proofs.Private.{first-cong}
-
--- a test of n × q places, by rows
-all-rows : (n q : ℕ) (p : ℕ → Bool) → 0 < q → all (n * q) p ≡ all n (λ r. all q (λ c. p (r * q + c)))
-all-rows n q p pos =
-    same
-    (λ h. all-intro n (λ r. all q (λ c. p (r * q + c))) (λ r lr. all-intro q (λ c. p (r * q + c)) (λ c lc. all-elim (n * q) p h (r * q + c) (digits-lt lr lc))))
-    (λ h.
-    all-intro (n * q) p
-    (λ e le.
-    subst (λ (x : ℕ). p x ≡ true) (div-add-mod' e q)
-    (all-elim q (λ c. p (e / q * q + c)) (all-elim n (λ r. all q (λ c. p (r * q + c))) h (e / q) (div-lt-iff-lt-mul pos .1 le)) (e % q) (mod-lt e pos))))
+use Rattle.correction.proofs.Tables.{shown, silent-by}
+use Rattle.decoder.specs.Decode.{located, alone, errorAt, restored, correctable}
+use Rattle.correction.specs.Error.{onCheck, checkOf}
+use Rattle.decoder.specs.Steps.{judged, shares, aloneAmong, errorAmong, Listed, Measured, Found}
+use Rattle.correction.specs.Steps.{Within, Cancelled, Lists}
+use Rattle.parity.proofs.First.{first-cong}
 
 -- two conditions change places
 when-swap : (a b : Bool) (x : ℕ) → when a (when b x) ≡ when b (when a x)
@@ -50,12 +40,9 @@ and-assoc false b c = refl
 
 module _ (s : Shape) (h : Lawful s) (w syn : List ℕ) (y : Syndromes s w syn) where
   -- the table shows the syndromes, so by it the same positions are located
-  shown : (j t : ℕ) → j < wordLength s → t < s .n → at syn (checkOf s j t) ≡ onCheck s (at w) j t
-  shown j t lj lt = y .entry t (lineOf s t j) lt (line-lt s h t j lt lj)
-
   judged-located : (j : ℕ) → j < wordLength s → judged s syn j ≡ located s (at w) j
   unfolding judged located
-  judged-located j lj = all-cong (s .n) _ _ (λ t lt. ap (λ (x : ℕ). not (eqb x 0)) (shown j t lj lt))
+  judged-located j lj = all-cong (s .n) _ _ (λ t lt. ap (λ (x : ℕ). not (eqb x 0)) (shown s h w syn y j t lj lt))
 
   counts-located : count (wordLength s) (judged s syn) ≡ count (wordLength s) (located s (at w))
   counts-located = count-cong (wordLength s) (judged s syn) (located s (at w)) judged-located
@@ -75,52 +62,33 @@ module _ (s : Shape) (h : Lawful s) (w syn : List ℕ) (y : Syndromes s w syn) w
     -- the error at a place of the list
     error-among : (j : ℕ) → j < wordLength s → errorAmong s syn places k j ≡ firstValue (s .n) (alone s (at w) j) (onCheck s (at w) j)
     unfolding errorAmong
-    error-among j lj = first-cong (s .n) _ _ _ _ (λ t lt. alone-among j t) (λ t lt. shown j t lj lt)
+    error-among j lj = first-cong (s .n) _ _ _ _ (λ t lt. alone-among j t) (λ t lt. shown s h w syn y j t lj lt)
 
     module _ {errors : List ℕ} (m : Measured s syn places k k errors) where
-      -- the errors of the word that pass a test, XORed, are those of the list
-      error-sum : (g : ℕ → Bool) → xorSum (wordLength s) (λ j. when (g j) (errorAt s (at w) j)) ≡ xorSum k (λ x. when (g (at places x)) (at errors x))
+      -- the list holds the errors of the word
+      errors-listed : Lists s (errorAt s (at w)) k places errors
       unfolding errorAt
-      error-sum g =
-          cong (wordLength s) _ _
-          (λ j lj.
-          when-swap (g j) (located s (at w) j) (value j)
-          ∙ ap (λ (b : Bool). when b (when (g j) (value j))) (sym (judged-located j lj)))
-          ∙ l .sums (λ j. when (g j) (value j))
-          ∙ cong k _ _
-          (λ x lx. ap (when (g (at places x))) (sym (m .error x lx ∙ error-among (at places x) (l .below x lx))))
+      errors-listed = record {
+        sums = λ g.
+            cong (wordLength s) _ _
+            (λ j lj.
+            when-swap (g j) (located s (at w) j) (value j)
+            ∙ ap (λ (b : Bool). when b (when (g j) (value j))) (sym (judged-located j lj)))
+            ∙ l .sums (λ j. when (g j) (value j))
+            ∙ cong k _ _
+            (λ x lx. ap (when (g (at places x))) (sym (m .error x lx ∙ error-among (at places x) (l .below x lx))));
+      }
         where
           value : ℕ → ℕ
           value j = firstValue (s .n) (alone s (at w) j) (onCheck s (at w) j)
 
-      -- the error at a position: what the list has there
-      error-listed : (j : ℕ) → j < wordLength s → errorAt s (at w) j ≡ xorSum k (λ x. when (eqb (at places x) j) (at errors x))
-      unfolding when
-      error-listed j lj =
-          sym
-          (only (wordLength s) j (λ i. when (eqb i j) (errorAt s (at w) i)) lj
-          (λ i li ne. ap (λ (b : Bool). when b (errorAt s (at w) i)) (ne-eqb i j ne))
-          ∙ ap (λ (b : Bool). when b (errorAt s (at w) j)) (eq-eqb j j refl))
-          ∙ error-sum (λ i. eqb i j)
-
-      module _ {new : List ℕ} (c : Cancelled s k places errors syn new) where
-        -- the table after the corrections has the syndromes of the restored word
-        restored-syndrome : (t L : ℕ) → t < s .n → L < s .q → syndrome s (at (restored s w)) t L ≡ at new (t * s .q + L)
-        unfolding restored syndrome
-        restored-syndrome t L lt lL =
-            syndrome-cong s (at (restored s w)) (λ j. at w j ⊕ errorAt s (at w) j) t L (λ j lj. at-tabulate (wordLength s) _ j lj)
-            ∙ syndrome-linear s (at w) (errorAt s (at w)) t L
-            ∙ ap₂ (λ (x z : ℕ). x ⊕ z) (sym (y .entry t L lt lL)) (error-sum (λ j. eqb (lineOf s t j) L))
-            ∙ sym (c .entry t L lt lL)
-
-        -- test 4 by the table
-        correctable-by : k < s .n → correctable s w ≡ all (s .n * s .q) (λ e. eqb (at new e) 0)
-        unfolding correctable
-        correctable-by lk =
-            ap₂ (λ (a b : Bool). a && b)
-            (le-leb (count (wordLength s) (located s (at w))) (s .n - 1) (omega (arith, counts-located, l .counted)))
-            (all-cong (s .n) _ _ (λ t lt. all-cong (s .q) _ _ (λ L lL. ap (λ (x : ℕ). eqb x 0) (restored-syndrome t L lt lL))))
-            ∙ sym (all-rows (s .n) (s .q) (λ e. eqb (at new e) 0) (positive s h))
+      -- test 4 by the table after the corrections
+      correctable-by : {new : List ℕ} → Cancelled s k places errors syn new → k < s .n → correctable s w ≡ all (s .n * s .q) (λ e. eqb (at new e) 0)
+      unfolding correctable restored
+      correctable-by c lk =
+          ap₂ (λ (a b : Bool). a && b)
+          (le-leb (count (wordLength s) (located s (at w))) (s .n - 1) (omega (arith, counts-located, l .counted)))
+          (silent-by errors-listed y c h)
 
   -- n or more located positions
   uncorrectable : s .n ≤ count (wordLength s) (judged s syn) → correctable s w ≡ false
@@ -146,7 +114,7 @@ module _ {s : Shape} {syn places errors new : List ℕ} {k : ℕ} (h : Lawful s)
     few = λ l′ w y. record {
       accepted = correctable-by s h w syn y l m c lk ∙ e;
       changed = sym (counts-located s h w syn y) ∙ l .counted;
-      error = error-listed s h w syn y l m;
+      listed = errors-listed s h w syn y l m;
     };
     many = λ l′. absurd (omega arith);
   }

@@ -14,8 +14,10 @@ use Rattle.gtb.specs.declared.Shape.{Shape}
 use Rattle.gtb.specs.Shape.{Lawful, slopeOf}
 use Rattle.gtb.specs.Square.{lineOf, at}
 use Rattle.gtb.proofs.Lines.{line-at}
-use Rattle.decoder.specs.Steps.{checkOf, judged, Shifts}
-use Rattle.decoder.proofs.Numbers.{positive, own-check, loud, silent}
+use Rattle.decoder.specs.Steps.{judged, Shifts}
+use Rattle.correction.specs.Error.{checkOf}
+use Rattle.decoder.proofs.Numbers.{own-check, loud, silent}
+use Rattle.gtb.proofs.Bounds.{positive}
 
 -- ---- the list of the shifts
 pub shifts-none : (s : Shape) (row : ℕ) → Shifts s row 1 (replicate 8 0)

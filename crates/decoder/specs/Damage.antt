@@ -11,18 +11,11 @@ use Rattle.parity.specs.Lists.{tabulate}
 use Rattle.gtb.specs.declared.Shape.{Shape}
 use Rattle.gtb.specs.Shape.{wordLength}
 use Rattle.gtb.specs.Square.{lineOf, at, syndrome, Word, Codeword}
+use Rattle.correction.specs.Error.{weight, damaged}
 
 -- clean damage: every check with a nonzero error symbol on it has a nonzero syndrome of the error
 pub record Unmasked (s : Shape) (e : ℕ → ℕ) : Type 0 where
   pub unmasked : (t j : ℕ) → t < s .n → j < wordLength s → (e j ≡ 0 → ⊥) → syndrome s e t (lineOf s t j) ≡ 0 → ⊥
-
--- how many error symbols are nonzero
-unfoldable pub weight : Shape → (ℕ → ℕ) → ℕ
-weight s e = count (wordLength s) (λ j. not (eqb (e j) 0))
-
--- the error e XORed onto v
-unfoldable pub damaged : List ℕ → List ℕ → List ℕ
-damaged v e = tabulate (length v) (λ j. at v j ⊕ at e j)
 
 -- the stored word v and clean damage to k digits, at most m = n - 1, give the received word r
 pub record Explains (s : Shape) (r v : List ℕ) (k : ℕ) : Type 0 where

@@ -6,18 +6,18 @@ use Prim.Native.Nat.{ℕ, _+_, _*_, _%_, _<_, _≤_}
 use lib.Dec.{eqb}
 use lib.ListN.{length}
 use Rattle.parity.specs.Xor.{_⊕_, xorSum, when}
-use Rattle.parity.specs.Count.{count, any, all}
+use Rattle.parity.specs.Count.{count, any, all, firstValue}
 use Rattle.gtb.specs.declared.Shape.{Shape}
 use Rattle.gtb.specs.declared.Refusal.{Refusal}
 use Rattle.gtb.specs.Shape.{wordLength, slopeOf}
 use Rattle.gtb.specs.Square.{lineOf, at, Syndromes}
-use Rattle.decoder.specs.declared.Decoded.{Decoded}
-use Rattle.decoder.specs.declared.Decoded.the-variants.{Corrected}
-use Rattle.decoder.specs.Decode.{located, firstValue, errorAt, correctable, unless, wordAfter}
-
--- the number of the check of direction t on position j
-abbrev pub checkOf : Shape → ℕ → ℕ → ℕ
-checkOf s j t = t * s .q + lineOf s t j
+use Rattle.correction.specs.declared.Decoded.{Decoded}
+use Rattle.correction.specs.declared.Decoded.the-variants.{Corrected, Refused}
+use Rattle.gtb.specs.Answer.{unless}
+use Rattle.correction.specs.Error.{checkOf}
+use Rattle.correction.specs.Answer.{decodedWord}
+use Rattle.correction.specs.Steps.{Within, Lists}
+use Rattle.decoder.specs.Decode.{located, errorAt, restored, correctable}
 
 -- `located` by the table: all n checks on position j are nonzero
 unfoldable pub judged : Shape → List ℕ → ℕ → Bool
@@ -53,32 +53,16 @@ pub record Scanned (p : ℕ → Bool) (n m r : ℕ) (places : List ℕ) : Type 0
   pub few : r < n → Listed p m r places
   pub many : n ≤ r → n ≤ count m p
 
--- the first k of 8 places are positions of the word
-pub record Within (s : Shape) (k : ℕ) (places : List ℕ) : Type 0 where
-  pub few : k ≤ 8
-  pub below : (x : ℕ) → x < k → at places x < wordLength s
-
 -- the first m errors are those at the first m of k places
 pub record Measured (s : Shape) (syn places : List ℕ) (k m : ℕ) (errors : List ℕ) : Type 0 where
   pub size : length errors ≡ 8
   pub error : (x : ℕ) → x < m → at errors x ≡ errorAmong s syn places k (at places x)
 
--- new is old with value x XORed onto the entry at place x, for each x below k
-pub record Toggled (k : ℕ) (place value : ℕ → ℕ) (old new : List ℕ) : Type 0 where
-  pub size : length new ≡ length old
-  pub entry : (e : ℕ) → at new e ≡ at old e ⊕ xorSum k (λ x. when (eqb (place x) e) (value x))
-
--- the table with the first k errors XORed onto the checks on their places
-pub record Cancelled (s : Shape) (k : ℕ) (places errors old new : List ℕ) : Type 0 where
-  pub size : length new ≡ 248
-  pub entry : (t L : ℕ) → t < s .n → L < s .q
-      → at new (t * s .q + L) ≡ at old (t * s .q + L) ⊕ xorSum k (λ x. when (eqb (lineOf s t (at places x)) L) (at errors x))
-
 -- the k corrections of a word: the errors at the located positions, which silence every check
 pub record Corrections (s : Shape) (w : List ℕ) (k : ℕ) (places errors : List ℕ) : Type 0 where
   pub accepted : correctable s w ≡ true
   pub changed : count (wordLength s) (located s (at w)) ≡ k
-  pub error : (j : ℕ) → j < wordLength s → errorAt s (at w) j ≡ xorSum k (λ x. when (eqb (at places x) j) (at errors x))
+  pub listed : Lists s (errorAt s (at w)) k places errors
 
 -- what is found from the syndromes of a word: its corrections, or n if there are none
 pub record Found (s : Shape) (syn places errors : List ℕ) (r : ℕ) : Type 0 where
@@ -86,7 +70,7 @@ pub record Found (s : Shape) (syn places errors : List ℕ) (r : ℕ) : Type 0 w
   pub few : r < s .n → (w : List ℕ) → Syndromes s w syn → Corrections s w r places errors
   pub many : s .n ≤ r → (w : List ℕ) → Syndromes s w syn → correctable s w ≡ false
 
--- test 4, the answer and the word: `decodeOf` and `wordAfter` past the first three tests
+-- test 4, the answer and the word: `decodeOf` and `decodedWord` past the first three tests
 pub record Corrects (s : Shape) (w w′ : List ℕ) (r : Decoded) : Type 0 where
-  pub answer : r ≡ unless (correctable s w) Refusal.Uncorrectable (Corrected (count (wordLength s) (located s (at w))))
-  pub word : w′ ≡ wordAfter s w r
+  pub answer : r ≡ unless (correctable s w) (Refused Refusal.Uncorrectable) (Corrected (count (wordLength s) (located s (at w))))
+  pub word : w′ ≡ decodedWord w (restored s w) r

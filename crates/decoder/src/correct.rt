@@ -1,17 +1,16 @@
 // The work on a word of lawful shape, length and width. Nothing is written to it before the answer is known.
-use crate::Decoded;
-use crate::cancel::cancel;
-use crate::cancel::is_silent;
 use crate::error::measure;
 use crate::locate::locate;
+use correction::Decoded;
+use correction::apply;
+use correction::cancel::cancel;
+use correction::cancel::is_silent;
 use gtb::Refusal;
 use gtb::Shape;
 ghost use mathlib.Core.Path.{_≡_};
-ghost use Prim.Native.Nat.{ℕ, _<_, _≤_};
 ghost use lib.ListN.{length};
 ghost use Rattle.gtb.specs.Shape.{Lawful, wordLength};
-ghost use Rattle.gtb.specs.Square.{at};
-ghost use Rattle.decoder.specs.Steps.{Toggled, Found, Corrects};
+ghost use Rattle.decoder.specs.Steps.{Found, Corrects};
 
 // The corrections, places and errors: how many, or n if there are none that silence every check. They are tried on `syn`.
 fn find(shape: Shape, syn: &mut [u32; 248], places: &mut [usize; 8], errors: &mut [u32; 8]) -> usize
@@ -30,17 +29,6 @@ fn find(shape: Shape, syn: &mut [u32; 248], places: &mut [usize; 8], errors: &mu
         return count;
     }
     n
-}
-
-// The errors are XORed onto the word.
-fn apply(word: &mut [u32], places: &[usize; 8], errors: &[u32; 8], count: usize)
-    requires { ⌜ (count ≤ 8) × ((x : ℕ) → x < count → at (now places) x < length (now word)) ⌝ }
-    ensures { λ _. ⌜ Toggled count (at (now (places .entry))) (at (now (errors .entry))) (now (word .entry)) (now (word .exit)) ⌝ }
-{
-    for x in 0..count {
-        let j = places[x];
-        word[j] ^= errors[x];
-    }
 }
 
 // Test 4: the word is corrected, or left as it came.

@@ -1,11 +1,12 @@
 // The error at a located position: what the first check shows that no other located position is on.
-use crate::checks::check_number;
+use correction::checks::check_number;
 use gtb::Shape;
 ghost use mathlib.Core.Path.{_≡_};
 ghost use Prim.Native.Nat.{_<_};
 ghost use lib.ListN.{length};
 ghost use Rattle.gtb.specs.Shape.{Lawful, wordLength};
-ghost use Rattle.decoder.specs.Steps.{shares, aloneAmong, errorAmong, Within, Measured};
+ghost use Rattle.correction.specs.Steps.{Within};
+ghost use Rattle.decoder.specs.Steps.{shares, aloneAmong, errorAmong, Measured};
 
 // i is another position than j on the check of direction t on j.
 fn shares_check(shape: Shape, t: usize, j: usize, i: usize) -> bool

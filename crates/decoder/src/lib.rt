@@ -1,19 +1,12 @@
 // Reading a damaged word.
-mod cancel;
-mod checks;
 mod correct;
 mod error;
 mod locate;
 
+use correction::Decoded;
 use gtb::Refusal;
 use gtb::Shape;
 ghost use Rattle.decoder.specs.Decode.{Decoding};
-
-// The answer of reading: the number of symbols changed, or a refusal.
-pub enum Decoded {
-    Corrected(u32),
-    Refused(Refusal),
-}
 
 // Reading: tests 1, 2, 3, then the work.
 pub fn decode(shape: Shape, word: &mut [u32]) -> Decoded

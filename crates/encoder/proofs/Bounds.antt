@@ -7,7 +7,8 @@ use lib.ListN.{length}
 use Rattle.gtb.specs.declared.Shape.{Shape}
 use Rattle.gtb.specs.Shape.{Lawful, wordLength, infoLength}
 use Rattle.gtb.proofs.Bounds.{bounds}
-use Rattle.gtb.proofs.Slopes.{slope-lt, shiftOf}
+use Rattle.gtb.proofs.Slopes.{slope-lt}
+use Rattle.gtb.specs.Rows.{shiftOf}
 use Rattle.gtb.proofs.Turns.{row-in}
 use Rattle.gtb.proofs.Directions.{direction-room}
 

@@ -19,9 +19,9 @@ use Rattle.gtb.specs.Shape.{Lawful, wordLength, infoLength}
 use Rattle.gtb.specs.Square.{at, narrow, Syndromes}
 use Rattle.gtb.specs.Positions.{infoPosition, extractOf, Encodes}
 use Rattle.gtb.proofs.Bounds.{bounds}
-use Rattle.gtb.proofs.Slopes.{shiftOf}
+use Rattle.gtb.specs.Rows.{shiftOf, rowOf, lowerRow}
 use Rattle.gtb.proofs.Words.{beyond}
-use Rattle.gtb.proofs.Rounds.{rowOf, rows-silent, lowerRow}
+use Rattle.gtb.proofs.Rounds.{rows-silent}
 use Rattle.gtb.proofs.Information.{position, row-lt, info-row-lt, info-column-lt}
 use Rattle.encoder.specs.Steps.{Written, row, Placed, Sound, Interpolated}
 use Rattle.encoder.proofs.Divides.{sound-same}

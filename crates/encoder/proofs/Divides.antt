@@ -7,19 +7,20 @@ use native.Mathlib.Nat.{one-mul, add-comm, mod-mod, le-refl, le-of-lt, eq-or-lt-
 use native.Mathlib.Omega.{arith}
 use lib.ListN.{length}
 use Rattle.parity.specs.Xor.{_⊕_, xorSum}
-use Rattle.parity.specs.Cyclic.{Order}
+use Rattle.parity.specs.Cyclic.{Order, walk}
 use Rattle.parity.proofs.Xors.{lt-pow}
 use Rattle.parity.proofs.XorSums.{cong}
 use Rattle.parity.proofs.Cycles.{wrap, same, shift, both}
 use Rattle.parity.proofs.Modular.{no-step}
-use Rattle.parity.proofs.Walk.{walk, walk-period, quotient, divided}
+use Rattle.parity.proofs.Walk.{walk-period, quotient, divided}
 use Rattle.parity.proofs.Walk as parity
 use Rattle.gtb.specs.declared.Shape.{Shape}
 use Rattle.gtb.specs.Square.{at}
 use Rattle.gtb.proofs.Bounds.{bounds, positive}
 use Rattle.gtb.proofs.Sizes.{sizes}
 use Rattle.gtb.proofs.Turns.{row-in}
-use Rattle.gtb.proofs.Slopes.{shiftOf, shift-apart}
+use Rattle.gtb.proofs.Slopes.{shift-apart}
+use Rattle.gtb.specs.Rows.{shiftOf}
 use Rattle.encoder.specs.Steps.{Written, row, difference, Walked, Sound, Ready, Divisible, Quotient, RowDivided, Divided}
 use Rattle.encoder.proofs.Rows.{written-row, written-other}
 use Rattle.encoder.proofs.Bounds.{shift-bounds}

@@ -7,7 +7,7 @@ use native.Mathlib.Nat.{eq-or-lt-of-le, le-refl, mod-add-mod, suc-mul}
 use native.Mathlib.Omega.{arith}
 use Rattle.parity.specs.Xor.{_⊕_}
 use Rattle.gtb.specs.Square.{at}
-use Rattle.gtb.proofs.Rounds.{rowOf}
+use Rattle.gtb.specs.Rows.{rowOf}
 use Rattle.encoder.specs.Steps.{Written, row, Joined}
 use Rattle.encoder.proofs.Rows.{written-row, written-other}
 

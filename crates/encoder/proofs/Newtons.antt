@@ -11,7 +11,7 @@ use Rattle.parity.proofs.Xors.{lt-pow}
 use Rattle.parity.proofs.Cycles.{shift, both}
 use Rattle.parity.proofs.Interpolate.{newton-root, newton-step}
 use Rattle.gtb.specs.declared.Shape.{Shape}
-use Rattle.gtb.proofs.Slopes.{shiftOf}
+use Rattle.gtb.specs.Rows.{shiftOf}
 use Rattle.encoder.specs.Steps.{row, Sound, Ready, Divided, Joined, Interpolated}
 use Rattle.encoder.proofs.Divides.{sound-same}
 

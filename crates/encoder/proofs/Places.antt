@@ -10,7 +10,7 @@ use Rattle.parity.proofs.Lists.{at-zeros}
 use Rattle.gtb.specs.declared.Shape.{Shape}
 use Rattle.gtb.specs.Shape.{Lawful, wordLength}
 use Rattle.gtb.specs.Square.{at}
-use Rattle.gtb.proofs.Rounds.{rowOf, lowerRow}
+use Rattle.gtb.specs.Rows.{rowOf, lowerRow}
 use Rattle.encoder.specs.Steps.{Written, row, Placed}
 use Rattle.encoder.proofs.Rows.{written-row, written-other}
 

@@ -7,7 +7,7 @@ use native.Mathlib.Decide.{decLt}
 use native.Mathlib.Omega.{arith}
 use lib.Arith.{digits-lt}
 use Rattle.gtb.specs.Square.{at}
-use Rattle.gtb.proofs.Rounds.{rowOf}
+use Rattle.gtb.specs.Rows.{rowOf}
 use Rattle.encoder.specs.Steps.{Written, row}
 
 module _ (q : ℕ) (pos : 0 < q) (t : ℕ) (f : ℕ → ℕ) (w w′ : List ℕ) (h : Written (t * q) q f w w′) where

@@ -17,8 +17,8 @@ use Rattle.gtb.specs.Shape.{Lawful, wordLength}
 use Rattle.gtb.specs.Square.{at, narrow, Syndromes}
 use Rattle.gtb.proofs.Bounds.{bounds, positive}
 use Rattle.gtb.proofs.Words.{narrow-at}
-use Rattle.gtb.proofs.Slopes.{shiftOf}
-use Rattle.gtb.proofs.Rounds.{rowOf, syndrome-eval, lowerRow, lower-cyclic, lower-width}
+use Rattle.gtb.specs.Rows.{shiftOf, rowOf, lowerRow}
+use Rattle.gtb.proofs.Rounds.{syndrome-eval, lower-cyclic, lower-width}
 use Rattle.encoder.specs.Steps.{Written, row, Placed, Sound, Ready}
 use Rattle.encoder.proofs.Divides.{sound-same}
 

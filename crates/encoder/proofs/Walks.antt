@@ -9,13 +9,13 @@ use native.Mathlib.Omega.{arith}
 use lib.ListN.{length, set, replicate, length-set}
 use lib.Seq.{getD-set-same, getD-set-other}
 use Rattle.parity.specs.Xor.{_⊕_}
-use Rattle.parity.specs.Cyclic.{Cyclic}
+use Rattle.parity.specs.Cyclic.{Cyclic, walk}
 use Rattle.parity.proofs.Xors.{assoc}
 use Rattle.parity.proofs.Cycles.{wrap, same}
-use Rattle.parity.proofs.Walk.{walk, walk-start, walk-period, forth, walk-step}
+use Rattle.parity.proofs.Walk.{walk-start, walk-period, forth, walk-step}
 use Rattle.gtb.specs.Square.{at}
 use Rattle.gtb.proofs.Turns.{turn-more}
-use Rattle.gtb.proofs.Rounds.{rowOf}
+use Rattle.gtb.specs.Rows.{rowOf}
 use Rattle.encoder.specs.Steps.{Walked, difference}
 
 -- i steps are done

@@ -10,7 +10,7 @@ use lib.Seq.{getD-set-same, getD-set-other, length-take-le, getD-take, getD-drop
 use borrow.Rule.Slice.PartMut.{midOf, putMid, same-len-mid}
 use Rattle.parity.specs.Xor.{xorSum}
 use Rattle.gtb.specs.Square.{at}
-use Rattle.gtb.proofs.Rounds.{lowerRow}
+use Rattle.gtb.specs.Rows.{lowerRow}
 use Rattle.encoder.specs.Steps.{Written}
 
 pub written-none : (a : ℕ) (f : ℕ → ℕ) (w : List ℕ) → Written a 0 f w w

@@ -4,8 +4,7 @@ use mathlib.Core.List.{List}
 use Prim.Native.Nat.{ℕ, suc, _+_, _-_, _*_, _%_, _^_, _≤_, _<_}
 use lib.ListN.{length, replicate}
 use Rattle.parity.specs.Xor.{_⊕_}
-use Rattle.parity.specs.Cyclic.{Cyclic, eval}
-use Rattle.parity.proofs.Walk.{walk}
+use Rattle.parity.specs.Cyclic.{Cyclic, eval, walk}
 use Rattle.gtb.specs.declared.Shape.{Shape}
 use Rattle.gtb.specs.declared.Refusal.{Refusal}
 use Rattle.gtb.specs.declared.Status.{Status}
@@ -13,8 +12,7 @@ use Rattle.gtb.specs.declared.Status.the-variants.{Done, Refused}
 use Rattle.gtb.specs.Shape.{Lawful, wordLength}
 use Rattle.gtb.specs.Square.{at}
 use Rattle.gtb.specs.Answer.{scratchAfter}
-use Rattle.gtb.proofs.Slopes.{shiftOf}
-use Rattle.gtb.proofs.Rounds.{rowOf, lowerRow}
+use Rattle.gtb.specs.Rows.{shiftOf, rowOf, lowerRow}
 use Rattle.encoder.specs.Contract.{statusOf}
 
 -- the tests of both entries, on the symbols that come in: what they answer and leave in the scratch

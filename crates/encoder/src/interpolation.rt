@@ -8,7 +8,7 @@ ghost use Rattle.parity.specs.Xor.{_⊕_};
 ghost use Rattle.parity.specs.Cyclic.{Cyclic};
 ghost use Rattle.gtb.specs.Shape.{Lawful, wordLength};
 ghost use Rattle.gtb.specs.Square.{at};
-ghost use Rattle.gtb.proofs.Slopes.{shiftOf};
+ghost use Rattle.gtb.specs.Rows.{shiftOf};
 ghost use Rattle.encoder.specs.Steps.{Written, difference, Walked, Ready, Divisible, RowDivided, Divided, Joined, Interpolated};
 
 // How far direction t + 1 moves a line from one row to the next.

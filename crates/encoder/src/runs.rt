@@ -2,7 +2,7 @@
 ghost use Prim.Native.Nat.{_+_, _≤_};
 ghost use lib.ListN.{length};
 ghost use Rattle.gtb.specs.Square.{at};
-ghost use Rattle.gtb.proofs.Rounds.{lowerRow};
+ghost use Rattle.gtb.specs.Rows.{lowerRow};
 ghost use Rattle.encoder.specs.Steps.{Written};
 
 // Copies `count` symbols of `from`, from place `start` on, to place `a` of `to`.

@@ -1,17 +1,15 @@
 -- What a lawful shape's numbers are.
-use mathlib.Core.Path.{_≡_, refl}
+use mathlib.Core.Path.{_≡_}
 use mathlib.Core.Bool.{Bool, true, _&&_}
 use Prim.Native.Nat.{ℕ, _≤_, _<_}
 use native.Mathlib.Omega.{arith}
 use lib.Dec.{leb}
 use borrow.Author.Tests.{leb-true}
-use Rattle.parity.specs.Count.{all}
 use Rattle.parity.specs.Cyclic.{Order}
-use Rattle.parity.proofs.Orders.{orderTest, order-of}
 use Rattle.parity.proofs.Tests.{and-left, and-right}
 use Rattle.gtb.specs.declared.Shape.{Shape}
-use Rattle.gtb.specs.Shape.{orders, isOrder, lawful, Lawful}
-use Rattle.gtb.proofs.Orders.{each-order, order-range}
+use Rattle.gtb.specs.Shape.{lawful, Lawful}
+use Rattle.gtb.proofs.Orders.{order-rule}
 
 -- order, directions and width of a lawful shape
 pub record Bounds (s : Shape) : Type 0 where
@@ -28,16 +26,6 @@ pub record Bounds (s : Shape) : Type 0 where
 and-parts : (a b : Bool) → (a && b) ≡ true → (a ≡ true) × (b ≡ true)
 and-parts a b h = (and-left a b h, and-right a b h)
 
--- each entry of the table passes parity's test of an order
-order-rule : (q : ℕ) → isOrder q ≡ true → Order q
-unfolding orders all orderTest
-order-rule q o = order-of q (each-order orderTest refl q o)
-
--- and is at least 3
-order-low : (q : ℕ) → isOrder q ≡ true → 3 ≤ q
-unfolding orders all
-order-low q o = leb-true 3 q (each-order (leb 3) refl q o)
-
 pub bounds : (s : Shape) → Lawful s → Bounds s
 unfolding lawful
 bounds s h =
@@ -47,9 +35,9 @@ bounds s h =
     let (upto-n2, nq) = and-parts _ _ upto-nq in
     let (o, n2) = and-parts _ _ upto-n2 in
     record {
-      order = order-rule (s .q) o;
-      q3 = order-low (s .q) o;
-      q31 = order-range (s .q) o;
+      order = order-rule (s .q) o .order;
+      q3 = order-rule (s .q) o .low;
+      q31 = order-rule (s .q) o .high;
       n2 = leb-true 2 (s .n) n2;
       nq = leb-true (s .n) (s .q) nq;
       n8 = leb-true (s .n) 8 n8;

@@ -16,7 +16,7 @@ use Rattle.gtb.specs.Shape.{Lawful, slopeOf}
 use Rattle.gtb.specs.Square.{at, syndrome, Syndromes}
 use Rattle.gtb.specs.Sweep.{Added}
 use Rattle.gtb.proofs.Bounds.{bounds}
-use Rattle.gtb.proofs.Slopes.{shiftOf}
+use Rattle.gtb.specs.Rows.{shiftOf}
 use Rattle.gtb.proofs.Rows.{syndrome-row, syndrome-rows}
 
 -- the entries of the first t directions are the syndromes, the others still 0

@@ -14,12 +14,8 @@ use Rattle.parity.proofs.Tests.{and-left, and-right, and-both}
 use Rattle.parity.proofs.Sums.{sum-cong, sum-none, sum-split, sum-rows, sum-const, count-sum, count-not}
 use Rattle.gtb.specs.declared.Shape.{Shape}
 use Rattle.gtb.specs.Shape.{Lawful, wordLength, infoLength}
-use Rattle.gtb.specs.Positions.{infoPosition}
+use Rattle.gtb.specs.Positions.{infoPosition, isInformation}
 use Rattle.gtb.proofs.Bounds.{bounds, positive}
-
--- row n - 1 or below it, and not column 0
-unfoldable pub isInformation : Shape → ℕ → Bool
-isInformation s j = leb (s .n - 1) (j / s .q) && leb 1 (j % s .q)
 
 -- which information symbol stands there
 unfoldable pub infoIndex : Shape → ℕ → ℕ

@@ -14,7 +14,8 @@ use Rattle.gtb.specs.declared.Shape.{Shape}
 use Rattle.gtb.specs.Shape.{Lawful, wordLength, slopeOf}
 use Rattle.gtb.specs.Square.{lineOf}
 use Rattle.gtb.proofs.Bounds.{bounds, positive}
-use Rattle.gtb.proofs.Slopes.{slope-lt, slope-apart, shiftOf}
+use Rattle.gtb.proofs.Slopes.{slope-lt, slope-apart}
+use Rattle.gtb.specs.Rows.{shiftOf}
 
 -- the two cases of a line's number
 pub line-zero : (s : Shape) (j : ℕ) → lineOf s 0 j ≡ j / s .q

@@ -17,10 +17,10 @@ use Rattle.parity.proofs.Sums.{bit-le, bit-true, bit-false}
 use Rattle.gtb.specs.declared.Shape.{Shape}
 use Rattle.gtb.specs.Shape.{Lawful, wordLength, infoLength}
 use Rattle.gtb.specs.Square.{lineOf, syndrome, Silent}
-use Rattle.gtb.specs.Positions.{column, Dependent, infoPosition}
+use Rattle.gtb.specs.Positions.{column, Dependent, infoPosition, isInformation, InformationPositions}
 use Rattle.gtb.proofs.Bounds.{positive}
 use Rattle.gtb.proofs.Rows.{syndrome-cong}
-use Rattle.gtb.proofs.Information.{isInformation, position, row-lt, column-lt, information-row, by-cell, info-lt, info-is, info-rising, info-complete, information-count, parity-count}
+use Rattle.gtb.proofs.Information.{position, row-lt, column-lt, information-row, by-cell, info-lt, info-is, info-rising, info-complete, information-count, parity-count}
 use Rattle.gtb.proofs.Silence.{row-zero, silent-zero, silent-exists}
 
 -- a sum whose last nonzero term is that of j
@@ -156,16 +156,6 @@ dependent-information s h j l d =
     }
 
 -- ---- all together
--- the information symbols stand, in rising order, on exactly the Dependent positions, K of them; the others are n × q - (n - 1)
-pub record InformationPositions (s : Shape) : Type 0 where
-  pub lower : (k : ℕ) → k < infoLength s → infoPosition s k < wordLength s
-  pub rising : (k l : ℕ) → k < l → l < infoLength s → infoPosition s k < infoPosition s l
-  pub dependent : (k : ℕ) → k < infoLength s → Dependent s (infoPosition s k)
-  pub complete : (j : ℕ) → j < wordLength s → Dependent s j → (k : ℕ) × (k < infoLength s) × (infoPosition s k ≡ j)
-  pub exact : (j : ℕ) → j < wordLength s → (isInformation s j ≡ true) ↔ Dependent s j
-  pub information : count (wordLength s) (isInformation s) ≡ infoLength s
-  pub parity : count (wordLength s) (λ j. not (isInformation s j)) ≡ s .n * s .q - (s .n - 1)
-
 pub information-positions : (s : Shape) → Lawful s → InformationPositions s
 information-positions s h = record {
   lower = info-lt s h;

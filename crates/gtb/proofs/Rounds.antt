@@ -11,12 +11,8 @@ use Rattle.gtb.specs.declared.Shape.{Shape}
 use Rattle.gtb.specs.Shape.{Lawful}
 use Rattle.gtb.specs.Square.{syndrome, Silent}
 use Rattle.gtb.proofs.Bounds.{positive}
-use Rattle.gtb.proofs.Slopes.{shiftOf}
+use Rattle.gtb.specs.Rows.{shiftOf, rowOf, lowerRow}
 use Rattle.gtb.proofs.Rows.{syndrome-row, syndrome-rows}
-
--- row r of the square f, going round
-unfoldable pub rowOf : ℕ → (ℕ → ℕ) → ℕ → ℕ → ℕ
-rowOf q f r c = f (r * q + c % q)
 
 pub row-period : (q : ℕ) (f : ℕ → ℕ) (r c : ℕ) → rowOf q f r (c + q) ≡ rowOf q f r c
 unfolding rowOf
@@ -43,11 +39,7 @@ module _ (s : Shape) (h : Lawful s) (f : ℕ → ℕ) where
       quiet zero L lt l = syndrome-row s h f L l ∙ sym (row-total (s .q) f L) ∙ total L l
       quiet (suc t) L lt l = ap (syndrome s f (suc t)) (sym (mod-eq-of-lt l)) ∙ syndrome-eval t lt L ∙ roots t lt L
 
--- ---- a row below the first n - 1: n symbols, and their XOR before them
-unfoldable pub lowerRow : ℕ → (ℕ → ℕ) → ℕ → ℕ
-lowerRow n g zero = xorSum n g
-lowerRow n g (suc i) = g i
-
+-- ---- a row below the first n - 1
 pub lower-cyclic : (q : ℕ) (g : ℕ → ℕ) → 1 ≤ q → Cyclic q (λ c. lowerRow (q - 1) g (c % q))
 unfolding lowerRow
 lower-cyclic q g pos = record {

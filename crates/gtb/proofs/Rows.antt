@@ -9,7 +9,7 @@ use Rattle.parity.proofs.Only.{only-sum}
 use Rattle.gtb.specs.declared.Shape.{Shape}
 use Rattle.gtb.specs.Shape.{Lawful, wordLength}
 use Rattle.gtb.specs.Square.{lineOf, syndrome}
-use Rattle.gtb.proofs.Slopes.{shiftOf}
+use Rattle.gtb.specs.Rows.{shiftOf}
 use Rattle.gtb.proofs.Lines.{column-only, row-only}
 
 -- equal symbols, equal syndromes

@@ -20,9 +20,10 @@ use Rattle.gtb.specs.declared.Shape.{Shape}
 use Rattle.gtb.specs.Shape.{Lawful, wordLength}
 use Rattle.gtb.specs.Square.{Silent}
 use Rattle.gtb.proofs.Bounds.{bounds}
-use Rattle.gtb.proofs.Slopes.{shiftOf, shift-apart}
+use Rattle.gtb.proofs.Slopes.{shift-apart}
+use Rattle.gtb.specs.Rows.{shiftOf, rowOf, lowerRow}
 use Rattle.gtb.proofs.Rows.{syndrome-row}
-use Rattle.gtb.proofs.Rounds.{rowOf, row-period, row-total, syndrome-eval, rows-silent, lowerRow, lower-cyclic, lower-width}
+use Rattle.gtb.proofs.Rounds.{row-period, row-total, syndrome-eval, rows-silent, lower-cyclic, lower-width}
 use Rattle.gtb.proofs.Information.{position, row-lt, column-lt}
 
 -- ---- the rows from row m on

@@ -6,6 +6,7 @@ use Rattle.parity.specs.Cyclic.{Apart}
 use Rattle.parity.proofs.Modular.{opposite}
 use Rattle.gtb.specs.declared.Shape.{Shape}
 use Rattle.gtb.specs.Shape.{Lawful, slopeOf}
+use Rattle.gtb.specs.Rows.{shiftOf}
 use Rattle.gtb.proofs.Bounds.{bounds}
 
 -- each is below q
@@ -17,10 +18,6 @@ slope-lt s h t one l = omega (arith, bounds s h .nq)
 pub slope-apart : (s : Shape) → Lawful s → (t u : ℕ) → 1 ≤ t → t < s .n → 1 ≤ u → u < s .n → (t ≡ u → ⊥) → slopeOf s t ≡ slopeOf s u → ⊥
 unfolding slopeOf
 slope-apart s h t u one l one′ l′ ne e = ne (omega arith)
-
--- a line of direction t + 1 moves this many columns on with each row (t from 0): the slope's opposite modulo q
-unfoldable pub shiftOf : Shape → ℕ → ℕ
-shiftOf s t = s .q - slopeOf s (suc t)
 
 -- the shifts are different modulo q
 pub shift-apart : (s : Shape) → Lawful s → Apart (s .q) (s .n - 1) (shiftOf s)

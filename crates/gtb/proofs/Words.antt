@@ -15,7 +15,7 @@ use Rattle.parity.proofs.Tests.{all-elim, all-intro}
 use Rattle.parity.proofs.Lists.{length-tabulate, at-tabulate}
 use Rattle.gtb.specs.declared.Shape.{Shape}
 use Rattle.gtb.specs.Shape.{wordLength}
-use Rattle.gtb.specs.Square.{at, narrow, syndrome, Word, Silent}
+use Rattle.gtb.specs.Square.{at, narrow, syndrome, Word, Silent, silentTest}
 
 -- past its end a list shows 0, which is below 2^b
 pub beyond : (b : ℕ) (w : List ℕ) → ((j : ℕ) → j < length w → at w j < 2 ^ b) → (j : ℕ) → at w j < 2 ^ b
@@ -44,10 +44,6 @@ tabulate-word s f h = record {
       beyond (s .b) (tabulate (wordLength s) f)
       (λ j l. let lj : j < wordLength s = rw length-tabulate at l in rw (at-tabulate (wordLength s) f j lj) (h j lj));
 }
-
--- every check value is zero, as a test
-unfoldable pub silentTest : Shape → (ℕ → ℕ) → Bool
-silentTest s f = all (s .n) (λ t. all (s .q) (λ L. eqb (syndrome s f t L) 0))
 
 pub test-silent : (s : Shape) (f : ℕ → ℕ) → silentTest s f ≡ true → Silent s f
 unfolding silentTest

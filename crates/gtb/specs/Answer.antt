@@ -1,6 +1,7 @@
 -- The numbers of the refusals and of the answers that carry no value (document 01, "What is turned down").
-use mathlib.Core.Bool.{Bool, true, false}
+use mathlib.Core.Bool.{Bool, true, false, cond}
 use mathlib.Core.List.{List}
+use mathlib.Core.Path.{_≡_}
 use Prim.Native.Nat.{ℕ, _+_, _^_}
 use lib.ListN.{length, replicate}
 use Rattle.gtb.specs.declared.Refusal.{Refusal}
@@ -24,20 +25,29 @@ abbrev pub statusNumber : Status → ℕ
 statusNumber Done = 0
 statusNumber (Refused e) = 2 ^ 31 + refusalNumber e
 
--- the test decides: go on, or refuse
-abbrev pub unless : Bool → Refusal → Status → Status
-unless true e next = next
-unless false e next = Refused e
+-- an answer by equation, and as the rules' number or values
+pub record Answered {A B : Type 0} (form : A → B) (expected r : A) : Type 0 where
+  pub answer : r ≡ expected
+  pub number : form r ≡ form expected
 
--- the scratch after a refusal: as lent after 1 and 2, zeros after every other
+-- the test decides: go on, or give this answer
+abbrev pub unless : {A : Type 0} → Bool → A → A → A
+unless true refusal next = next
+unless false refusal next = refusal
+
+-- refusals that are tested before the scratch is touched
+abbrev pub isEarly : Refusal → Bool
+isEarly Refusal.Shape = true
+isEarly Refusal.Length = true
+isEarly Refusal.Width = false
+isEarly Refusal.Uncorrectable = false
+isEarly Refusal.Page = false
+isEarly Refusal.Count = false
+isEarly Refusal.Function = false
+isEarly Refusal.Tail = false
+isEarly Refusal.Overflow = false
+isEarly Refusal.Syntax = false
+
+-- the scratch after a refusal: as lent after an early one, zeros after every other
 unfoldable pub scratchAfter : Refusal → List ℕ → List ℕ
-scratchAfter Refusal.Shape x = x
-scratchAfter Refusal.Length x = x
-scratchAfter Refusal.Width x = replicate (length x) 0
-scratchAfter Refusal.Uncorrectable x = replicate (length x) 0
-scratchAfter Refusal.Page x = replicate (length x) 0
-scratchAfter Refusal.Count x = replicate (length x) 0
-scratchAfter Refusal.Function x = replicate (length x) 0
-scratchAfter Refusal.Tail x = replicate (length x) 0
-scratchAfter Refusal.Overflow x = replicate (length x) 0
-scratchAfter Refusal.Syntax x = replicate (length x) 0
+scratchAfter e scratch = cond (isEarly e) scratch (replicate (length scratch) 0)

@@ -3,3 +3,4 @@ pub mod Square
 pub mod Positions
 pub mod Answer
 pub mod Sweep
+pub mod Rows

@@ -8,6 +8,10 @@ use lib.ListN.{getD}
 use Rattle.parity.specs.Count.{any, all}
 use Rattle.gtb.specs.declared.Shape.{Shape}
 
+-- the shape of three numbers
+abbrev pub shapeOf : ℕ → ℕ → ℕ → Shape
+shapeOf q n b = record { q = q; n = n; b = b }
+
 -- the ten orders
 unfoldable pub orders : List ℕ
 orders = 3 ∷ 5 ∷ 7 ∷ 11 ∷ 13 ∷ 17 ∷ 19 ∷ 23 ∷ 29 ∷ 31 ∷ []

@@ -36,6 +36,10 @@ pub record Word (s : Shape) (w : List ℕ) : Type 0 where
 pub record Silent (s : Shape) (f : ℕ → ℕ) : Type 0 where
   pub silent : (t L : ℕ) → t < s .n → L < s .q → syndrome s f t L ≡ 0
 
+-- every check value is zero, as a test
+unfoldable pub silentTest : Shape → (ℕ → ℕ) → Bool
+silentTest s f = all (s .n) (λ t. all (s .q) (λ L. eqb (syndrome s f t L) 0))
+
 -- a stored word
 pub record Codeword (s : Shape) (w : List ℕ) : Type 0 where
   pub word : Word s w

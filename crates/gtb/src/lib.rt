@@ -1,4 +1,5 @@
 // The code of the trace square: its shape, the answers that every entry gives, and the syndromes of a word.
+pub mod number;
 pub mod size;
 pub mod syndrome;
 
@@ -17,18 +18,18 @@ pub struct Shape {
     pub b: u32,
 }
 
-// What is turned down; specs/Answer.antt has the number of each.
+// What is turned down, with the trade word of each; specs/Answer.antt has the numbers.
 pub enum Refusal {
-    Shape,
-    Length,
-    Width,
-    Uncorrectable,
-    Page,
-    Count,
-    Function,
-    Tail,
-    Overflow,
-    Syntax,
+    Shape, // shape
+    Length, // length
+    Width, // width
+    Uncorrectable, // damage
+    Page, // page
+    Count, // count
+    Function, // function
+    Tail, // tail
+    Overflow, // worn
+    Syntax, // text
 }
 
 // The answer of an entry that carries no value.

@@ -26,31 +26,31 @@ use Rattle.session.specs.Arrival.{clean, outcomeValues}
 use Rattle.session.specs.Arrival as arrival
 use Rattle.session.proofs.Outcome.{the-type}
 use Rattle.harness.specs.Crossing.{sessionOf, valuesOf}
-use Rattle.harness.specs.Entries.{beginningOf, Beginning, countedIn, sessionIn, Arriving}
+use Rattle.harness.specs.Entries.{beginningOf, FreshCrossing, countedIn, sessionIn, ArriveCrossing}
 
 -- ---- a fresh session
-refuses : (t : Bool) (e′ e : Refusal) (next : Status) → unless t e′ Done ≡ status.Refused e → unless t e′ next ≡ status.Refused e
+refuses : (t : Bool) (e′ e : Refusal) (next : Status) → unless t (status.Refused e′) Done ≡ status.Refused e → unless t (status.Refused e′) next ≡ status.Refused e
 refuses true e′ e next h = let z : _≡_ {A = ℕ} 0 1 = cc in absurd (omega arith)
 refuses false e′ e next h = h
 
-passes : (t : Bool) (e : Refusal) (next : Status) → unless t e Done ≡ Done → unless t e next ≡ next
+passes : (t : Bool) (e : Refusal) (next : Status) → unless t (status.Refused e) Done ≡ Done → unless t (status.Refused e) next ≡ next
 passes true e next h = refl
 passes false e next h = let z : _≡_ {A = ℕ} 0 1 = cc in absurd (omega arith)
 
 module _ (s : Shape) (session : List ℕ) where
   -- a refusal leaves the slice
-  fresh-refused : {e : Refusal} {r : ℕ} → beginningOf s session ≡ status.Refused e → r ≡ 2 ^ 31 + refusalNumber e → Beginning s session session r
+  fresh-refused : {e : Refusal} {r : ℕ} → beginningOf s session ≡ status.Refused e → r ≡ 2 ^ 31 + refusalNumber e → FreshCrossing s session session r
   fresh-refused h is = record { answer = rw h is; left = rw h }
 
-  pub fresh-shape : {e : Refusal} {r : ℕ} → freshStatus s ≡ status.Refused e → r ≡ 2 ^ 31 + refusalNumber e → Beginning s session session r
+  pub fresh-shape : {e : Refusal} {r : ℕ} → freshStatus s ≡ status.Refused e → r ≡ 2 ^ 31 + refusalNumber e → FreshCrossing s session session r
   unfolding beginningOf freshStatus
   fresh-shape h = fresh-refused (refuses (lawful s) _ _ _ h)
 
-  pub fresh-length : {r : ℕ} → freshStatus s ≡ Done → (length session ≡ 1283 → ⊥) → r ≡ 2 ^ 31 + refusalNumber Refusal.Length → Beginning s session session r
+  pub fresh-length : {r : ℕ} → freshStatus s ≡ Done → (length session ≡ 1283 → ⊥) → r ≡ 2 ^ 31 + refusalNumber Refusal.Length → FreshCrossing s session session r
   unfolding beginningOf freshStatus
   fresh-length h l = fresh-refused {e = Refusal.Length} (passes (lawful s) _ _ h ∙ rw (ne-eqb _ _ l))
 
-  pub fresh-done : {σ : Session} {session′ : List ℕ} → freshStatus s ≡ Done → length session ≡ 1283 → σ ≡ freshOf s → session′ ≡ valuesOf σ → Beginning s session session′ 0
+  pub fresh-done : {σ : Session} {session′ : List ℕ} → freshStatus s ≡ Done → length session ≡ 1283 → σ ≡ freshOf s → session′ ≡ valuesOf σ → FreshCrossing s session session′ 0
   unfolding beginningOf freshStatus
   fresh-done h l f v =
       let done : beginningOf s session ≡ Done = passes (lawful s) _ _ h ∙ rw (eq-eqb _ _ l) in
@@ -79,7 +79,7 @@ as-it-was session σ (Refused e) h = refl
 
 module _ (session word scratch outcome : List ℕ) where
   pub arrive-wrong : {r : ℕ} → ((length session ≡ 1283) × (length outcome ≡ 3) → ⊥) → r ≡ 2 ^ 31 + refusalNumber Refusal.Length
-      → Arriving session word scratch outcome session word scratch outcome r
+      → ArriveCrossing session word scratch outcome session word scratch outcome r
   arrive-wrong h is = record {
     right = λ l m. absurd (h (l, m));
     wrong = λ _. record { sessionLeft = refl; wordLeft = refl; scratchLeft = refl; outcomeLeft = refl; answer = is };
@@ -88,8 +88,14 @@ module _ (session word scratch outcome : List ℕ) where
   pub arrive-right : {σ : Session} {session′ word′ scratch′ outcome′ : List ℕ} (a : Arrived) → length session ≡ 1283 → length outcome ≡ 3
       → σ ≡ sessionOf session → arrival.Arriving clean σ word scratch word′ scratch′ a
       → session′ ≡ sessionIn session (a .session) (a .outcome) → outcome′ ≡ outcomeValues (a .outcome)
-      → Arriving session word scratch outcome session′ word′ scratch′ outcome′ 0
+      → ArriveCrossing session word scratch outcome session′ word′ scratch′ outcome′ 0
   arrive-right a l m is holds s o = record {
     right = λ _ _. record { arrived = a; holds = rw (← is) holds; outcomeLeft = o; sessionLeft = s; answer = refl };
     wrong = λ h. absurd (h (l, m));
   }
+
+-- an outcome has three values
+pub outcome-size : (r : Outcome) → length (outcomeValues r) ≡ 3
+outcome-size (Taken p k) = refl
+outcome-size (Again p k) = refl
+outcome-size (Refused e) = refl

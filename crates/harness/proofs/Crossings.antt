@@ -13,7 +13,7 @@ use Rattle.parity.specs.Count.{bit}
 use Rattle.page.proofs.Parts.{rest-part, put-rest}
 use Rattle.session.specs.declared.Session.{Session}
 use Rattle.session.proofs.Arrive.{whole-copy}
-use Rattle.host.specs.Exported.{shapeOf}
+use Rattle.gtb.specs.Shape.{shapeOf}
 use Rattle.harness.specs.Crossing.{isYes, sessionOf, valuesOf}
 
 -- yes as a number, as the cast gives it

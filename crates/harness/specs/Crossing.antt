@@ -6,7 +6,7 @@ use lib.Dec.{eqb}
 use lib.ListN.{getD, take, drop}
 use Rattle.parity.specs.Count.{bit}
 use Rattle.session.specs.declared.Session.{Session}
-use Rattle.host.specs.Exported.{shapeOf}
+use Rattle.gtb.specs.Shape.{shapeOf}
 
 -- a page mark is no where its value is 0
 abbrev pub isYes : ℕ → Bool

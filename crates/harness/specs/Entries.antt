@@ -10,16 +10,15 @@ use Rattle.gtb.specs.declared.Status.{Status}
 use Rattle.gtb.specs.declared.Status.the-variants.{Done}
 use Rattle.gtb.specs.declared.Status.the-variants as status
 use Rattle.gtb.specs.Shape.{lawful}
-use Rattle.gtb.specs.Answer.{statusNumber}
-use Rattle.gtb.specs.Answer as answer
+use Rattle.gtb.specs.Answer.{statusNumber, unless}
 use Rattle.session.specs.declared.Session.{Session}
 use Rattle.session.specs.declared.Counted.{Counted}
+use Rattle.session.specs.declared.Counted.the-variants as counted
 use Rattle.session.specs.declared.Outcome.{Outcome}
 use Rattle.session.specs.declared.Outcome.the-variants.{Taken, Again, Refused}
 use Rattle.session.specs.declared.Arrived.{Arrived}
-use Rattle.session.specs.Session.{freshOf, countedOf, unless}
-use Rattle.session.specs.Arrival.{clean, outcomeValues}
-use Rattle.session.specs.Arrival as arrival
+use Rattle.session.specs.Session.{freshOf, countedOf}
+use Rattle.session.specs.Arrival.{clean, outcomeValues, Arriving}
 use Rattle.harness.specs.Crossing.{sessionOf, valuesOf}
 
 -- an answer with what its entry promises crosses as its number
@@ -30,20 +29,20 @@ pub record Crosses {A : Type 0} (number : A → ℕ) (Promise : A → Type 0) (r
 
 -- a fresh session tests 1, then the length of the slice
 unfoldable pub beginningOf : Shape → List ℕ → Status
-beginningOf s session = answer.unless (lawful s) Refusal.Shape (answer.unless (eqb (length session) 1283) Refusal.Length Done)
+beginningOf s session = unless (lawful s) (status.Refused Refusal.Shape) (unless (eqb (length session) 1283) (status.Refused Refusal.Length) Done)
 
 -- a refusal leaves the slice as it was
 abbrev pub freshIn : Shape → List ℕ → Status → List ℕ
 freshIn s session Done = valuesOf (freshOf s)
 freshIn s session (status.Refused e) = session
 
-pub record Beginning (s : Shape) (session session′ : List ℕ) (r : ℕ) : Type 0 where
+pub record FreshCrossing (s : Shape) (session session′ : List ℕ) (r : ℕ) : Type 0 where
   pub answer : r ≡ statusNumber (beginningOf s session)
   pub left : session′ ≡ freshIn s session (beginningOf s session)
 
 -- a count query tests the length of the slice first
 unfoldable pub countedIn : List ℕ → ℕ → Counted
-countedIn session f = unless (eqb (length session) 1283) Refusal.Length (countedOf (sessionOf session) f)
+countedIn session f = unless (eqb (length session) 1283) (counted.Refused Refusal.Length) (countedOf (sessionOf session) f)
 
 -- a session is written only after a page was taken
 abbrev pub sessionIn : List ℕ → Session → Outcome → List ℕ
@@ -54,7 +53,7 @@ sessionIn session σ (Refused e) = session
 -- an arrival where the session and the outcome have their lengths
 pub record Arrives (session word scratch session′ word′ scratch′ outcome′ : List ℕ) (r : ℕ) : Type 0 where
   pub arrived : Arrived
-  pub holds : arrival.Arriving clean (sessionOf session) word scratch word′ scratch′ arrived
+  pub holds : Arriving clean (sessionOf session) word scratch word′ scratch′ arrived
   pub outcomeLeft : outcome′ ≡ outcomeValues (arrived .outcome)
   pub sessionLeft : session′ ≡ sessionIn session (arrived .session) (arrived .outcome)
   pub answer : r ≡ statusNumber Done
@@ -67,6 +66,6 @@ pub record Untouched (session word scratch outcome session′ word′ scratch′
   pub outcomeLeft : outcome′ ≡ outcome
   pub answer : r ≡ statusNumber (status.Refused Refusal.Length)
 
-pub record Arriving (session word scratch outcome session′ word′ scratch′ outcome′ : List ℕ) (r : ℕ) : Type 0 where
+pub record ArriveCrossing (session word scratch outcome session′ word′ scratch′ outcome′ : List ℕ) (r : ℕ) : Type 0 where
   pub right : length session ≡ 1283 → length outcome ≡ 3 → Arrives session word scratch session′ word′ scratch′ outcome′ r
   pub wrong : ((length session ≡ 1283) × (length outcome ≡ 3) → ⊥) → Untouched session word scratch outcome session′ word′ scratch′ outcome′ r

@@ -1,6 +1,5 @@
 // A session as 3 + 1024 + 256 values and an outcome as three.
 use gtb::Shape;
-use host::number;
 use session::Outcome;
 use session::Session;
 ghost use mathlib.Core.Path.{_≡_};
@@ -88,9 +87,6 @@ pub fn put_outcome(values: &mut [u32], outcome: Outcome)
     requires { ⌜ length (now values) ≡ 3 ⌝ }
     ensures { λ _. ⌜ now (values .exit) ≡ outcomeValues outcome ⌝ }
 {
-    match outcome {
-        Outcome::Taken(page, fixed) => put_three(values, 0, page, fixed),
-        Outcome::Again(page, fixed) => put_three(values, 1, page, fixed),
-        Outcome::Refused(e) => put_three(values, 2, number::refusal(e), 0),
-    }
+    let three = session::number::outcome(outcome);
+    gtb::copy(&three, values);
 }

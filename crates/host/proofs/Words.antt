@@ -9,9 +9,10 @@ use Rattle.gtb.specs.declared.Shape.{Shape}
 use Rattle.gtb.specs.declared.Refusal.{Refusal}
 use Rattle.gtb.specs.Shape.{lawful, Lawful, wordLength, infoLength}
 use Rattle.gtb.specs.Answer.{refusalNumber}
-use Rattle.decoder.specs.declared.Decoded.{Decoded}
-use Rattle.decoder.specs.declared.Decoded.the-variants.{Corrected, Refused}
-use Rattle.decoder.specs.Decode.{decodedNumber, decodeOf, wordAfter, Decoding}
+use Rattle.correction.specs.declared.Decoded.{Decoded}
+use Rattle.correction.specs.declared.Decoded.the-variants.{Corrected, Refused}
+use Rattle.decoder.specs.Decode.{decodeOf, Decoding, restored}
+use Rattle.correction.specs.Answer.{decodedNumber, decodedWord}
 use Rattle.page.specs.declared.PageRead.the-variants as page
 use Rattle.page.specs.Page.{pageOf}
 use Rattle.host.specs.Bytes.{symbolsOf, bytesOf}
@@ -57,7 +58,7 @@ module _ (s : Shape) (bytes : List ℕ) where
       record { answer = rw (word-past h l, e) is; left = rw (word-past h l, e) after }
 
   pub put-back : {symbols symbols′ bytes′ : List ℕ} {a : Decoded} (k : ℕ) → a ≡ Corrected k → symbols ≡ symbolsOf bytes →
-      symbols′ ≡ wordAfter s symbols a → bytes′ ≡ bytesOf symbols′ → bytes′ ≡ bytesAfter s bytes a
+      symbols′ ≡ decodedWord symbols (restored s symbols) a → bytes′ ≡ bytesOf symbols′ → bytes′ ≡ bytesAfter s bytes a
   put-back k h loaded word stored = rw h (stored ∙ ap bytesOf (word ∙ rw (h, loaded)))
 
   pub left-alone : {bytes′ : List ℕ} {a : Decoded} (e : Refusal) → a ≡ Refused e → bytes′ ≡ bytes → bytes′ ≡ bytesAfter s bytes a

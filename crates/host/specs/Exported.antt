@@ -7,23 +7,21 @@ use lib.ListN.{length}
 use Rattle.gtb.specs.declared.Shape.{Shape}
 use Rattle.gtb.specs.declared.Refusal.{Refusal}
 use Rattle.gtb.specs.Shape.{lawful, wordLength, infoLength}
-use Rattle.decoder.specs.declared.Decoded.{Decoded}
-use Rattle.decoder.specs.declared.Decoded.the-variants.{Corrected, Refused}
-use Rattle.decoder.specs.Decode.{decodedNumber, decodeOf, restored, unless}
+use Rattle.correction.specs.declared.Decoded.{Decoded}
+use Rattle.correction.specs.declared.Decoded.the-variants.{Corrected, Refused}
+use Rattle.decoder.specs.Decode.{decodeOf, restored}
+use Rattle.correction.specs.Answer.{decodedNumber}
+use Rattle.gtb.specs.Answer.{unless}
 use Rattle.page.specs.declared.PageRead.{PageRead}
 use Rattle.page.specs.Page.{pageOf}
-use Rattle.page.specs.Page as page
+use Rattle.page.specs.declared.PageRead.the-variants as page
 use Rattle.host.specs.Bytes.{symbolsOf, bytesOf}
-
--- a shape crosses as three numbers
-abbrev pub shapeOf : ℕ → ℕ → ℕ → Shape
-shapeOf q n b = record { q = q; n = n; b = b }
 
 -- word reading over bytes
 unfoldable pub wordOf : Shape → List ℕ → Decoded
 wordOf s bytes =
-    unless (lawful s) Refusal.Shape
-    (unless (eqb (length bytes) (4 * wordLength s)) Refusal.Length (decodeOf s (symbolsOf bytes)))
+    unless (lawful s) (Refused Refusal.Shape)
+    (unless (eqb (length bytes) (4 * wordLength s)) (Refused Refusal.Length) (decodeOf s (symbolsOf bytes)))
 
 -- the stored word as bytes, or the bytes as they came
 abbrev pub bytesAfter : Shape → List ℕ → Decoded → List ℕ
@@ -37,5 +35,5 @@ pub record ReadingWord (s : Shape) (bytes bytes′ : List ℕ) (r : ℕ) : Type 
 -- page reading over bytes
 unfoldable pub pageIn : Shape → List ℕ → PageRead
 pageIn s bytes =
-    page.unless (lawful s) Refusal.Shape
-    (page.unless (eqb (length bytes) (4 * infoLength s)) Refusal.Length (pageOf s (symbolsOf bytes)))
+    unless (lawful s) (page.Refused Refusal.Shape)
+    (unless (eqb (length bytes) (4 * infoLength s)) (page.Refused Refusal.Length) (pageOf s (symbolsOf bytes)))

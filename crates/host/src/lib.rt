@@ -1,7 +1,5 @@
 // The pair that is exported to C: word reading and page reading over numbers and bytes.
-pub mod number;
-
-use decoder::Decoded;
+use correction::Decoded;
 use gtb::Refusal;
 use gtb::Shape;
 use gtb::size::info_length;
@@ -9,10 +7,10 @@ use gtb::size::word_length;
 ghost use mathlib.Core.Path.{_≡_};
 ghost use Prim.Native.Nat.{_+_, _*_, _≤_};
 ghost use lib.ListN.{length};
-ghost use Rattle.gtb.specs.Shape.{Lawful, wordLength, infoLength};
+ghost use Rattle.gtb.specs.Shape.{Lawful, wordLength, infoLength, shapeOf};
 ghost use Rattle.page.specs.Page.{readNumber};
 ghost use Rattle.host.specs.Bytes.{symbolsOf, bytesOf, symbolAt, withSymbol};
-ghost use Rattle.host.specs.Exported.{shapeOf, pageIn, ReadingWord};
+ghost use Rattle.host.specs.Exported.{pageIn, ReadingWord};
 
 // The symbol in the four bytes from `at` on.
 fn symbol_at(bytes: &[u8], at: usize) -> u32
@@ -66,7 +64,7 @@ fn read_word(shape: Shape, bytes: &mut [u8], symbols: &mut [u32]) -> u32
     if let Decoded::Corrected(_) = answer {
         store(symbols, bytes);
     }
-    number::decoded(answer)
+    correction::number::decoded(answer)
 }
 
 // Word reading: digits changed, or 2^31 plus the number of the refusal.
@@ -76,11 +74,11 @@ pub extern "C" fn shaftglimmer_read_word(q: u32, n: u32, b: u32, word: &mut [u8]
 {
     let shape = Shape { q, n, b };
     if !gtb::is_lawful(shape) {
-        return number::refused(Refusal::Shape);
+        return gtb::number::refused(Refusal::Shape);
     }
     let size = word_length(shape);
     if word.len() != 4 * size {
-        return number::refused(Refusal::Length);
+        return gtb::number::refused(Refusal::Length);
     }
     let mut symbols = [0u32; 961];
     read_word(shape, word, &mut symbols[..size])
@@ -92,7 +90,7 @@ fn read_page(shape: Shape, bytes: &[u8], symbols: &mut [u32]) -> u32
     ensures { λ r. ⌜ r ≡ readNumber (pageIn shape (now (bytes .entry))) ⌝ }
 {
     load(bytes, symbols);
-    number::read(page::read_page(shape, symbols))
+    page::number::read(page::read_page(shape, symbols))
 }
 
 // Page reading: 1024 × page number + number of marks, or 2^31 plus the number of the refusal.
@@ -102,11 +100,11 @@ pub extern "C" fn shaftglimmer_read_page(q: u32, n: u32, b: u32, symbols: &[u8])
 {
     let shape = Shape { q, n, b };
     if !gtb::is_lawful(shape) {
-        return number::refused(Refusal::Shape);
+        return gtb::number::refused(Refusal::Shape);
     }
     let size = info_length(shape);
     if symbols.len() != 4 * size {
-        return number::refused(Refusal::Length);
+        return gtb::number::refused(Refusal::Length);
     }
     let mut loaded = [0u32; 900];
     read_page(shape, symbols, &mut loaded[..size])

@@ -1,24 +1,30 @@
 -- Tests over the entries of a list: below 2^b, function numbers, zeros.
-use mathlib.Core.Path.{_≡_, sym, ap, _∙_}
+use mathlib.Core.Path.{_≡_, refl, sym, ap, _∙_}
 use mathlib.Core.Bool.{Bool, true, false, _&&_, and-true, and-assoc}
 use mathlib.Core.List.{List, [], _∷_, _++_}
 use Prim.Native.Nat.{ℕ, zero, suc, _+_, _<_, _^_}
+use native.Mathlib.Omega.{arith}
 use lib.Dec.{eqb, ltb}
 use lib.ListN.{length, getD, replicate, length-replicate, getD-replicate}
 use lib.Pow.{pow-pos}
 use lib.Seq.{ext-getD}
 use borrow.Author.Tests.{lt-ltb, ltb-true, eq-eqb, eqb-true}
 use Rattle.parity.specs.Count.{all}
-use Rattle.parity.proofs.Tests.{all-intro, all-elim, all-more, and-no-right}
+use Rattle.parity.proofs.Tests.{same, all-intro, all-elim, all-cong}
 use Rattle.gtb.specs.Square.{narrow}
 use Rattle.page.specs.Page.{functions, zeros}
 
--- one turn of a loop that keeps a flag: the next number passes or not
-pub all-holds : (p : ℕ → Bool) (i : ℕ) {good : Bool} → good ≡ all i p → p i ≡ true → good ≡ all (i + 1) p
-all-holds p i g h = g ∙ sym (all-more i p ∙ ap (λ (t : Bool). all i p && t) h ∙ and-true (all i p))
+-- both tests are tests of a width
+pub narrow-functions : (marks : List ℕ) → narrow 8 marks ≡ functions marks
+unfolding narrow functions
+narrow-functions marks = refl
 
-pub all-fails : (p : ℕ → Bool) (i : ℕ) → p i ≡ false → false ≡ all (i + 1) p
-all-fails p i h = sym (all-more i p ∙ and-no-right (all i p) h)
+pub narrow-zeros : (xs : List ℕ) → narrow 0 xs ≡ zeros xs
+unfolding narrow zeros
+narrow-zeros xs = all-cong (length xs) _ _ (λ i l. below-one (getD xs i 0))
+  where
+    below-one : (x : ℕ) → ltb x 1 ≡ eqb x 0
+    below-one x = same (λ t. eq-eqb x 0 (omega (arith, ltb-true x 1 t))) (λ t. lt-ltb x 1 (omega (arith, eqb-true x 0 t)))
 
 -- the first number apart
 all-cons : (n : ℕ) (p : ℕ → Bool) → all (suc n) p ≡ (p 0 && all n (λ i. p (suc i)))

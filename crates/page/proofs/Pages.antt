@@ -2,7 +2,7 @@
 use mathlib.Core.Path.{_≡_, refl, sym, ap, _∙_}
 use mathlib.Core.Bool.{Bool, true, false}
 use mathlib.Core.List.{List, [], _∷_, _++_}
-use Prim.Native.Nat.{ℕ, _+_, _-_, _≤_, _<_}
+use Prim.Native.Nat.{ℕ, _+_, _-_, _^_, _≤_, _<_}
 use native.Mathlib.Omega.{arith}
 use lib.Dec.{eqb, leb, ltb}
 use lib.ListN.{length, getD, take, drop, replicate, length-append, length-replicate, length-drop, take-append-drop}
@@ -14,11 +14,12 @@ use Rattle.gtb.specs.declared.Status.{Status}
 use Rattle.gtb.specs.declared.Status.the-variants.{Done}
 use Rattle.gtb.specs.Shape.{lawful, Lawful, infoLength}
 use Rattle.gtb.specs.Square.{narrow}
-use Rattle.gtb.specs.Answer as answer
+use Rattle.gtb.proofs.Answers.{unless-passed, unless-done, refusal-small}
 use Rattle.gtb.proofs.Sizes.{sizes}
 use Rattle.page.specs.declared.PageRead.{PageRead}
 use Rattle.page.specs.declared.PageRead.the-variants.{Page, Refused}
-use Rattle.page.specs.Page.{functions, zeros, most, unless, pageOf, marksIn, marksOf, writeStatus, pageSymbols}
+use Rattle.page.specs.Page.{functions, zeros, most, pageOf, marksIn, marksOf, writeStatus, pageSymbols, symbolsAfter, readNumber, Writing}
+use Rattle.gtb.specs.Answer.{unless, statusNumber}
 use Rattle.page.specs.Steps.{Sized}
 use Rattle.page.proofs.Entries.{narrow-tail, zeros-replicate, zeros-are, function-at}
 
@@ -36,13 +37,8 @@ pub few-marks : (s : Shape) (c k : ℕ) → k ≡ infoLength s → c ≤ k - 2 �
 few-marks s c k e l = le-leb c (most s) (omega arith)
 
 -- an answer that is no refusal passed the test
-page-passed : (t : Bool) (e : Refusal) (next : PageRead) {number c : ℕ} → unless t e next ≡ Page number c → (t ≡ true) × (next ≡ Page number c)
-page-passed true e next h = (refl, h)
-page-passed false e next h = let z : _≡_ {A = ℕ} 0 1 = cc in absurd (omega arith)
-
-done-passed : (t : Bool) (e : Refusal) (next : Status) → answer.unless t e next ≡ Done → (t ≡ true) × (next ≡ Done)
-done-passed true e next h = (refl, h)
-done-passed false e next h = let z : _≡_ {A = ℕ} 0 1 = cc in absurd (omega arith)
+page-passed : (t : Bool) (e : Refusal) (next : PageRead) {number c : ℕ} → unless t (Refused e) next ≡ Page number c → (t ≡ true) × (next ≡ Page number c)
+page-passed t e next = unless-passed t (Refused e) next (λ h. let z : _≡_ {A = ℕ} 0 1 = cc in omega arith)
 
 -- the page reader's tests, all passed
 pub record Passed (s : Shape) (symbols : List ℕ) : Type 0 where
@@ -138,12 +134,12 @@ pub record Writable (s : Shape) (number : ℕ) (marks : List ℕ) : Type 0 where
 pub writable : (s : Shape) (number : ℕ) (marks symbols : List ℕ) → writeStatus s number marks symbols ≡ Done → Writable s number marks
 unfolding writeStatus
 writable s number marks symbols h =
-    let (legal, h1) = done-passed (lawful s) _ _ h in
-    let (size, h2) = done-passed (eqb (length symbols) (infoLength s)) _ _ h1 in
-    let (page, h3) = done-passed (ltb number 1024) _ _ h2 in
-    let (few, h4) = done-passed (leb (length marks) (most s)) _ _ h3 in
-    let (calls, h5) = done-passed (functions marks) _ _ h4 in
-    let (width, e) = done-passed (narrow (s .b) (number ∷ length marks ∷ marks)) _ _ h5 in
+    let (legal, h1) = unless-done (lawful s) _ _ h in
+    let (size, h2) = unless-done (eqb (length symbols) (infoLength s)) _ _ h1 in
+    let (page, h3) = unless-done (ltb number 1024) _ _ h2 in
+    let (few, h4) = unless-done (leb (length marks) (most s)) _ _ h3 in
+    let (calls, h5) = unless-done (functions marks) _ _ h4 in
+    let (width, e) = unless-done (narrow (s .b) (number ∷ length marks ∷ marks)) _ _ h5 in
     record { legal = legal; page = page; few = leb-true (length marks) (most s) few; calls = calls; width = width }
 
 -- the page reader on what the page writer writes
@@ -204,3 +200,19 @@ read-write s symbols number c h =
     let width : narrow (s .b) (number ∷ length marks ∷ marks) ≡ true =
     sym (narrow-tail (s .b) (number ∷ length marks ∷ marks) (most s - length marks)) ∙ ap (narrow (s .b)) whole ∙ f .width in
     (rw (p .legal, p .size, lt-ltb _ _ (f .page), few, calls, width), whole)
+
+-- the writer's contract from its two equations
+pub writing : {s : Shape} {page : ℕ} {marks symbols symbols′ : List ℕ} {r : Status} → r ≡ writeStatus s page marks symbols
+    → symbols′ ≡ symbolsAfter s page marks symbols r → Writing s page marks symbols symbols′ r
+writing answer written = record { answer = answer; number = ap statusNumber answer; written = written }
+
+-- ---- the answer's number fits 32 bits
+read-small : (s : Shape) (symbols : List ℕ) (r : PageRead) → pageOf s symbols ≡ r → readNumber r < 2 ^ 32
+read-small s symbols (Page number c) h =
+    let f = page-facts s symbols number c h in
+    omega (arith, f .page, f .few, sizes s (f .lawful) .info)
+read-small s symbols (Refused e) h = omega (arith, refusal-small e)
+
+-- what the page reader answers: page number and number of marks are small
+pub read-fits : (s : Shape) (symbols : List ℕ) → readNumber (pageOf s symbols) < 2 ^ 32
+read-fits s symbols = read-small s symbols (pageOf s symbols) refl

@@ -1,6 +1,6 @@
 -- The page (document 01, "The page").
 use mathlib.Core.Path.{_≡_}
-use mathlib.Core.Bool.{Bool, true, false}
+use mathlib.Core.Bool.{Bool}
 use mathlib.Core.List.{List, [], _∷_, _++_}
 use Prim.Native.Nat.{ℕ, _+_, _-_, _*_, _^_}
 use lib.Dec.{eqb, leb, ltb}
@@ -13,7 +13,7 @@ use Rattle.gtb.specs.declared.Status.the-variants.{Done}
 use Rattle.gtb.specs.declared.Status.the-variants as status
 use Rattle.gtb.specs.Shape.{lawful, infoLength}
 use Rattle.gtb.specs.Square.{narrow}
-use Rattle.gtb.specs.Answer as answer
+use Rattle.gtb.specs.Answer.{refusalNumber, statusNumber, unless}
 use Rattle.page.specs.declared.PageRead.{PageRead}
 use Rattle.page.specs.declared.PageRead.the-variants.{Page, Refused}
 
@@ -31,22 +31,18 @@ most s = infoLength s - 2
 -- as one number: 1024 × page number + c, or 2^31 plus the refusal's number
 abbrev pub readNumber : PageRead → ℕ
 readNumber (Page number c) = 1024 * number + c
-readNumber (Refused e) = 2 ^ 31 + answer.refusalNumber e
-
-abbrev pub unless : Bool → Refusal → PageRead → PageRead
-unless true e next = next
-unless false e next = Refused e
+readNumber (Refused e) = 2 ^ 31 + refusalNumber e
 
 -- symbol 0 is the page number, symbol 1 the number c of marks, the next c are marks, the rest zeros; tests 1, 2, 3, 5, 6, 7, 8
 unfoldable pub pageOf : Shape → List ℕ → PageRead
 pageOf s symbols =
-    unless (lawful s) Refusal.Shape
-    (unless (eqb (length symbols) (infoLength s)) Refusal.Length
-    (unless (narrow (s .b) symbols) Refusal.Width
-    (unless (ltb (getD symbols 0 0) 1024) Refusal.Page
-    (unless (leb (getD symbols 1 0) (most s)) Refusal.Count
-    (unless (functions (take (getD symbols 1 0) (drop 2 symbols))) Refusal.Function
-    (unless (zeros (drop (2 + getD symbols 1 0) symbols)) Refusal.Tail
+    unless (lawful s) (Refused Refusal.Shape)
+    (unless (eqb (length symbols) (infoLength s)) (Refused Refusal.Length)
+    (unless (narrow (s .b) symbols) (Refused Refusal.Width)
+    (unless (ltb (getD symbols 0 0) 1024) (Refused Refusal.Page)
+    (unless (leb (getD symbols 1 0) (most s)) (Refused Refusal.Count)
+    (unless (functions (take (getD symbols 1 0) (drop 2 symbols))) (Refused Refusal.Function)
+    (unless (zeros (drop (2 + getD symbols 1 0) symbols)) (Refused Refusal.Tail)
     (Page (getD symbols 0 0) (getD symbols 1 0))))))))
 
 -- the marks: the part of the symbols that starts at place 2, c long; empty where the page reader refuses
@@ -60,12 +56,12 @@ marksOf s symbols = marksIn symbols (pageOf s symbols)
 -- the page writer tests 1, 2, 5, 6, 7, then 3 over page number, c and marks
 unfoldable pub writeStatus : Shape → ℕ → List ℕ → List ℕ → Status
 writeStatus s number marks symbols =
-    answer.unless (lawful s) Refusal.Shape
-    (answer.unless (eqb (length symbols) (infoLength s)) Refusal.Length
-    (answer.unless (ltb number 1024) Refusal.Page
-    (answer.unless (leb (length marks) (most s)) Refusal.Count
-    (answer.unless (functions marks) Refusal.Function
-    (answer.unless (narrow (s .b) (number ∷ length marks ∷ marks)) Refusal.Width Done)))))
+    unless (lawful s) (status.Refused Refusal.Shape)
+    (unless (eqb (length symbols) (infoLength s)) (status.Refused Refusal.Length)
+    (unless (ltb number 1024) (status.Refused Refusal.Page)
+    (unless (leb (length marks) (most s)) (status.Refused Refusal.Count)
+    (unless (functions marks) (status.Refused Refusal.Function)
+    (unless (narrow (s .b) (number ∷ length marks ∷ marks)) (status.Refused Refusal.Width) Done)))))
 
 -- the information symbols of a page
 unfoldable pub pageSymbols : Shape → ℕ → List ℕ → List ℕ
@@ -76,6 +72,8 @@ abbrev pub symbolsAfter : Shape → ℕ → List ℕ → List ℕ → Status →
 symbolsAfter s number marks symbols Done = pageSymbols s number marks
 symbolsAfter s number marks symbols (status.Refused e) = symbols
 
-pub record Writing (s : Shape) (number : ℕ) (marks symbols symbols′ : List ℕ) (r : Status) : Type 0 where
-  pub answer : r ≡ writeStatus s number marks symbols
-  pub written : symbols′ ≡ symbolsAfter s number marks symbols r
+-- the page writer: its answer, and what then stands in the lent list
+pub record Writing (s : Shape) (page : ℕ) (marks symbols symbols′ : List ℕ) (r : Status) : Type 0 where
+  pub answer : r ≡ writeStatus s page marks symbols
+  pub number : statusNumber r ≡ statusNumber (writeStatus s page marks symbols)
+  pub written : symbols′ ≡ symbolsAfter s page marks symbols r

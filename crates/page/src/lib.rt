@@ -1,4 +1,6 @@
 // The page in the information symbols of a word: page number, number of marks, marks, zeros.
+pub mod number;
+
 use gtb::Refusal;
 use gtb::Shape;
 use gtb::Status;
@@ -10,7 +12,8 @@ ghost use Prim.Native.Nat.{ℕ, _≤_};
 ghost use lib.ListN.{length, drop};
 ghost use Rattle.gtb.specs.Shape.{Lawful, infoLength};
 ghost use Rattle.gtb.specs.Square.{narrow};
-ghost use Rattle.page.specs.Page.{functions, zeros, pageOf, marksOf, writeStatus, pageSymbols, most, Writing};
+ghost use Rattle.gtb.specs.Answer.{Answered};
+ghost use Rattle.page.specs.Page.{functions, zeros, readNumber, pageOf, marksOf, writeStatus, pageSymbols, most, Writing};
 ghost use Rattle.page.specs.Steps.{Sized};
 
 // The answer of the page reader: page number and number of marks, or a refusal.
@@ -23,25 +26,14 @@ pub enum PageRead {
 fn are_functions(marks: &[u32]) -> bool
     ensures { λ r. ⌜ r ≡ functions (now (marks .entry)) ⌝ }
 {
-    let mut good = true;
-    for i in 0..marks.len() {
-        if 256 <= marks[i] {
-            good = false;
-        }
-    }
-    good
+    gtb::is_narrow(marks, 8)
 }
 
+// Only the number 0 has no bit.
 fn are_zeros(symbols: &[u32]) -> bool
     ensures { λ r. ⌜ r ≡ zeros (now (symbols .entry)) ⌝ }
 {
-    let mut good = true;
-    for i in 0..symbols.len() {
-        if symbols[i] != 0 {
-            good = false;
-        }
-    }
-    good
+    gtb::is_narrow(symbols, 0)
 }
 
 // The page reader's tests 5 to 8.
@@ -70,7 +62,7 @@ fn read_narrow(shape: Shape, symbols: &[u32]) -> PageRead
 
 // Page number and number of marks.
 pub fn read_page(shape: Shape, symbols: &[u32]) -> PageRead
-    ensures { λ r. ⌜ r ≡ pageOf shape (now (symbols .entry)) ⌝ }
+    ensures { λ r. ⌜ Answered readNumber (pageOf shape (now (symbols .entry))) r ⌝ }
 {
     if !gtb::is_lawful(shape) {
         return PageRead::Refused(Refusal::Shape);

@@ -1,6 +1,7 @@
 pub mod Xors
 pub mod XorSums
 pub mod Tests
+pub mod First
 pub mod Sums
 pub mod Lists
 pub mod Orders

@@ -6,6 +6,8 @@ use Prim.Native.Nat.{ℕ, zero, suc, _+_, _<_}
 use native.Mathlib.Nat.{not-suc-le-zero, le-of-suc-le-suc, eq-or-lt-of-le, le-step, lt-suc-self}
 use native.Mathlib.Numerals.{add-one}
 use native.Mathlib.Omega.{arith}
+use lib.Dec.{eqb}
+use borrow.Author.Tests.{eq-eqb, eqb-true}
 use Rattle.parity.specs.Count.{any, all}
 
 -- a Bool is one of two, and never both
@@ -26,6 +28,16 @@ agree true true h = refl
 agree true false h = sym h
 agree false true h = h
 agree false false h = refl
+
+-- two tests that decide the same
+pub same : {a b : Bool} → (a ≡ true → b ≡ true) → (b ≡ true → a ≡ true) → a ≡ b
+same {a} {b} to from =
+    ⊎-elim (λ (t : a ≡ true). t ∙ sym (to t))
+    (λ (f : a ≡ false). f ∙ sym (⊎-elim (λ (t : b ≡ true). absurd (clash (from t) f)) (λ (g : b ≡ false). g) (either b)))
+    (either a)
+
+pub same-eqb : (a b c d : ℕ) → (a ≡ b → c ≡ d) → (c ≡ d → a ≡ b) → eqb a b ≡ eqb c d
+same-eqb a b c d to from = same (λ t. eq-eqb c d (to (eqb-true a b t))) (λ t. eq-eqb a b (from (eqb-true c d t)))
 
 pub and-left : (a b : Bool) → (a && b) ≡ true → a ≡ true
 and-left true b h = refl

@@ -6,16 +6,12 @@ use native.Mathlib.Numerals.{add-one}
 use lib.Dec.{eqb}
 use borrow.Author.Tests.{eq-eqb, ne-eqb}
 use Rattle.parity.specs.Xor.{_⊕_, xorSum, when}
-use Rattle.parity.specs.Cyclic.{Cyclic, Order}
+use Rattle.parity.specs.Cyclic.{Cyclic, Order, walk}
 use Rattle.parity.proofs.Xors.{self, zero-l, lt-pow, xors}
 use Rattle.parity.proofs.XorSums.{xs-zero, xs-suc, cong, linear, exchange, only, split, bound, odd-total}
 use Rattle.parity.proofs.Cycles.{turns, wrap, same, shift}
 use Rattle.parity.proofs.Orders.{mod-mul-mod, order-pos}
 use Rattle.parity.proofs.Modular.{undo-mul}
-
--- the XOR of d over the steps of δ from 0 to u; e is an inverse of δ modulo q
-unfoldable pub walk : ℕ → ℕ → ℕ → (ℕ → ℕ) → ℕ → ℕ
-walk q δ e d u = xorSum (u * e % q) (λ j. d (δ * j))
 
 -- the walk with its total added, so that its own total is zero
 unfoldable pub quotient : ℕ → ℕ → ℕ → (ℕ → ℕ) → ℕ → ℕ

@@ -1,6 +1,6 @@
 -- Sums, counts and tests over a range.
 use Prim.Native.Nat.{ℕ, zero, suc, _+_}
-use mathlib.Core.Bool.{Bool, true, false, _&&_, _||_}
+use mathlib.Core.Bool.{Bool, true, false, cond, _&&_, _||_}
 
 -- 1 where the test holds, else 0
 unfoldable pub bit : Bool → ℕ
@@ -25,3 +25,8 @@ any (suc n) p = any n p || p n
 unfoldable pub all : ℕ → (ℕ → Bool) → Bool
 all zero p = true
 all (suc n) p = all n p && p n
+
+-- the value at the first number below n that passes the test, or 0
+unfoldable pub firstValue : ℕ → (ℕ → Bool) → (ℕ → ℕ) → ℕ
+firstValue zero p v = 0
+firstValue (suc n) p v = cond (p 0) (v 0) (firstValue n (λ t. p (suc t)) (λ t. v (suc t)))

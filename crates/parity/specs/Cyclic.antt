@@ -20,3 +20,7 @@ pub record Apart (q m : ℕ) (a : ℕ → ℕ) : Type 0 where
 -- m rows evaluated at a shift: row r moved by x × r, all XORed
 unfoldable pub eval : ℕ → (ℕ → ℕ → ℕ) → ℕ → ℕ → ℕ
 eval m f x c = xorSum m (λ r. f r (c + x * r))
+
+-- the XOR of d over the steps of δ from 0 to u; e is an inverse of δ modulo q
+unfoldable pub walk : ℕ → ℕ → ℕ → (ℕ → ℕ) → ℕ → ℕ
+walk q δ e d u = xorSum (u * e % q) (λ j. d (δ * j))

@@ -16,9 +16,11 @@ use Rattle.gtb.specs.Shape.{lawful, Lawful, wordLength, infoLength, scratchLeng
 use Rattle.gtb.specs.Square.{at, narrow}
 use Rattle.gtb.specs.Positions.{infoPosition, extractOf}
 use Rattle.gtb.specs.Answer as answer
-use Rattle.decoder.specs.declared.Decoded.{Decoded}
-use Rattle.decoder.specs.declared.Decoded.the-variants as decoded
+use Rattle.correction.specs.declared.Decoded.{Decoded}
+use Rattle.correction.specs.declared.Decoded.the-variants as decoded
 use Rattle.decoder.specs.Decode.{decodeOf, restored, Decoding}
+use Rattle.correction.specs.Answer.{decodedWord}
+use Rattle.correction.proofs.Errors.{mended-size}
 use Rattle.decoder.specs.Decode as decode
 use Rattle.page.specs.declared.PageRead.{PageRead}
 use Rattle.page.specs.declared.PageRead.the-variants as page
@@ -30,8 +32,9 @@ use Rattle.session.specs.declared.Session.{Session}
 use Rattle.session.specs.declared.Outcome.the-variants.{Taken, Again, Refused}
 use Rattle.session.specs.declared.Arrived.{Arrived}
 use Rattle.session.specs.Session.{overflows}
-use Rattle.session.specs.Arrival.{Page, Bad, clean, openPage, openWord, opened, outcomeOf, sessionAfter, isAccepted, scratchAfter, Arriving}
+use Rattle.session.specs.Arrival.{Page, Bad, clean, openPage, openWord, opened, outcomeOf, sessionAfter, isAccepted, outcomeValues, outcomeScratch, Arriving}
 use Rattle.session.specs.Steps.{Lent, Restored, Settling, Functions}
+use Rattle.gtb.specs.Answer.{isEarly, unless}
 
 -- a copy of the whole
 pub whole-copy : (from to : List ℕ) → length from ≡ length to → from ++ drop (length from) to ≡ from
@@ -69,45 +72,58 @@ unfolding answer.scratchAfter
 length-scratch = refl
 
 -- ---- a later one leaves zeros
-abbrev Zeros : Refusal → Type 0
-Zeros e = (x : List ℕ) → answer.scratchAfter e x ≡ replicate (length x) 0
+abbrev Late : Refusal → Type 0
+Late e = isEarly e ≡ false
 
-damage-zeros : (a b : Bool) (m : ℕ) (e : Refusal)
-    → decode.unless a Refusal.Width (decode.unless b Refusal.Uncorrectable (decoded.Corrected m)) ≡ decoded.Refused e → Zeros e
+late-zeros : (e : Refusal) → Late e → (x : List ℕ) → answer.scratchAfter e x ≡ replicate (length x) 0
 unfolding answer.scratchAfter
-damage-zeros false b m e h x = let same : Refusal.Width ≡ e = cc in rw (sym same)
-damage-zeros true false m e h x = let same : Refusal.Uncorrectable ≡ e = cc in rw (sym same)
-damage-zeros true true m e h x = let z : _≡_ {A = ℕ} 0 1 = cc in absurd (omega arith)
+late-zeros e l x = rw l
 
-read-zeros : (s : Shape) (word : List ℕ) → Lawful s → length word ≡ wordLength s → (e : Refusal) → decodeOf s word ≡ decoded.Refused e → Zeros e
+-- a test that refuses late, and what follows it
+late-next : {A : Type 0} (refused : Refusal → A) → ((e e′ : Refusal) → refused e ≡ refused e′ → e ≡ e′) → (t : Bool) (e : Refusal) (next : A)
+    → Late e → ((e′ : Refusal) → next ≡ refused e′ → Late e′) → (e′ : Refusal) → unless t (refused e) next ≡ refused e′ → Late e′
+late-next refused same true e next l h e′ r = h e′ r
+late-next refused same false e next l h e′ r = rw (same e e′ r) at l
+
+decode-late : (t : Bool) (e : Refusal) (next : Decoded) → Late e → ((e′ : Refusal) → next ≡ decoded.Refused e′ → Late e′)
+    → (e′ : Refusal) → unless t (decoded.Refused e) next ≡ decoded.Refused e′ → Late e′
+decode-late = late-next decoded.Refused (λ e e′ h. cc)
+
+page-late : (t : Bool) (e : Refusal) (next : PageRead) → Late e → ((e′ : Refusal) → next ≡ page.Refused e′ → Late e′)
+    → (e′ : Refusal) → unless t (page.Refused e) next ≡ page.Refused e′ → Late e′
+page-late = late-next page.Refused (λ e e′ h. cc)
+
+read-late : (s : Shape) (word : List ℕ) → Lawful s → length word ≡ wordLength s → (e : Refusal) → decodeOf s word ≡ decoded.Refused e → Late e
 unfolding decodeOf
-read-zeros s word law size e h =
-    damage-zeros (narrow (s .b) word) (decode.correctable s word) (count (wordLength s) (decode.located s (at word))) e
-    (rw (law, eq-eqb (length word) (wordLength s) size) at h)
+read-late s word law size e h =
+    decode-late (narrow (s .b) word) Refusal.Width _ refl
+    (decode-late (decode.correctable s word) Refusal.Uncorrectable _ refl (λ e′ r. let z : _≡_ {A = ℕ} 0 1 = cc in absurd (omega arith)))
+    e (rw (law, eq-eqb (length word) (wordLength s) size) at h)
 
-fault-zeros : (a b d f g : Bool) (number c : ℕ) (e : Refusal)
-    → read.unless a Refusal.Width (read.unless b Refusal.Page (read.unless d Refusal.Count (read.unless f Refusal.Function (read.unless g Refusal.Tail (page.Page number c))))) ≡ page.Refused e
-    → Zeros e
-unfolding answer.scratchAfter
-fault-zeros false b d f g number c e h x = let same : Refusal.Width ≡ e = cc in rw (sym same)
-fault-zeros true false d f g number c e h x = let same : Refusal.Page ≡ e = cc in rw (sym same)
-fault-zeros true true false f g number c e h x = let same : Refusal.Count ≡ e = cc in rw (sym same)
-fault-zeros true true true false g number c e h x = let same : Refusal.Function ≡ e = cc in rw (sym same)
-fault-zeros true true true true false number c e h x = let same : Refusal.Tail ≡ e = cc in rw (sym same)
-fault-zeros true true true true true number c e h x = let z : _≡_ {A = ℕ} 0 1 = cc in absurd (omega arith)
-
-page-zeros : (s : Shape) (symbols : List ℕ) → Lawful s → length symbols ≡ infoLength s → (e : Refusal) → pageOf s symbols ≡ page.Refused e → Zeros e
+fault-late : (s : Shape) (symbols : List ℕ) → Lawful s → length symbols ≡ infoLength s → (e : Refusal) → pageOf s symbols ≡ page.Refused e → Late e
 unfolding pageOf
-page-zeros s symbols law size e h =
-    fault-zeros (narrow (s .b) symbols) (ltb (at symbols 0) 1024) (leb (at symbols 1) (read.most s)) (read.functions (take (at symbols 1) (drop 2 symbols)))
-    (read.zeros (drop (2 + at symbols 1) symbols)) (at symbols 0) (at symbols 1) e
-    (rw (law, eq-eqb (length symbols) (infoLength s) size) at h)
+fault-late s symbols law size e h =
+    page-late (narrow (s .b) symbols) Refusal.Width _ refl
+    (page-late (ltb (at symbols 0) 1024) Refusal.Page _ refl
+    (page-late (leb (at symbols 1) (read.most s)) Refusal.Count _ refl
+    (page-late (read.functions (take (at symbols 1) (drop 2 symbols))) Refusal.Function _ refl
+    (page-late (read.zeros (drop (2 + at symbols 1) symbols)) Refusal.Tail _ refl
+    (λ e′ r. let z : _≡_ {A = ℕ} 0 1 = cc in absurd (omega arith))))))
+    e (rw (law, eq-eqb (length symbols) (infoLength s) size) at h)
+
+read-zeros : (s : Shape) (word : List ℕ) → Lawful s → length word ≡ wordLength s → (e : Refusal) → decodeOf s word ≡ decoded.Refused e
+    → (x : List ℕ) → answer.scratchAfter e x ≡ replicate (length x) 0
+read-zeros s word law size e h = late-zeros e (read-late s word law size e h)
+
+page-zeros : (s : Shape) (symbols : List ℕ) → Lawful s → length symbols ≡ infoLength s → (e : Refusal) → pageOf s symbols ≡ page.Refused e
+    → (x : List ℕ) → answer.scratchAfter e x ≡ replicate (length x) 0
+page-zeros s symbols law size e h = late-zeros e (fault-late s symbols law size e h)
 
 -- ---- the answers
 
 -- the scratch after a page was read, whatever the answer
 page-scratch : (scratch : List ℕ) (number k : ℕ) (a b : Bool)
-    → scratchAfter scratch (cond a (Again number k) (cond b (Refused Refusal.Overflow) (Taken number k))) ≡ replicate (length scratch) 0
+    → outcomeScratch scratch (cond a (Again number k) (cond b (Refused Refusal.Overflow) (Taken number k))) ≡ replicate (length scratch) 0
 unfolding answer.scratchAfter
 page-scratch scratch number k true b = refl
 page-scratch scratch number k false true = refl
@@ -120,6 +136,7 @@ module _ {σ : Session} {word scratch scratch′ : List ℕ} {r : Arrived} where
   unfolding outcomeOf sessionAfter
   arriving-bad o x h = record {
     outcome = h .1 ∙ rw o;
+    values = ap outcomeValues (h .1) ∙ rw o;
     session = h .0 ∙ rw o;
     wordLeft = rw (h .1);
     scratchLeft = rw (h .1) x;
@@ -132,9 +149,10 @@ module _ {σ : Session} {word scratch scratch′ : List ℕ} {r : Arrived} where
   unfolding outcomeOf
   arriving-page {number} {k} {marks} o settled w x = record {
     outcome = settled .outcome ∙ ap (outcomeOf σ) (sym o);
+    values = ap outcomeValues (settled .outcome ∙ ap (outcomeOf σ) (sym o));
     session = settled .session ∙ ap (sessionAfter σ) (sym o);
     wordLeft = w;
-    scratchLeft = x ∙ sym (ap (scratchAfter scratch) (settled .outcome) ∙ page-scratch scratch number k (getD (σ .taken) number false) (overflows (σ .calls) marks));
+    scratchLeft = x ∙ sym (ap (outcomeScratch scratch) (settled .outcome) ∙ page-scratch scratch number k (getD (σ .taken) number false) (overflows (σ .calls) marks));
   }
 
 -- ---- after reading: the page in the gathered symbols
@@ -208,12 +226,12 @@ module _ (σ : Session) {word scratch copied symbols : List ℕ} (lent : Lent (�
   pub read-good : {k : ℕ} → found ≡ decoded.Corrected k → Lent (σ .shape) word scratch left symbols × Restored (σ .shape) word left k
   unfolding restored
   read-good h =
-      let is : left ≡ restored (σ .shape) word = dec .word ∙ ap (decode.wordAfter (σ .shape) loaded) h ∙ ap (restored (σ .shape)) same-word in (
+      let is : left ≡ restored (σ .shape) word = dec .word ∙ ap (decodedWord loaded (restored (σ .shape) loaded)) h ∙ ap (restored (σ .shape)) same-word in (
         record {
           lawful = lent .lawful;
           wordSize = lent .wordSize;
           scratchSize = lent .scratchSize;
-          copySize = ap length is ∙ length-tabulate (wordLength (σ .shape)) (λ j. at word j ⊕ decode.errorAt (σ .shape) (at word) j);
+          copySize = ap length is ∙ mended-size (σ .shape) word (decode.errorAt (σ .shape) (at word));
           symbolsSize = lent .symbolsSize;
         },
         record { answer = the-answer ∙ h; copied = is },

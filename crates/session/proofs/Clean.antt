@@ -6,15 +6,16 @@ use Prim.Native.Nat.{ℕ, _<_}
 use native.Mathlib.Omega.{arith}
 use lib.Dec.{eqb, lit<}
 use lib.ListN.{length}
+use Rattle.gtb.proofs.Answers.{unless-never}
 use Rattle.gtb.specs.declared.Shape.{Shape}
 use Rattle.gtb.specs.declared.Refusal.{Refusal}
 use Rattle.gtb.specs.Shape.{lawful, Lawful, wordLength}
 use Rattle.gtb.specs.Square.{at, narrow}
-use Rattle.gtb.specs.Answer.{refusalNumber}
-use Rattle.decoder.specs.declared.Decoded.{Decoded}
-use Rattle.decoder.specs.declared.Decoded.the-variants.{Refused}
-use Rattle.decoder.specs.Damage.{weight, damaged}
-use Rattle.decoder.specs.Decode.{correctable, unless, decodeOf}
+use Rattle.gtb.specs.Answer.{refusalNumber, unless}
+use Rattle.correction.specs.declared.Decoded.{Decoded}
+use Rattle.correction.specs.declared.Decoded.the-variants.{Refused}
+use Rattle.correction.specs.Error.{weight, damaged}
+use Rattle.decoder.specs.Decode.{correctable, decodeOf}
 use Rattle.decoder.proofs.Meaning.{explains-decode}
 use Rattle.session.specs.declared.Session.{Session}
 use Rattle.session.specs.declared.Outcome.{Outcome}
@@ -26,9 +27,8 @@ use Rattle.session.proofs.Demand.{demand3}
 
 -- a test that turns down by a lower number
 decode-next : (t : Bool) (e : Refusal) (next : Decoded) → refusalNumber e < 9 → (next ≡ Refused Refusal.Overflow → ⊥)
-    → unless t e next ≡ Refused Refusal.Overflow → ⊥
-decode-next true e next l h = h
-decode-next false e next l h = λ r. not-nine e l (cc)
+    → unless t (Refused e) next ≡ Refused Refusal.Overflow → ⊥
+decode-next t e next l = unless-never t (Refused e) next (λ r. not-nine e l (cc))
 
 -- word reading never refuses with 9
 decode-never : (s : Shape) (w : List ℕ) → decodeOf s w ≡ Refused Refusal.Overflow → ⊥

@@ -16,7 +16,7 @@ use Rattle.session.specs.declared.Outcome.{Outcome}
 use Rattle.session.specs.declared.Arrived.{Arrived}
 use Rattle.session.specs.Session.{freshOf, countOf}
 use Rattle.session.specs.Arrival.{Way, Sound, Opened, Page, Bad, outcomeOf, sessionAfter}
-use Rattle.session.specs.Recording.{Sheet, sheetAt, Recording, tally, Arrival, openedAt, Fits, Run, stop, step, hasNumber, come, Machine, start, feed, machine, answerAt, EveryList, isTaken, answerTo, Claim}
+use Rattle.session.specs.Recording.{Sheet, sheetAt, Recording, tally, Arrival, openedAt, Fits, Run, stop, step, hasNumber, come, Machine, emptyMachine, machineStep, machine, answerAt, EveryList, isTaken, answerTo, Claim}
 use Rattle.session.proofs.Machine.{feed-pages, fed-counts, weighed, fed-weight, machine-more}
 use Rattle.session.proofs.Fed.{reply, brought, answersOf, run-answers, run-end, run-reply, every-list}
 use Rattle.session.proofs.Fits.{From, sheet-opened, fits-from, only-recording}
@@ -30,7 +30,7 @@ run-exists way σ (a ∷ rest) =
     let o : Opened = brought way σ a in
     let r : Arrived = record { session = sessionAfter σ o; outcome = outcomeOf σ o } in
     let (answers, end, run) = run-exists way (sessionAfter σ o) rest in
-    (r .outcome ∷ answers, end, step {r = r} (record { outcome = refl; session = refl; wordLeft = refl; scratchLeft = refl }) run)
+    (r .outcome ∷ answers, end, step {r = r} (record { outcome = refl; values = refl; session = refl; wordLeft = refl; scratchLeft = refl }) run)
 
 -- and no other
 pub run-unique : {way : Way} {σ : Session} {arrivals : List Arrival} {answers answers′ : List Outcome} {end end′ : Session}
@@ -56,7 +56,7 @@ gain w m (Page number marks k) = cond (m .pages number) 0 (w (record { number = 
 gain w m (Bad e) = 0
 
 -- the machine's counts gain its marks
-feed-gain : (m : Machine) (o : Opened) (f : ℕ) → feed m o .counts f ≡ m .counts f + gain (λ p. countOf f (p .marks)) m o
+feed-gain : (m : Machine) (o : Opened) (f : ℕ) → machineStep m o .counts f ≡ m .counts f + gain (λ p. countOf f (p .marks)) m o
 feed-gain m (Page number marks k) f = fed-counts m number marks (m .pages number) f
 feed-gain m (Bad e) f = sym (add-zero (m .counts f))
 
@@ -73,7 +73,7 @@ taken-gain m (Bad e) = refl
 
 -- and the recording's pages that have come gain its weight
 total-gain : (s : Shape) (pages : List Sheet) → Recording s pages → (w : Sheet → ℕ) (m : Machine) (o : Opened) → From pages o
-    → total pages w (feed m o .pages) ≡ total pages w (m .pages) + gain w m o
+    → total pages w (machineStep m o .pages) ≡ total pages w (m .pages) + gain w m o
 total-gain s pages r w m (Page number marks k) (i, l, e) =
     fed-weight (length pages) (λ j. sheetAt pages j .number) (λ j. w (sheetAt pages j)) m number marks (m .pages number) refl i l
     (ap (λ (p : Sheet). p .number) e)
@@ -85,7 +85,7 @@ total-gain s pages r w m (Bad e) h = sym (add-zero _)
 
 -- the machine after the first j arrivals
 abbrev held : Way → Shape → List Arrival → ℕ → Machine
-held way s arrivals j = machine way s start (take j arrivals)
+held way s arrivals j = machine way s emptyMachine (take j arrivals)
 
 -- its set: the pages that have come
 held-pages : (way : Way) (s : Shape) (arrivals : List Arrival) (j : ℕ) → j ≤ length arrivals → (p : ℕ)
@@ -93,7 +93,7 @@ held-pages : (way : Way) (s : Shape) (arrivals : List Arrival) (j : ℕ) → j �
 unfolding come
 held-pages way s arrivals zero l p = sym (any-zero (λ j. hasNumber p (openedAt way s arrivals j)))
 held-pages way s arrivals (suc j) l p =
-    ap (λ (m : Machine). m .pages p) (machine-more way s start arrivals j l)
+    ap (λ (m : Machine). m .pages p) (machine-more way s emptyMachine arrivals j l)
     ∙ feed-pages (held way s arrivals j) (openedAt way s arrivals j) p
     ∙ ap (λ (b : Bool). b || hasNumber p (openedAt way s arrivals j)) (held-pages way s arrivals j (le-of-lt l) p)
     ∙ sym (any-suc j (λ i. hasNumber p (openedAt way s arrivals i)))
@@ -110,14 +110,14 @@ module _ (way : Way) (s : Shape) (sound : Sound way s) (pages : List Sheet) (r :
       let o : Opened = openedAt way s arrivals j in
       h j l ∙ ap (λ (x : ℕ). x + gain w m o) (gained w g z h j (le-of-lt l))
       ∙ sym (total-gain s pages r w m o (fits-from way s sound arrivals pages r fits j l))
-      ∙ ap (λ (m′ : Machine). total pages w (m′ .pages)) (sym (machine-more way s start arrivals j l))
+      ∙ ap (λ (m′ : Machine). total pages w (m′ .pages)) (sym (machine-more way s emptyMachine arrivals j l))
 
   -- the machine's counts: the marks of the pages that have come
   held-counts : (f j : ℕ) → j ≤ length arrivals
       → held way s arrivals j .counts f ≡ total pages (λ p. countOf f (p .marks)) (held way s arrivals j .pages)
   held-counts f =
       gained (λ p. countOf f (p .marks)) (λ j. held way s arrivals j .counts f) refl
-      (λ j l. ap (λ (m : Machine). m .counts f) (machine-more way s start arrivals j l) ∙ feed-gain (held way s arrivals j) (openedAt way s arrivals j) f)
+      (λ j l. ap (λ (m : Machine). m .counts f) (machine-more way s emptyMachine arrivals j l) ∙ feed-gain (held way s arrivals j) (openedAt way s arrivals j) f)
 
   -- as a tally, after j arrivals and at the end
   counts-sofar : (f j : ℕ) → j ≤ length arrivals → held way s arrivals j .counts f ≡ tally pages (λ p. come way s arrivals j (p .number)) f
@@ -141,10 +141,10 @@ module _ (way : Way) (s : Shape) (sound : Sound way s) (pages : List Sheet) (r :
   unfolding weighed
   total-end w = sum-cong (length pages) _ _ (λ i l. ap (λ (b : Bool). cond b (w (sheetAt pages i)) 0) (all-come i l))
 
-  counts-end : (f : ℕ) → machine way s start arrivals .counts f ≡ tally pages (λ p. true) f
+  counts-end : (f : ℕ) → machine way s emptyMachine arrivals .counts f ≡ tally pages (λ p. true) f
   unfolding tally
   counts-end f =
-      ap (λ (xs : List Arrival). machine way s start xs .counts f) (sym (take-length arrivals))
+      ap (λ (xs : List Arrival). machine way s emptyMachine xs .counts f) (sym (take-length arrivals))
       ∙ held-counts f (length arrivals) (le-refl (length arrivals)) ∙ total-end (λ p. countOf f (p .marks))
 
   taken-end : (answers : List Outcome) (end : Session) → Run way (freshOf s) arrivals answers end

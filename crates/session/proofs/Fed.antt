@@ -21,7 +21,7 @@ use Rattle.session.specs.declared.Outcome.{Outcome}
 use Rattle.session.specs.declared.Outcome.the-variants.{Taken, Again, Refused}
 use Rattle.session.specs.Session.{freshOf, countOf, added, overflows, recorded}
 use Rattle.session.specs.Arrival.{Way, Sound, Opened, Page, Bad, opened, outcomeOf, sessionBy, sessionAfter}
-use Rattle.session.specs.Recording.{Arrival, openedAt, arrivalAt, TurnedDown, Run, stop, step, Machine, start, fed, feed, machine, Agrees, answerAt, EveryList, answerTo}
+use Rattle.session.specs.Recording.{Arrival, openedAt, arrivalAt, TurnedDown, Run, stop, step, Machine, emptyMachine, machinePage, machineStep, machine, Agrees, answerAt, EveryList, answerTo}
 use Rattle.session.proofs.Machine.{weighed, fed-weight}
 use Rattle.session.proofs.Openings.{Sane, opened-sane}
 
@@ -34,7 +34,7 @@ pub record Grown (s : Shape) (σ : Session) (m : Machine) : Type 0 where
   pub agrees : Agrees σ m
   pub few : (f : ℕ) → m .counts f ≤ weighed 1024 (λ p. p) (λ p. 898) (m .pages)
 
-pub fresh-grown : (s : Shape) → Grown s (freshOf s) start
+pub fresh-grown : (s : Shape) → Grown s (freshOf s) emptyMachine
 unfolding freshOf
 fresh-grown s = record {
   shape = refl;
@@ -93,7 +93,7 @@ taken-after s σ m g number l new p lp =
 -- after a page the session holds what the machine then holds
 grown-by : (s : Shape) (σ : Session) (m : Machine) → Grown s σ m → (number : ℕ) (marks : List ℕ) (k : ℕ) → Sane (Page number marks k)
     → (known : Bool) → m .pages number ≡ known
-    → Grown s (sessionBy σ (Page number marks k) (answerTo known number k)) (fed m number marks known)
+    → Grown s (sessionBy σ (Page number marks k) (answerTo known number k)) (machinePage m number marks known)
 unfolding recorded added
 grown-by s σ m g number marks k sane true h = g
 grown-by s σ m g number marks k sane false h = record {
@@ -109,7 +109,7 @@ grown-by s σ m g number marks k sane false h = record {
 }
 
 -- and after an arrival
-grown-after : (s : Shape) (σ : Session) (m : Machine) → Grown s σ m → (o : Opened) → Sane o → Grown s (sessionAfter σ o) (feed m o)
+grown-after : (s : Shape) (σ : Session) (m : Machine) → Grown s σ m → (o : Opened) → Sane o → Grown s (sessionAfter σ o) (machineStep m o)
 unfolding sessionAfter
 grown-after s σ m g (Page number marks k) sane =
     rw (grown-reply s σ m g (Page number marks k) sane) (grown-by s σ m g number marks k sane (m .pages number) refl)
@@ -145,11 +145,11 @@ module _ (way : Way) (s : Shape) (sound : Sound way s) where
   -- whatever arrives, session and machine go on alike
   grown-arrival : (σ : Session) (m : Machine) → Grown s σ m → (a : Arrival)
       → (outcomeOf σ (brought way σ a) ≡ reply m (opened way s (a .word) (a .scratch)))
-      × Grown s (sessionAfter σ (brought way σ a)) (feed m (opened way s (a .word) (a .scratch)))
+      × Grown s (sessionAfter σ (brought way σ a)) (machineStep m (opened way s (a .word) (a .scratch)))
   grown-arrival σ m g a =
       let o : Opened = opened way s (a .word) (a .scratch) in
       let sane : Sane o = opened-sane way s sound (a .word) (a .scratch) in
-      subst (λ (x : Opened). (outcomeOf σ x ≡ reply m o) × Grown s (sessionAfter σ x) (feed m o))
+      subst (λ (x : Opened). (outcomeOf σ x ≡ reply m o) × Grown s (sessionAfter σ x) (machineStep m o))
       (ap (λ (x : Shape). opened way x (a .word) (a .scratch)) (sym (g .shape)))
       (grown-reply s σ m g o sane, grown-after s σ m g o sane)
 
@@ -180,16 +180,16 @@ reply-refused m (Bad e′) e h = cc
 -- an arrival from a fresh session on is answered as by the machine after those before it
 pub run-reply : (way : Way) (s : Shape) → Sound way s → {arrivals : List Arrival} {answers : List Outcome} {end : Session}
     → Run way (freshOf s) arrivals answers end → (j : ℕ) → j < length arrivals
-    → answerAt answers j ≡ reply (machine way s start (take j arrivals)) (openedAt way s arrivals j)
-run-reply way s sound {arrivals} run j l = rw (run-answers run) (grown-answer way s sound arrivals (freshOf s) start (fresh-grown s) j l)
+    → answerAt answers j ≡ reply (machine way s emptyMachine (take j arrivals)) (openedAt way s arrivals j)
+run-reply way s sound {arrivals} run j l = rw (run-answers run) (grown-answer way s sound arrivals (freshOf s) emptyMachine (fresh-grown s) j l)
 
 pub every-list : (way : Way) (s : Shape) → Lawful s → Sound way s → (arrivals : List Arrival) (answers : List Outcome) (end : Session)
     → Run way (freshOf s) arrivals answers end → EveryList way s arrivals answers end
 every-list way s legal sound arrivals answers end run = record {
-  agrees = rw (run-end run) (grown-end way s sound arrivals (freshOf s) start (fresh-grown s) .agrees);
+  agrees = rw (run-end run) (grown-end way s sound arrivals (freshOf s) emptyMachine (fresh-grown s) .agrees);
   answered = rw (run-answers run) (length-answers way (freshOf s) arrivals);
   refused = refused;
-  turned = λ j l e t. run-reply way s sound run j l ∙ ap (reply (machine way s start (take j arrivals))) (t .by);
+  turned = λ j l e t. run-reply way s sound run j l ∙ ap (reply (machine way s emptyMachine (take j arrivals))) (t .by);
   never = λ j l h.
       subst Sane (refused j l Refusal.Overflow h .by) (opened-sane way s sound (arrivalAt arrivals j .word) (arrivalAt arrivals j .scratch)) refl;
 }

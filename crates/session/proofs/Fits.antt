@@ -13,8 +13,8 @@ use Rattle.gtb.specs.declared.Status.the-variants.{Done}
 use Rattle.gtb.specs.Shape.{Lawful, wordLength, scratchLength}
 use Rattle.gtb.specs.Square.{at}
 use Rattle.gtb.specs.Positions.{extractOf}
-use Rattle.decoder.specs.declared.Decoded.the-variants as decoded
-use Rattle.decoder.specs.Damage.{weight, damaged}
+use Rattle.correction.specs.declared.Decoded.the-variants as decoded
+use Rattle.correction.specs.Error.{weight, damaged}
 use Rattle.page.specs.Page.{writeStatus}
 use Rattle.page.proofs.Pages.{write-read}
 use Rattle.session.specs.Arrival.{Way, Sound, Opened, Page, Bad, openWord, opened}

@@ -10,30 +10,29 @@ use lib.Dec.{eqb}
 use lib.ListN.{length, take}
 use borrow.Author.Tests.{eq-eqb, ne-eqb, eqb-true}
 use Rattle.parity.specs.Count.{sum}
-use Rattle.parity.proofs.Tests.{either}
+use Rattle.parity.proofs.Tests.{either, same-eqb}
 use Rattle.parity.proofs.Sums.{sum-cong, sum-add, sum-only}
 use Rattle.gtb.specs.declared.Shape.{Shape}
-use Rattle.decoder.proofs.Decided.{same-eqb}
 use Rattle.session.specs.Session.{countOf}
 use Rattle.session.specs.Arrival.{Way, Opened, Page, Bad}
-use Rattle.session.specs.Recording.{Arrival, openedAt, hasNumber, Machine, fed, feed, machine}
+use Rattle.session.specs.Recording.{Arrival, openedAt, hasNumber, Machine, machinePage, machineStep, machine}
 
 -- the set after a page: the page, and what it held
 fed-pages : (m : Machine) (number : ℕ) (marks : List ℕ) (known : Bool) → m .pages number ≡ known → (p : ℕ)
-    → fed m number marks known .pages p ≡ (m .pages p || eqb number p)
+    → machinePage m number marks known .pages p ≡ (m .pages p || eqb number p)
 fed-pages m number marks true h p =
     ⊎-elim (λ (t : eqb number p ≡ true). rw (← eqb-true number p t, h)) (λ (f : eqb number p ≡ false). rw f (sym (or-false (m .pages p))))
     (either (eqb number p))
 fed-pages m number marks false h p = ap (λ (b : Bool). m .pages p || b) (same-eqb p number number p sym sym)
 
 -- and after an arrival
-pub feed-pages : (m : Machine) (o : Opened) (p : ℕ) → feed m o .pages p ≡ (m .pages p || hasNumber p o)
+pub feed-pages : (m : Machine) (o : Opened) (p : ℕ) → machineStep m o .pages p ≡ (m .pages p || hasNumber p o)
 feed-pages m (Page number marks k) p = fed-pages m number marks (m .pages number) refl p
 feed-pages m (Bad e) p = sym (or-false (m .pages p))
 
 -- a new page adds its marks
 pub fed-counts : (m : Machine) (number : ℕ) (marks : List ℕ) (known : Bool) (f : ℕ)
-    → fed m number marks known .counts f ≡ m .counts f + cond known 0 (countOf f marks)
+    → machinePage m number marks known .counts f ≡ m .counts f + cond known 0 (countOf f marks)
 fed-counts m number marks true f = sym (add-zero (m .counts f))
 fed-counts m number marks false f = refl
 
@@ -53,10 +52,10 @@ cond-zero false = refl
 -- a new page, the i-th and no other, adds its weight
 pub fed-weight : (n : ℕ) (num w : ℕ → ℕ) (m : Machine) (number : ℕ) (marks : List ℕ) (known : Bool) → m .pages number ≡ known
     → (i : ℕ) → i < n → num i ≡ number → ((j : ℕ) → j < n → num j ≡ number → j ≡ i)
-    → weighed n num w (fed m number marks known .pages) ≡ weighed n num w (m .pages) + cond known 0 (w i)
+    → weighed n num w (machinePage m number marks known .pages) ≡ weighed n num w (m .pages) + cond known 0 (w i)
 unfolding weighed
 fed-weight n num w m number marks known h i l here alone =
-    sum-cong n (λ j. cond (fed m number marks known .pages (num j)) (w j) 0) (λ j. cond (m .pages (num j)) (w j) 0 + new j)
+    sum-cong n (λ j. cond (machinePage m number marks known .pages (num j)) (w j) 0) (λ j. cond (m .pages (num j)) (w j) 0 + new j)
     (λ j lj. ap (λ (b : Bool). cond b (w j) 0) (fed-pages m number marks known h (num j)) ∙ weight-or (m .pages (num j)) (eqb number (num j)) (w j))
     ∙ sum-add n (λ j. cond (m .pages (num j)) (w j) 0) new
     ∙ ap (λ (x : ℕ). sum n (λ j. cond (m .pages (num j)) (w j) 0) + x) (sum-only n i new l others ∙ at-i)
@@ -72,7 +71,7 @@ fed-weight n num w m number marks known h i l here alone =
 
 -- the machine after one more arrival
 pub machine-more : (way : Way) (s : Shape) (m : Machine) (arrivals : List Arrival) (j : ℕ) → j < length arrivals
-    → machine way s m (take (suc j) arrivals) ≡ feed (machine way s m (take j arrivals)) (openedAt way s arrivals j)
+    → machine way s m (take (suc j) arrivals) ≡ machineStep (machine way s m (take j arrivals)) (openedAt way s arrivals j)
 machine-more way s m [] j l = absurd (not-suc-le-zero l)
 machine-more way s m (a ∷ rest) zero l = refl
 machine-more way s m (a ∷ rest) (suc j) l = machine-more way s _ rest j (le-of-suc-le-suc l)

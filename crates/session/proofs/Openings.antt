@@ -7,21 +7,22 @@ use native.Mathlib.Nat.{mul-le-mul}
 use native.Mathlib.Omega.{arith}
 use lib.Dec.{eqb, leb, ltb, lit<}
 use lib.ListN.{length, getD, take, drop}
+use Rattle.gtb.proofs.Answers.{unless-never}
 use Rattle.gtb.specs.declared.Shape.{Shape}
 use Rattle.gtb.specs.declared.Refusal.{Refusal}
 use Rattle.gtb.specs.Shape.{lawful, Lawful, infoLength, wordLength, scratchLength}
 use Rattle.gtb.specs.Square.{narrow}
 use Rattle.gtb.specs.Positions.{extractOf}
-use Rattle.gtb.specs.Answer.{refusalNumber}
+use Rattle.gtb.specs.Answer.{refusalNumber, unless}
 use Rattle.gtb.proofs.Bounds.{bounds}
-use Rattle.decoder.specs.declared.Decoded.{Decoded}
-use Rattle.decoder.specs.declared.Decoded.the-variants as decoded
+use Rattle.correction.specs.declared.Decoded.{Decoded}
+use Rattle.correction.specs.declared.Decoded.the-variants as decoded
 use Rattle.page.specs.declared.PageRead.{PageRead}
 use Rattle.page.specs.declared.PageRead.the-variants as page
 use Rattle.page.specs.Page as pages
 use Rattle.page.specs.Page.{functions, zeros, most, pageOf}
 use Rattle.page.proofs.Pages.{page-facts}
-use Rattle.session.specs.Arrival.{Way, Sound, Opened, Page, Bad, unless, openPage, openWord, opened}
+use Rattle.session.specs.Arrival.{Way, Sound, Opened, Page, Bad, openPage, openWord, opened}
 
 -- a refusal with a lower number is not 9
 pub not-nine : (e : Refusal) → refusalNumber e < 9 → e ≡ Refusal.Overflow → ⊥
@@ -34,9 +35,8 @@ Sane (Bad e) = e ≡ Refusal.Overflow → ⊥
 
 -- a test that turns down by a lower number
 page-next : (t : Bool) (e : Refusal) (next : PageRead) → refusalNumber e < 9 → (next ≡ page.Refused Refusal.Overflow → ⊥)
-    → pages.unless t e next ≡ page.Refused Refusal.Overflow → ⊥
-page-next true e next l h = h
-page-next false e next l h = λ r. not-nine e l (cc)
+    → unless t (page.Refused e) next ≡ page.Refused Refusal.Overflow → ⊥
+page-next t e next l = unless-never t (page.Refused e) next (λ r. not-nine e l (cc))
 
 -- the page reader never refuses with 9
 page-never : (s : Shape) (symbols : List ℕ) → pageOf s symbols ≡ page.Refused Refusal.Overflow → ⊥
@@ -70,7 +70,7 @@ word-sane : (s : Shape) (v : List ℕ) (r : Decoded) → (r ≡ decoded.Refused 
 word-sane s v (decoded.Corrected k) h = page-sane s (extractOf s v) k (pageOf s (extractOf s v)) refl
 word-sane s v (decoded.Refused e) h = λ x. h (ap decoded.Refused x)
 
-unless-sane : (t : Bool) (e : Refusal) (next : Opened) → refusalNumber e < 9 → Sane next → Sane (unless t e next)
+unless-sane : (t : Bool) (e : Refusal) (next : Opened) → refusalNumber e < 9 → Sane next → Sane (unless t (Bad e) next)
 unless-sane true e next l h = h
 unless-sane false e next l h = not-nine e l
 

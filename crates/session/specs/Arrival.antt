@@ -10,10 +10,11 @@ use Rattle.gtb.specs.declared.Refusal.{Refusal}
 use Rattle.gtb.specs.Shape.{lawful, wordLength, scratchLength}
 use Rattle.gtb.specs.Square.{at, Word, Codeword}
 use Rattle.gtb.specs.Positions.{extractOf}
-use Rattle.gtb.specs.Answer as answer
-use Rattle.decoder.specs.declared.Decoded.{Decoded}
-use Rattle.decoder.specs.declared.Decoded.the-variants as decoded
-use Rattle.decoder.specs.Damage.{Unmasked, weight, damaged}
+use Rattle.gtb.specs.Answer.{refusalNumber, unless, scratchAfter}
+use Rattle.correction.specs.declared.Decoded.{Decoded}
+use Rattle.correction.specs.declared.Decoded.the-variants as decoded
+use Rattle.decoder.specs.Damage.{Unmasked}
+use Rattle.correction.specs.Error.{weight, damaged}
 use Rattle.decoder.specs.Decode.{decodeOf, restored}
 use Rattle.page.specs.declared.PageRead.{PageRead}
 use Rattle.page.specs.declared.PageRead.the-variants as page
@@ -28,7 +29,7 @@ use Rattle.session.specs.Session.{overflows, recorded}
 abbrev pub outcomeValues : Outcome → List ℕ
 outcomeValues (Taken number k) = 0 ∷ number ∷ k ∷ []
 outcomeValues (Again number k) = 1 ∷ number ∷ k ∷ []
-outcomeValues (Refused e) = 2 ∷ answer.refusalNumber e ∷ 0 ∷ []
+outcomeValues (Refused e) = 2 ∷ refusalNumber e ∷ 0 ∷ []
 
 -- a way of reading: its answer, the stored word that it gives, and the damage that it is to undo
 pub record Way : Type 1 where
@@ -51,10 +52,6 @@ pub data Opened : Type 0 where
   Page : ℕ → List ℕ → ℕ → Opened
   Bad : Refusal → Opened
 
-abbrev pub unless : Bool → Refusal → Opened → Opened
-unless true e next = next
-unless false e next = Bad e
-
 -- the page in the information symbols
 abbrev pub openPage : Shape → List ℕ → ℕ → PageRead → Opened
 openPage s symbols k (page.Page number c) = Page number (marksOf s symbols) k
@@ -67,8 +64,8 @@ openWord s v (decoded.Refused e) = Bad e
 -- tests 1 to 8: the word is read, its data digits taken out, the page read
 unfoldable pub opened : Way → Shape → List ℕ → List ℕ → Opened
 opened way s word scratch =
-    unless (lawful s) Refusal.Shape
-    (unless (eqb (length word) (wordLength s) && eqb (length scratch) (scratchLength s)) Refusal.Length
+    unless (lawful s) (Bad Refusal.Shape)
+    (unless (eqb (length word) (wordLength s) && eqb (length scratch) (scratchLength s)) (Bad Refusal.Length)
     (openWord s (way .word s word) (way .answer s word)))
 
 -- a marked page is again; then 9
@@ -96,14 +93,16 @@ isAccepted (Refused e) = false
 abbrev pub wordAfter : List ℕ → List ℕ → Outcome → List ℕ
 wordAfter word corrected r = cond (isAccepted r) corrected word
 
-abbrev pub scratchAfter : List ℕ → Outcome → List ℕ
-scratchAfter scratch (Taken p k) = replicate (length scratch) 0
-scratchAfter scratch (Again p k) = replicate (length scratch) 0
-scratchAfter scratch (Refused e) = answer.scratchAfter e scratch
+-- the scratch is zeros after taken and again, and after a refusal what that refusal leaves
+abbrev pub outcomeScratch : List ℕ → Outcome → List ℕ
+outcomeScratch scratch (Taken p k) = replicate (length scratch) 0
+outcomeScratch scratch (Again p k) = replicate (length scratch) 0
+outcomeScratch scratch (Refused e) = scratchAfter e scratch
 
 -- what an arrival answers and leaves
 pub record Arriving (way : Way) (σ : Session) (word scratch word′ scratch′ : List ℕ) (r : Arrived) : Type 0 where
   pub outcome : r .outcome ≡ outcomeOf σ (opened way (σ .shape) word scratch)
+  pub values : outcomeValues (r .outcome) ≡ outcomeValues (outcomeOf σ (opened way (σ .shape) word scratch))
   pub session : r .session ≡ sessionAfter σ (opened way (σ .shape) word scratch)
   pub wordLeft : word′ ≡ wordAfter word (way .word (σ .shape) word) (r .outcome)
-  pub scratchLeft : scratch′ ≡ scratchAfter scratch (r .outcome)
+  pub scratchLeft : scratch′ ≡ outcomeScratch scratch (r .outcome)

@@ -13,7 +13,7 @@ use Rattle.gtb.specs.declared.Status.the-variants.{Done}
 use Rattle.gtb.specs.Shape.{Lawful, scratchLength}
 use Rattle.gtb.specs.Square.{at, Word}
 use Rattle.gtb.specs.Positions.{Encodes}
-use Rattle.decoder.specs.Damage.{weight, damaged}
+use Rattle.correction.specs.Error.{weight, damaged}
 use Rattle.page.specs.Page.{writeStatus, pageSymbols}
 use Rattle.session.specs.declared.Session.{Session}
 use Rattle.session.specs.declared.Outcome.{Outcome}
@@ -107,21 +107,21 @@ pub record Machine : Type 0 where
   pub pages : ℕ → Bool
   pub counts : ℕ → ℕ
 
-abbrev pub start : Machine
-start = record { pages = λ p. false; counts = λ f. 0 }
+abbrev pub emptyMachine : Machine
+emptyMachine = record { pages = λ p. false; counts = λ f. 0 }
 
--- fed a page that is in the set it stays as it is
-abbrev pub fed : Machine → ℕ → List ℕ → Bool → Machine
-fed m number marks true = m
-fed m number marks false = record { pages = λ p. m .pages p || eqb p number; counts = λ f. m .counts f + countOf f marks }
+-- a page that is in the set leaves it as it is
+abbrev pub machinePage : Machine → ℕ → List ℕ → Bool → Machine
+machinePage m number marks true = m
+machinePage m number marks false = record { pages = λ p. m .pages p || eqb p number; counts = λ f. m .counts f + countOf f marks }
 
-abbrev pub feed : Machine → Opened → Machine
-feed m (Page number marks k) = fed m number marks (m .pages number)
-feed m (Bad e) = m
+abbrev pub machineStep : Machine → Opened → Machine
+machineStep m (Page number marks k) = machinePage m number marks (m .pages number)
+machineStep m (Bad e) = m
 
 abbrev pub machine : Way → Shape → Machine → List Arrival → Machine
 machine way s m [] = m
-machine way s m (a ∷ rest) = machine way s (feed m (opened way s (a .word) (a .scratch))) rest
+machine way s m (a ∷ rest) = machine way s (machineStep m (opened way s (a .word) (a .scratch))) rest
 
 -- the session holds what the machine holds
 pub record Agrees (σ : Session) (m : Machine) : Type 0 where
@@ -133,7 +133,7 @@ answerAt answers j = getD answers j (Refused Refusal.Shape)
 
 -- ---- what every list of arrivals from a fresh session on must show
 pub record EveryList (way : Way) (s : Shape) (arrivals : List Arrival) (answers : List Outcome) (end : Session) : Type 0 where
-  pub agrees : Agrees end (machine way s start arrivals)
+  pub agrees : Agrees end (machine way s emptyMachine arrivals)
   pub answered : length answers ≡ length arrivals
   -- refused exactly if what was handed in turns it down, by that number, and never by 9
   pub refused : (j : ℕ) → j < length arrivals → (e : Refusal) → answerAt answers j ≡ Refused e → TurnedDown way s (arrivalAt arrivals j) e

@@ -11,8 +11,9 @@ use Rattle.gtb.specs.declared.Shape.{Shape}
 use Rattle.gtb.specs.declared.Refusal.{Refusal}
 use Rattle.gtb.specs.declared.Status.{Status}
 use Rattle.gtb.specs.declared.Status.the-variants.{Done}
+use Rattle.gtb.specs.declared.Status.the-variants as status
 use Rattle.gtb.specs.Shape.{lawful}
-use Rattle.gtb.specs.Answer as answer
+use Rattle.gtb.specs.Answer.{refusalNumber, statusNumber, unless}
 use Rattle.session.specs.declared.Session.{Session}
 use Rattle.session.specs.declared.Fresh.{Fresh}
 use Rattle.session.specs.declared.Counted.{Counted}
@@ -24,12 +25,13 @@ freshOf s = record { shape = s; taken = replicate 1024 false; calls = replicate 
 
 -- making one tests 1
 unfoldable pub freshStatus : Shape → Status
-freshStatus s = answer.unless (lawful s) Refusal.Shape Done
+freshStatus s = unless (lawful s) (status.Refused Refusal.Shape) Done
 
 -- what making one answers; beside a refusal stands the session of that shape, of use to nobody
 pub record Beginning (s : Shape) (r : Fresh) : Type 0 where
   pub session : r .session ≡ freshOf s
   pub status : r .status ≡ freshStatus s
+  pub number : statusNumber (r .status) ≡ statusNumber (freshStatus s)
 
 -- how many of the marks are for function f
 unfoldable pub countOf : ℕ → List ℕ → ℕ
@@ -49,14 +51,11 @@ unfoldable pub recorded : Session → ℕ → List ℕ → Session
 recorded σ number marks = record { shape = σ .shape; taken = set (σ .taken) number true; calls = added (σ .calls) marks }
 
 -- a count query tests 1, then 7
-abbrev pub unless : Bool → Refusal → Counted → Counted
-unless true e next = next
-unless false e next = Refused e
-
 unfoldable pub countedOf : Session → ℕ → Counted
-countedOf σ f = unless (lawful (σ .shape)) Refusal.Shape (unless (ltb f 256) Refusal.Function (Calls (getD (σ .calls) f 0)))
+countedOf σ f =
+    unless (lawful (σ .shape)) (Refused Refusal.Shape) (unless (ltb f 256) (Refused Refusal.Function) (Calls (getD (σ .calls) f 0)))
 
 -- as one number, a refusal above all counts
 abbrev pub countedNumber : Counted → ℕ
 countedNumber (Calls k) = k
-countedNumber (Refused e) = 2 ^ 32 + answer.refusalNumber e
+countedNumber (Refused e) = 2 ^ 32 + refusalNumber e

@@ -6,7 +6,7 @@ use Prim.Native.Nat.{ℕ, _^_, _<_}
 use lib.ListN.{length, getD}
 use Rattle.gtb.specs.declared.Shape.{Shape}
 use Rattle.gtb.specs.Shape.{Lawful, wordLength, infoLength, scratchLength}
-use Rattle.decoder.specs.declared.Decoded.the-variants.{Corrected}
+use Rattle.correction.specs.declared.Decoded.the-variants.{Corrected}
 use Rattle.decoder.specs.Decode.{decodeOf, restored}
 use Rattle.session.specs.declared.Session.{Session}
 use Rattle.session.specs.declared.Arrived.{Arrived}

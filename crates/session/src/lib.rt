@@ -1,5 +1,7 @@
 // The session: which pages have come, and how often each function was called.
-use decoder::Decoded;
+pub mod number;
+
+use correction::Decoded;
 use gtb::Refusal;
 use gtb::Shape;
 use gtb::Status;
@@ -9,7 +11,8 @@ use gtb::size::word_length;
 use page::PageRead;
 ghost use mathlib.Core.Path.{_≡_};
 ghost use Prim.Native.Nat.{_<_};
-ghost use Rattle.session.specs.Session.{countedOf, Beginning};
+ghost use Rattle.gtb.specs.Answer.{Answered};
+ghost use Rattle.session.specs.Session.{countedOf, countedNumber, Beginning};
 ghost use Rattle.session.specs.Arrival.{clean, Opened, Arriving, isAccepted};
 ghost use Rattle.session.specs.Steps.{Adding, Counts, Functions, Settling, Lent, Restored};
 
@@ -75,7 +78,7 @@ impl Session {
 
     // How often a function was called: tests 1, then 7.
     pub fn count(self, function: u32) -> Counted
-        ensures { λ r. ⌜ r ≡ countedOf self function ⌝ }
+        ensures { λ r. ⌜ Answered countedNumber (countedOf self function) r ⌝ }
     {
         let shape = self.shape;
         if !gtb::is_lawful(shape) {

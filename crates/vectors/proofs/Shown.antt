@@ -6,20 +6,19 @@ use Prim.Native.Nat.{ℕ, _<_}
 use lib.Dec.{eqb}
 use lib.ListN.{length}
 use Rattle.parity.specs.Xor.{_⊕_, xorSum, when}
-use Rattle.parity.specs.Count.{bit, sum, count, any, all}
+use Rattle.parity.specs.Count.{bit, sum, count, any, all, firstValue}
 use Rattle.parity.specs.Lists.{tabulate}
 use Rattle.parity.proofs.Tests.{all-elim, agree}
 use Rattle.gtb.specs.declared.Shape.{Shape}
-use Rattle.gtb.specs.Shape.{orders, isOrder, lawful, Lawful, slopeOf, wordLength}
-use Rattle.gtb.specs.Square.{lineOf, at, narrow, syndrome}
-use Rattle.gtb.specs.Positions.{infoPosition, extractOf, Encodes}
-use Rattle.gtb.proofs.Information.{isInformation}
+use Rattle.gtb.specs.Shape.{shapeOf, orders, isOrder, lawful, Lawful, slopeOf, wordLength}
+use Rattle.gtb.specs.Square.{lineOf, at, narrow, syndrome, silentTest}
+use Rattle.gtb.specs.Positions.{infoPosition, extractOf, Encodes, isInformation}
 use Rattle.gtb.proofs.Positions.{information-positions}
-use Rattle.gtb.proofs.Words.{narrow-word, test-silent, silentTest}
-use Rattle.decoder.specs.Damage.{damaged}
-use Rattle.decoder.specs.Decode.{located, alone, firstValue, errorAt, restored, correctable, decodeOf}
+use Rattle.gtb.proofs.Words.{narrow-word, test-silent}
+use Rattle.correction.specs.Error.{damaged, mended}
+use Rattle.decoder.specs.Decode.{located, alone, errorAt, restored, correctable, decodeOf}
 use Rattle.page.specs.Page.{functions, zeros, pageOf, pageSymbols}
-use Rattle.vectors.specs.Bench.{shape, among, Places, stored, received, Bench}
+use Rattle.vectors.specs.Bench.{among, Places, stored, received, Bench}
 
 -- the places are those of the closed form, by one computed test
 places : (s : Shape) → Lawful s → s .q ≡ 3 → (list : List ℕ) → all 9 (λ j. Bool·beq (among list j) (isInformation s j)) ≡ true → Places s list
@@ -35,24 +34,24 @@ encodes : (s : Shape) (symbols w : List ℕ) → length w ≡ wordLength s → n
 encodes s symbols w size slim quiet info =
     record { codeword = record { word = narrow-word s w size slim; checks = test-silent s (at w) quiet }; information = info }
 
-p1 : (b : ℕ) → Lawful (shape 3 2 b) → Places (shape 3 2 b) (4 ∷ 5 ∷ 7 ∷ 8 ∷ [])
+p1 : (b : ℕ) → Lawful (shapeOf 3 2 b) → Places (shapeOf 3 2 b) (4 ∷ 5 ∷ 7 ∷ 8 ∷ [])
 unfolding any all isInformation
-p1 b law = places (shape 3 2 b) law refl (4 ∷ 5 ∷ 7 ∷ 8 ∷ []) refl
+p1 b law = places (shapeOf 3 2 b) law refl (4 ∷ 5 ∷ 7 ∷ 8 ∷ []) refl
 
-p2 : (b : ℕ) → Lawful (shape 3 3 b) → Places (shape 3 3 b) (7 ∷ 8 ∷ [])
+p2 : (b : ℕ) → Lawful (shapeOf 3 3 b) → Places (shapeOf 3 3 b) (7 ∷ 8 ∷ [])
 unfolding any all isInformation
-p2 b law = places (shape 3 3 b) law refl (7 ∷ 8 ∷ []) refl
+p2 b law = places (shapeOf 3 3 b) law refl (7 ∷ 8 ∷ []) refl
 
 pub bench : Bench
-unfolding silentTest damaged tabulate decodeOf lawful isOrder orders narrow correctable restored errorAt firstValue alone located all any bit sum count syndrome xorSum when lineOf slopeOf _⊕_ extractOf infoPosition pageOf pageSymbols functions zeros
+unfolding silentTest mended damaged tabulate decodeOf lawful isOrder orders narrow correctable restored errorAt firstValue alone located all any bit sum count syndrome xorSum when lineOf slopeOf _⊕_ extractOf infoPosition pageOf pageSymbols functions zeros
 bench = record {
   p1 = p1;
   p2 = p2;
-  p3 = encodes (shape 3 2 3) (3 ∷ 5 ∷ 6 ∷ 7 ∷ []) (7 ∷ 5 ∷ 2 ∷ 6 ∷ 3 ∷ 5 ∷ 1 ∷ 6 ∷ 7 ∷ []) refl refl refl refl;
-  p4 = encodes (shape 3 3 3) (5 ∷ 3 ∷ []) stored refl refl refl refl;
+  p3 = encodes (shapeOf 3 2 3) (3 ∷ 5 ∷ 6 ∷ 7 ∷ []) (7 ∷ 5 ∷ 2 ∷ 6 ∷ 3 ∷ 5 ∷ 1 ∷ 6 ∷ 7 ∷ []) refl refl refl refl;
+  p4 = encodes (shapeOf 3 3 3) (5 ∷ 3 ∷ []) stored refl refl refl refl;
   p5 = (refl, refl);
   p6 = refl;
-  p7 = encodes (shape 3 2 8) (pageSymbols (shape 3 2 8) 1 (3 ∷ 5 ∷ [])) (5 ∷ 2 ∷ 7 ∷ 3 ∷ 1 ∷ 2 ∷ 6 ∷ 3 ∷ 5 ∷ []) refl refl refl refl;
+  p7 = encodes (shapeOf 3 2 8) (pageSymbols (shapeOf 3 2 8) 1 (3 ∷ 5 ∷ [])) (5 ∷ 2 ∷ 7 ∷ 3 ∷ 1 ∷ 2 ∷ 6 ∷ 3 ∷ 5 ∷ []) refl refl refl refl;
   p8 = refl;
   p9 = refl;
   p10 = refl;

@@ -6,11 +6,11 @@ use Rattle.harness.proofs.Answers.{count-length, count-past}
 use Rattle.harness.proofs.harness_count.Statement.{statement}
 use Rattle.harness.proofs.harness_count.Tie as tie
 
-counted-number-requires : tie.Need-counted-number-requires
-counted-number-requires c κs = search needs
+counted-requires : tie.Need-counted-requires
+counted-requires c κs = search needs
 
 returns : tie.Need-returns
-returns c = c .counted-number .ensures ∙ sym (ap countedNumber (count-length _ _ (c .before .if1 .taken)))
+returns c = c .counted .ensures ∙ sym (ap countedNumber (count-length _ _ (c .before .if1 .taken)))
 
 load-requires : tie.Need-load-requires
 load-requires c κs = search needs
@@ -18,24 +18,24 @@ load-requires c κs = search needs
 count-requires : tie.Need-count-requires
 count-requires c κs = search needs
 
-counted-number-requires-2 : tie.Need-counted-number-requires-2
-counted-number-requires-2 c κs = search needs
+counted-requires-2 : tie.Need-counted-requires-2
+counted-requires-2 c κs = search needs
 
 returns-2 : tie.Need-returns-2
 returns-2 c =
     let start = c .before .before .before .before .before in
-    c .counted-number2 .ensures
+    c .counted2 .ensures
     ∙ ap countedNumber
-    (c .before .count .ensures ∙ ap (λ σ. countedOf σ (start .args .function)) (c .before .before .load .ensures)
+    (c .before .count .ensures .answer ∙ ap (λ σ. countedOf σ (start .args .function)) (c .before .before .load .ensures)
     ∙ sym (count-past _ _ (c .before .before .before .if1 .left)))
 
 pub harness-count-spec : {M : Type 1} → statement M
 harness-count-spec =
     tie.close
     (tie.spec
-    counted-number-requires
+    counted-requires
     returns
     load-requires
     count-requires
-    counted-number-requires-2
+    counted-requires-2
     returns-2)

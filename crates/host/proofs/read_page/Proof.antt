@@ -2,7 +2,7 @@
 use mathlib.Core.Path.{sym, ap, _∙_}
 use borrow.Author.Needs.{needs}
 use Rattle.page.specs.Page.{readNumber, pageOf}
-use Rattle.host.proofs.Numbers.{read-fits}
+use Rattle.page.proofs.Pages.{read-fits}
 use Rattle.host.proofs.Words.{page-past}
 use Rattle.host.proofs.read_page.Statement.{statement}
 use Rattle.host.proofs.read_page.Tie as tie
@@ -14,7 +14,7 @@ read-page-requires : tie.Need-read-page-requires
 read-page-requires c κs = search needs
 
 read-requires : tie.Need-read-requires
-read-requires c κs = rw (c .read-page .ensures) (read-fits _ _)
+read-requires c κs = rw (c .read-page .ensures .answer) (read-fits _ _)
 
 same-length : tie.Need-same-length
 same-length c = search needs
@@ -22,7 +22,7 @@ same-length c = search needs
 returns : tie.Need-returns
 returns c =
     let start = c .before .before .before .before .before .before .before .before .before in
-    c .read .ensures ∙ ap readNumber (c .before .read-page .ensures ∙ ap (pageOf (start .args .shape)) (c .before .before .before .before .before .load .ensures) ∙ sym (page-past _ _ (start .pre .0) (start .pre .1)))
+    c .read .ensures ∙ ap readNumber (c .before .read-page .ensures .answer ∙ ap (pageOf (start .args .shape)) (c .before .before .before .before .before .load .ensures) ∙ sym (page-past _ _ (start .pre .0) (start .pre .1)))
 
 pub read-page-spec : {M : Type 1} → statement M
 read-page-spec =

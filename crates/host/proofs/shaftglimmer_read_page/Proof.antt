@@ -5,10 +5,9 @@ use native.Mathlib.Omega.{arith}
 use lib.Seq.{length-take-le}
 use borrow.Author.Tests.{not-true, not-false}
 use borrow.Author.Needs.{needs}
-use Rattle.gtb.specs.Shape.{Lawful}
+use Rattle.gtb.specs.Shape.{Lawful, shapeOf}
 use Rattle.gtb.proofs.Sizes.{sizes}
 use Rattle.page.specs.Page.{readNumber}
-use Rattle.host.specs.Exported.{shapeOf}
 use Rattle.host.proofs.Words.{page-shape, page-length}
 use Rattle.host.proofs.shaftglimmer_read_page.Statement.{statement}
 use Rattle.host.proofs.shaftglimmer_read_page.Tie as tie

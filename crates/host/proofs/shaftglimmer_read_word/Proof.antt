@@ -5,9 +5,8 @@ use native.Mathlib.Omega.{arith}
 use lib.Seq.{length-take-le}
 use borrow.Author.Tests.{not-true, not-false}
 use borrow.Author.Needs.{needs}
-use Rattle.gtb.specs.Shape.{Lawful}
+use Rattle.gtb.specs.Shape.{Lawful, shapeOf}
 use Rattle.gtb.proofs.Sizes.{sizes}
-use Rattle.host.specs.Exported.{shapeOf}
 use Rattle.host.proofs.Words.{word-shape, word-length, word-refused}
 use Rattle.host.proofs.shaftglimmer_read_word.Statement.{statement}
 use Rattle.host.proofs.shaftglimmer_read_word.Tie as tie

@@ -3,7 +3,8 @@ use borrow.Author.Needs.{needs}
 use borrow.Author.Tests.{eq-eqb, ne-eqb, not-true, not-false}
 use mathlib.Core.Path.{sym, _∙_}
 use Rattle.gtb.proofs.Bounds.{bounds}
-use Rattle.page.specs.Page.{pageOf}
+use Rattle.gtb.proofs.Answers.{answered}
+use Rattle.page.specs.Page.{readNumber, pageOf}
 use Rattle.page.proofs.Pages.{sized}
 use Rattle.page.proofs.read_page.Statement.{statement}
 use Rattle.page.proofs.read_page.Tie as tie
@@ -13,7 +14,7 @@ is-lawful-requires c κs = search needs
 
 returns : tie.Need-returns
 unfolding pageOf
-returns c = rw (sym (c .before .is-lawful .ensures) ∙ not-true _ (c .if1 .taken))
+returns c = answered readNumber (rw (sym (c .before .is-lawful .ensures) ∙ not-true _ (c .if1 .taken)))
 
 info-length-requires : tie.Need-info-length-requires
 info-length-requires c κs = sym (c .before .is-lawful .ensures) ∙ not-false _ (c .if1 .left)
@@ -21,10 +22,11 @@ info-length-requires c κs = sym (c .before .is-lawful .ensures) ∙ not-false _
 returns-2 : tie.Need-returns-2
 unfolding pageOf
 returns-2 c =
-    rw (
+    answered readNumber
+    (rw (
       sym (c .before .before .before .is-lawful .ensures) ∙ not-false _ (c .before .before .if1 .left),
       ne-eqb _ _ (λ e. c .if2 .taken (e ∙ sym (c .before .info-length .ensures))),
-    )
+    ))
 
 is-narrow-requires : tie.Need-is-narrow-requires
 is-narrow-requires c κs = bounds _ (sym (c .before .before .before .is-lawful .ensures) ∙ not-false _ (c .before .before .if1 .left)) .b32
@@ -32,11 +34,12 @@ is-narrow-requires c κs = bounds _ (sym (c .before .before .before .is-lawful .
 returns-3 : tie.Need-returns-3
 unfolding pageOf
 returns-3 c =
-    rw (
+    answered readNumber
+    (rw (
       sym (c .before .before .before .before .before .is-lawful .ensures) ∙ not-false _ (c .before .before .before .before .if1 .left),
       eq-eqb _ _ (c .before .before .if2 .left ∙ c .before .before .before .info-length .ensures),
       sym (c .before .is-narrow .ensures) ∙ not-true _ (c .if3 .taken),
-    )
+    ))
 
 read-narrow-requires : tie.Need-read-narrow-requires
 read-narrow-requires c κs = (
@@ -45,7 +48,7 @@ read-narrow-requires c κs = (
 )
 
 returns-4 : tie.Need-returns-4
-returns-4 c = search needs
+returns-4 c = answered readNumber (c .read-narrow .ensures)
 
 pub read-page-spec : {M : Type 1} → statement M
 read-page-spec =

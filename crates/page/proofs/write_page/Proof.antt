@@ -3,7 +3,7 @@ use borrow.Author.Needs.{needs}
 use borrow.Author.Tests.{ne-eqb, not-true, not-false}
 use mathlib.Core.Path.{refl, sym, _∙_}
 use Rattle.page.specs.Page.{writeStatus}
-use Rattle.page.proofs.Pages.{sized, writable}
+use Rattle.page.proofs.Pages.{writing, sized, writable}
 use Rattle.page.proofs.write_page.Statement.{statement}
 use Rattle.page.proofs.write_page.Tie as tie
 
@@ -12,7 +12,7 @@ is-lawful-requires c κs = search needs
 
 returns : tie.Need-returns
 unfolding writeStatus
-returns c = record { answer = rw (sym (c .before .is-lawful .ensures) ∙ not-true _ (c .if1 .taken)); written = refl }
+returns c = writing (rw (sym (c .before .is-lawful .ensures) ∙ not-true _ (c .if1 .taken))) refl
 
 info-length-requires : tie.Need-info-length-requires
 info-length-requires c κs = sym (c .before .is-lawful .ensures) ∙ not-false _ (c .if1 .left)
@@ -20,14 +20,12 @@ info-length-requires c κs = sym (c .before .is-lawful .ensures) ∙ not-false _
 returns-2 : tie.Need-returns-2
 unfolding writeStatus
 returns-2 c =
-    record {
-      answer =
-          rw (
-            sym (c .before .before .before .is-lawful .ensures) ∙ not-false _ (c .before .before .if1 .left),
-            ne-eqb _ _ (λ e. c .if2 .taken (e ∙ sym (c .before .info-length .ensures))),
-          );
-      written = refl;
-    }
+    writing
+    (rw (
+      sym (c .before .before .before .is-lawful .ensures) ∙ not-false _ (c .before .before .if1 .left),
+      ne-eqb _ _ (λ e. c .if2 .taken (e ∙ sym (c .before .info-length .ensures))),
+    ))
+    refl
 
 status-requires : tie.Need-status-requires
 status-requires c κs = sym (c .before .before .before .is-lawful .ensures) ∙ not-false _ (c .before .before .if1 .left)
@@ -53,18 +51,16 @@ same-length c = search needs
 returns-3 : tie.Need-returns-3
 returns-3 c =
     let s = c .before .before .before .before .before .before .before .before .before .before .before .before .before in
-    record {
-      answer = sym (c .before .before .before .before .enum-told .given .1) ∙ c .before .before .before .before .before .before .status .ensures (s .args .symbols .now) (c .before .before .before .before .before .before .before .if2 .left ∙ c .before .before .before .before .before .before .before .before .info-length .ensures);
-      written = c .before .before .fill .ensures;
-    }
+    writing
+    (sym (c .before .before .before .before .enum-told .given .1) ∙ c .before .before .before .before .before .before .status .ensures (s .args .symbols .now) (c .before .before .before .before .before .before .before .if2 .left ∙ c .before .before .before .before .before .before .before .before .info-length .ensures))
+    (c .before .before .fill .ensures)
 
 returns-4 : tie.Need-returns-4
 returns-4 c =
     let s = c .before .before .before .before .before .before .before .before .before .before in
-    record {
-      answer = sym (c .before .e .given .1) ∙ c .before .before .before .status .ensures (s .args .symbols .now) (c .before .before .before .before .if2 .left ∙ c .before .before .before .before .before .info-length .ensures);
-      written = refl;
-    }
+    writing
+    (sym (c .before .e .given .1) ∙ c .before .before .before .status .ensures (s .args .symbols .now) (c .before .before .before .before .if2 .left ∙ c .before .before .before .before .before .info-length .ensures))
+    refl
 
 pub write-page-spec : {M : Type 1} → statement M
 write-page-spec =

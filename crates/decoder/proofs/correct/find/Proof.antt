@@ -5,8 +5,9 @@ use native.Mathlib.Omega.{arith}
 use borrow.Author.Needs.{needs}
 use Rattle.gtb.specs.declared.Shape.{Shape}
 use Rattle.gtb.specs.Shape.{wordLength}
-use Rattle.decoder.specs.Steps.{judged, Listed, Within}
-use Rattle.decoder.proofs.Numbers.{checks-fit}
+use Rattle.decoder.specs.Steps.{judged, Listed}
+use Rattle.correction.specs.Steps.{Within}
+use Rattle.correction.proofs.CheckNumbers.{checks-fit}
 use Rattle.decoder.proofs.Reading.{within, found-many, found-few, found-none}
 use Rattle.decoder.proofs.correct.find.Statement.{statement}
 use Rattle.decoder.proofs.correct.find.Tie as tie

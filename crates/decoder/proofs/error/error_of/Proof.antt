@@ -8,8 +8,8 @@ use native.Mathlib.Nat.{le-antisymm}
 use native.Mathlib.Omega.{arith}
 use borrow.Author.Count.{below-none, below-more}
 use borrow.Author.Needs.{needs}
-use Rattle.decoder.proofs.Numbers.{check-fits}
-use Rattle.decoder.proofs.Private.{first-at, first-none}
+use Rattle.correction.proofs.CheckNumbers.{check-fits}
+use Rattle.parity.proofs.First.{first-at, first-none}
 use Rattle.decoder.proofs.error.error_of.Statement.{statement}
 use Rattle.decoder.proofs.error.error_of.Tie as tie
 

@@ -5,7 +5,7 @@ use native.Mathlib.Nat.{le-antisymm}
 use native.Mathlib.Omega.{arith}
 use borrow.Author.Needs.{needs}
 use Rattle.gtb.proofs.Bounds.{bounds}
-use Rattle.decoder.proofs.Numbers.{check-lt}
+use Rattle.correction.proofs.CheckNumbers.{check-lt}
 use Rattle.decoder.proofs.Shifts.{Loud, loud-none, loud-more, shift-lt, judged-silent, judged-loud}
 use Rattle.decoder.proofs.locate.judge.Statement.{statement}
 use Rattle.decoder.proofs.locate.judge.Tie as tie

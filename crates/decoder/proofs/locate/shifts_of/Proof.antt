@@ -3,9 +3,9 @@ use Prim.Native.Nat.{_-_, _*_, _<_, _≤_}
 use native.Mathlib.Nat.{le-antisymm}
 use native.Mathlib.Omega.{arith}
 use borrow.Author.Needs.{needs}
-use Rattle.gtb.proofs.Bounds.{bounds}
+use Rattle.gtb.proofs.Bounds.{bounds, positive}
 use Rattle.decoder.specs.Steps.{Shifts}
-use Rattle.decoder.proofs.Numbers.{positive, offset-le}
+use Rattle.correction.proofs.CheckNumbers.{offset-le}
 use Rattle.decoder.proofs.Shifts.{shifts-none, shifts-more}
 use Rattle.decoder.proofs.locate.shifts_of.Statement.{statement}
 use Rattle.decoder.proofs.locate.shifts_of.Tie as tie

@@ -5,7 +5,8 @@ use native.Mathlib.Numerals.{add-one}
 use native.Mathlib.Omega.{arith}
 use borrow.Author.Needs.{needs}
 use Rattle.gtb.specs.Shape.{slopeOf}
-use Rattle.gtb.proofs.Slopes.{slope-lt, shiftOf}
+use Rattle.gtb.proofs.Slopes.{slope-lt}
+use Rattle.gtb.specs.Rows.{shiftOf}
 use Rattle.encoder.proofs.interpolation.shift.Statement.{statement}
 use Rattle.encoder.proofs.interpolation.shift.Tie as tie
 

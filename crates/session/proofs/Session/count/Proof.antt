@@ -4,7 +4,8 @@ use Prim.Native.Nat.{suc-le-suc}
 use borrow.Author.Needs.{needs}
 use borrow.Author.Tests.{not-true, not-false, lt-ltb, le-ltb}
 use Rattle.gtb.specs.Shape.{Lawful}
-use Rattle.session.specs.Session.{countedOf}
+use Rattle.gtb.proofs.Answers.{answered}
+use Rattle.session.specs.Session.{countedOf, countedNumber}
 use Rattle.session.proofs.Session.count.Statement.{statement}
 use Rattle.session.proofs.Session.count.Tie as tie
 
@@ -17,11 +18,11 @@ is-lawful-requires c κs = search needs
 
 returns : tie.Need-returns
 unfolding countedOf
-returns c = rw (sym (c .before .is-lawful .ensures) ∙ not-true _ (c .if1 .taken))
+returns c = answered countedNumber (rw (sym (c .before .is-lawful .ensures) ∙ not-true _ (c .if1 .taken)))
 
 returns-2 : tie.Need-returns-2
 unfolding countedOf
-returns-2 c = rw (legal (c .before), le-ltb _ 256 (c .if2 .taken))
+returns-2 c = answered countedNumber (rw (legal (c .before), le-ltb _ 256 (c .if2 .taken)))
 
 mul-t10 : tie.Need-mul-t10
 mul-t10 c = search needs
@@ -31,7 +32,7 @@ array-read-t13 c = search needs
 
 returns-3 : tie.Need-returns-3
 unfolding countedOf
-returns-3 c = rw (legal (c .before .before), lt-ltb _ 256 (suc-le-suc (c .before .if2 .left)))
+returns-3 c = answered countedNumber (rw (legal (c .before .before), lt-ltb _ 256 (suc-le-suc (c .before .if2 .left))))
 
 pub count-spec : {M : Type 1} → statement M
 count-spec =

@@ -1,20 +1,27 @@
 -- `session::Session::fresh` meets its contract: what it makes is a fresh session as it stands, and the test of the shape gives the answer.
-use mathlib.Core.Path.{refl, sym, _∙_}
+use mathlib.Core.Path.{_≡_, refl, sym, ap, _∙_}
 use borrow.Author.Needs.{needs}
-use Rattle.session.specs.Session.{freshOf, freshStatus}
+use Rattle.gtb.specs.declared.Shape.{Shape}
+use Rattle.gtb.specs.Answer.{statusNumber}
+use Rattle.session.specs.declared.Fresh.{Fresh}
+use Rattle.session.specs.Session.{freshOf, freshStatus, Beginning}
 use Rattle.session.proofs.Session.fresh.Statement.{statement}
 use Rattle.session.proofs.Session.fresh.Tie as tie
+
+-- the contract from its two equations
+beginning : {s : Shape} {r : Fresh} → r .session ≡ freshOf s → r .status ≡ freshStatus s → Beginning s r
+beginning session status = record { session = session; status = status; number = ap statusNumber status }
 
 is-lawful-requires : tie.Need-is-lawful-requires
 is-lawful-requires c κs = search needs
 
 returns : tie.Need-returns
 unfolding freshOf freshStatus
-returns c = record { session = refl; status = rw (sym (c .before .is-lawful .ensures) ∙ c .if1 .taken) }
+returns c = beginning refl (rw (sym (c .before .is-lawful .ensures) ∙ c .if1 .taken))
 
 returns-2 : tie.Need-returns-2
 unfolding freshOf freshStatus
-returns-2 c = record { session = refl; status = rw (sym (c .before .is-lawful .ensures) ∙ c .if1 .left) }
+returns-2 c = beginning refl (rw (sym (c .before .is-lawful .ensures) ∙ c .if1 .left))
 
 pub fresh-spec : {M : Type 1} → statement M
 fresh-spec = tie.close (tie.spec is-lawful-requires returns returns-2)

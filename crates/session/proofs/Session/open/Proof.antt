@@ -23,7 +23,7 @@ looked c = record {
   restored = start c .pre .1;
   cleared = clearing c .clear .ensures;
   gathered = gathering c .gather .ensures;
-  page = c .read-page .ensures;
+  page = c .read-page .ensures .answer;
 }
 
 clear-requires : tie.Need-clear-requires

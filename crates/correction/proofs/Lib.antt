@@ -1,0 +1,5 @@
+pub mod CheckNumbers
+pub mod Toggles
+pub mod Silence
+pub mod Errors
+pub mod Tables

@@ -1,0 +1,88 @@
+-- `correction::apply` meets its contract. The loop's invariant is the contract for the first x places.
+use mathlib.Core.Path.{refl}
+use Prim.Native.Nat.{_-_, _<_, _≤_}
+use Rattle.parity.specs.Xor.{_⊕_}
+use Rattle.gtb.specs.Square.{at}
+use Rattle.correction.specs.Steps.{Toggled}
+use native.Mathlib.Nat.{le-antisymm}
+use native.Mathlib.Omega.{arith}
+use lib.ListN.{length}
+use borrow.Author.Needs.{needs}
+use Rattle.correction.proofs.Toggles.{toggled-none, toggled-more}
+use Rattle.correction.proofs.apply.Statement.{statement}
+use Rattle.correction.proofs.apply.Tie as tie
+
+abbrev Inv-loop : tie.InvT-loop
+Inv-loop word₀ places errors count x₀ word x = (x ≤ count) × Toggled x (at places) (at errors) word₀ word
+
+abbrev μ-loop : tie.MeasureT-loop
+μ-loop word₀ places errors count x₀ word x = count - x
+
+loop-holds : tie.Need-loop-holds Inv-loop μ-loop
+loop-holds c = (search needs, toggled-none _ _ _)
+
+-- the lists have 8 entries
+inside : (c : tie.In-loop Inv-loop μ-loop) → c .before .loop .x < 8
+inside c = omega (arith, c .before .before .pre .0)
+
+mul-j : tie.Need-mul-j Inv-loop μ-loop
+mul-j c = omega (arith, inside c)
+
+element-copy-out-j : tie.Need-element-copy-out-j Inv-loop μ-loop
+element-copy-out-j c = inside c
+
+mul-word : tie.Need-mul-word Inv-loop μ-loop
+mul-word c = omega (arith, inside (c .before))
+
+element-copy-out-word : tie.Need-element-copy-out-word Inv-loop μ-loop
+element-copy-out-word c = inside (c .before)
+
+-- the place is in the word
+place : (c : tie.In-loop Inv-loop μ-loop) → at (c .before .before .args .places .now) (c .before .loop .x) < length (c .before .before .args .word .now)
+place c = c .before .before .pre .1 (c .before .loop .x) (c .loop-test .taken)
+
+mul-word-2 : tie.Need-mul-word-2 Inv-loop μ-loop
+mul-word-2 c = omega (arith, place (c .before .before), c .before .before .before .before .good .0 .1)
+
+slice-read-word : tie.Need-slice-read-word Inv-loop μ-loop
+slice-read-word c = rw (c .before .before .before .before .loop .inv .1 .size) (place (c .before .before .before))
+
+slice-write-word : tie.Need-slice-write-word Inv-loop μ-loop
+slice-write-word c = rw (c .before .before .before .before .loop .inv .1 .size) (place (c .before .before .before))
+
+add-x : tie.Need-add-x Inv-loop μ-loop
+add-x c = search needs
+
+loop-less : tie.Need-loop-less Inv-loop μ-loop
+loop-less c = search needs
+
+loop-again : tie.Need-loop-again Inv-loop μ-loop
+unfolding _⊕_
+loop-again c =
+    (search needs, toggled-more (at (c .before .before .before .before .before .args .places .now) (c .before .before .before .before .loop .x)) (c .before .before .before .before .loop .inv .1) refl (place (c .before .before .before)))
+
+same-length : tie.Need-same-length Inv-loop μ-loop
+same-length c = c .before .loop .inv .1 .size
+
+returns : tie.Need-returns Inv-loop μ-loop
+returns c = rw (le-antisymm (c .before .loop .inv .0) (c .loop-test .left)) at (c .before .loop .inv .1)
+
+pub apply-spec : {M : Type 1} → statement M
+apply-spec =
+    tie.close
+    (tie.spec
+    Inv-loop
+    μ-loop
+    loop-holds
+    mul-j
+    element-copy-out-j
+    mul-word
+    element-copy-out-word
+    mul-word-2
+    slice-read-word
+    slice-write-word
+    add-x
+    loop-less
+    loop-again
+    same-length
+    returns)

@@ -1,0 +1,71 @@
+-- `correction::cancel::cancel` meets its contract. The loop's invariant is the contract for the first x places.
+use Prim.Native.Nat.{_-_, _<_, _≤_}
+use Rattle.correction.specs.Steps.{Cancelled}
+use native.Mathlib.Nat.{le-antisymm}
+use native.Mathlib.Omega.{arith}
+use borrow.Author.Needs.{needs}
+use Rattle.correction.proofs.Silence.{cancelled-none, cancelled-more}
+use Rattle.correction.proofs.cancel.cancel.Statement.{statement}
+use Rattle.correction.proofs.cancel.cancel.Tie as tie
+
+abbrev Inv-loop : tie.InvT-loop
+Inv-loop shape syn₀ places errors count x₀ syn x = (x ≤ count) × Cancelled shape x places errors syn₀ syn
+
+abbrev μ-loop : tie.MeasureT-loop
+μ-loop shape syn₀ places errors count x₀ syn x = count - x
+
+loop-holds : tie.Need-loop-holds Inv-loop μ-loop
+loop-holds c = (search needs, cancelled-none _ _ _ _ (c .pre .1))
+
+-- the lists have 8 entries
+inside : (c : tie.After-cancel-one-arg Inv-loop μ-loop) → c .before .before .loop .x < 8
+inside c = omega (arith, c .before .before .before .pre .2 .few)
+
+mul-cancel-one : tie.Need-mul-cancel-one Inv-loop μ-loop
+mul-cancel-one c = omega (arith, inside c)
+
+element-copy-out-cancel-one : tie.Need-element-copy-out-cancel-one Inv-loop μ-loop
+element-copy-out-cancel-one c = inside c
+
+mul-cancel-one-2 : tie.Need-mul-cancel-one-2 Inv-loop μ-loop
+mul-cancel-one-2 c = omega (arith, inside (c .before))
+
+element-copy-out-cancel-one-2 : tie.Need-element-copy-out-cancel-one-2 Inv-loop μ-loop
+element-copy-out-cancel-one-2 c = inside (c .before)
+
+cancel-one-requires : tie.Need-cancel-one-requires Inv-loop μ-loop
+cancel-one-requires c κs =
+    let p = c .before .before .before .before .before .pre in
+    (p .0, c .before .before .before .before .loop .inv .1 .size, p .2 .below (c .before .before .before .before .loop .x) (c .before .before .before .loop-test .taken))
+
+add-x : tie.Need-add-x Inv-loop μ-loop
+add-x c = search needs
+
+loop-less : tie.Need-loop-less Inv-loop μ-loop
+loop-less c = search needs
+
+loop-again : tie.Need-loop-again Inv-loop μ-loop
+loop-again c =
+    let p = c .before .before .before .before .before .before .pre in
+    let l = c .before .before .before .before in
+    (search needs, cancelled-more (p .0) (p .2 .below (l .before .loop .x) (l .loop-test .taken)) (l .before .loop .inv .1) (c .cancel-one .ensures))
+
+returns : tie.Need-returns Inv-loop μ-loop
+returns c = rw (le-antisymm (c .before .loop .inv .0) (c .loop-test .left)) at (c .before .loop .inv .1)
+
+pub cancel-spec : {M : Type 1} → statement M
+cancel-spec =
+    tie.close
+    (tie.spec
+    Inv-loop
+    μ-loop
+    loop-holds
+    mul-cancel-one
+    element-copy-out-cancel-one
+    mul-cancel-one-2
+    element-copy-out-cancel-one-2
+    cancel-one-requires
+    add-x
+    loop-less
+    loop-again
+    returns)

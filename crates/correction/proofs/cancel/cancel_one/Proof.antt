@@ -1,0 +1,74 @@
+-- `correction::cancel::cancel_one` meets its contract. The loop's invariant is the contract for the first t checks.
+use Prim.Native.Nat.{_-_, _<_, _≤_}
+use Rattle.parity.specs.Xor.{_⊕_}
+use Rattle.correction.specs.Steps.{Toggled}
+use Rattle.correction.specs.Error.{checkOf}
+use native.Mathlib.Nat.{le-antisymm}
+use native.Mathlib.Omega.{arith}
+use borrow.Author.Needs.{needs}
+use Rattle.correction.proofs.CheckNumbers.{check-fits}
+use Rattle.correction.proofs.Toggles.{toggled-none, toggled-more}
+use Rattle.correction.proofs.cancel.cancel_one.Statement.{statement}
+use Rattle.correction.proofs.cancel.cancel_one.Tie as tie
+
+abbrev Inv-loop : tie.InvT-loop
+Inv-loop shape syn₀ j error n t₀ syn t = (t ≤ n) × Toggled t (checkOf shape j) (λ u. error) syn₀ syn
+
+abbrev μ-loop : tie.MeasureT-loop
+μ-loop shape syn₀ j error n t₀ syn t = n - t
+
+cast-n : tie.Need-cast-n Inv-loop μ-loop
+cast-n c = search needs
+
+loop-holds : tie.Need-loop-holds Inv-loop μ-loop
+loop-holds c = (search needs, toggled-none _ _ _)
+
+check-number-requires : tie.Need-check-number-requires Inv-loop μ-loop
+check-number-requires c κs = search needs
+
+-- the check is in the table
+inside : (c : tie.After-check-number Inv-loop μ-loop) → c .check-number .result < 248
+inside c =
+    let s = c .before .before .before .before in
+    rw (c .check-number .ensures) (check-fits (s .args .shape) (s .pre .0) (c .before .before .loop .t) (s .args .j) (c .before .loop-test .taken) (s .pre .2))
+
+mul-syn : tie.Need-mul-syn Inv-loop μ-loop
+mul-syn c = omega (arith, inside c)
+
+element-copy-out-syn : tie.Need-element-copy-out-syn Inv-loop μ-loop
+element-copy-out-syn c = inside c
+
+element-write-syn : tie.Need-element-write-syn Inv-loop μ-loop
+element-write-syn c = inside (c .before)
+
+add-t : tie.Need-add-t Inv-loop μ-loop
+add-t c = search needs
+
+loop-less : tie.Need-loop-less Inv-loop μ-loop
+loop-less c = search needs
+
+loop-again : tie.Need-loop-again Inv-loop μ-loop
+unfolding _⊕_
+loop-again c =
+    let s = c .before .before .before .before .before in
+    (search needs, toggled-more (c .before .check-number .result) (c .before .before .before .loop .inv .1) (c .before .check-number .ensures) (rw (s .pre .1) (inside (c .before))))
+
+returns : tie.Need-returns Inv-loop μ-loop
+returns c = rw (le-antisymm (c .before .loop .inv .0) (c .loop-test .left)) at (c .before .loop .inv .1)
+
+pub cancel-one-spec : {M : Type 1} → statement M
+cancel-one-spec =
+    tie.close
+    (tie.spec
+    Inv-loop
+    μ-loop
+    cast-n
+    loop-holds
+    check-number-requires
+    mul-syn
+    element-copy-out-syn
+    element-write-syn
+    add-t
+    loop-less
+    loop-again
+    returns)

@@ -1,0 +1,3 @@
+pub mod Error
+pub mod Answer
+pub mod Steps

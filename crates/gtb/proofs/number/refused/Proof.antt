@@ -1,0 +1,18 @@
+-- `gtb::number::refused` meets its contract: the sum fits.
+use native.Mathlib.Omega.{arith}
+use borrow.Author.Needs.{needs}
+use Rattle.gtb.proofs.Answers.{refusal-small}
+use Rattle.gtb.proofs.number.refused.Statement.{statement}
+use Rattle.gtb.proofs.number.refused.Tie as tie
+
+refusal-requires : tie.Need-refusal-requires
+refusal-requires c κs = search needs
+
+add-result : tie.Need-add-result
+add-result c = omega (arith, refusal-small (c .before .args .e))
+
+returns : tie.Need-returns
+returns c = search needs
+
+pub refused-spec : {M : Type 1} → statement M
+refused-spec = tie.close (tie.spec refusal-requires add-result returns)
