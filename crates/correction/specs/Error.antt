@@ -1,4 +1,4 @@
--- Errors on a word, and the checks on a position (RULES, "Reading a damaged word").
+-- Errors on a word, and the checks on a position (RULES 3).
 use mathlib.Core.Bool.{not}
 use mathlib.Core.List.{List}
 use Prim.Native.Nat.{ℕ, _+_, _*_}

@@ -1,4 +1,4 @@
--- Errors, and what explains a received word (document 01, "Reading a damaged word").
+-- Errors, and what explains a received word (RULES 3).
 use mathlib.Core.Path.{_≡_}
 use mathlib.Core.Bool.{Bool, not}
 use mathlib.Core.List.{List}

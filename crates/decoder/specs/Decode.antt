@@ -1,4 +1,4 @@
--- Reading as an equation, and its contract (document 01, "Reading a damaged word").
+-- Reading as an equation, and its contract (RULES 3).
 use mathlib.Core.Path.{_≡_}
 use mathlib.Core.Bool.{Bool, not, _&&_}
 use mathlib.Core.List.{List}

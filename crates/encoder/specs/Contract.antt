@@ -1,4 +1,4 @@
--- What writing and data extraction give and leave (document 01, "Data places and writing").
+-- What writing and data extraction give and leave (RULES 2).
 use mathlib.Core.Path.{_≡_}
 use mathlib.Core.Bool.{_&&_}
 use mathlib.Core.List.{List}

@@ -1,4 +1,4 @@
--- The information positions are exactly the positions whose column of the check matrix depends on lower ones (document 01, "Data places and writing").
+-- The information positions are exactly the positions whose column of the check matrix depends on lower ones (RULES 2).
 use mathlib.Core.Path.{_≡_, refl, sym, ap, ap₂, _∙_}
 use mathlib.Core.Bool.{Bool, true, false, not, cond}
 use mathlib.Core.Logic.{_↔_, ⊎-elim}

@@ -1,4 +1,4 @@
--- The numbers of the refusals and of the answers that carry no value (document 01, "What is turned down").
+-- The numbers of the refusals and of the answers that carry no value (RULES 6).
 use mathlib.Core.Bool.{Bool, true, false, cond}
 use mathlib.Core.List.{List}
 use mathlib.Core.Path.{_≡_}

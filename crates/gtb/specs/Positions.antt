@@ -1,4 +1,4 @@
--- Information and parity positions (document 01, "Data places and writing").
+-- Information and parity positions (RULES 2).
 use mathlib.Core.Path.{_≡_}
 use mathlib.Core.List.{List}
 use mathlib.Core.Bool.{Bool, true, not, _&&_}

@@ -1,4 +1,4 @@
--- Shapes: order q, directions n, width b (document 01, "The square and its checks").
+-- Shapes: order q, directions n, width b (RULES 1).
 use mathlib.Core.Bool.{Bool, true, not, _&&_}
 use mathlib.Core.List.{List, [], _∷_}
 use mathlib.Core.Path.{_≡_}

@@ -1,4 +1,4 @@
--- Lines, syndromes and codewords (document 01, "The square and its checks"). Position j stands in row j / q, column j % q.
+-- Lines, syndromes and codewords (RULES 1). Position j stands in row j / q, column j % q.
 use mathlib.Core.Path.{_≡_}
 use mathlib.Core.Bool.{Bool}
 use mathlib.Core.List.{List}

@@ -1,9 +1,9 @@
 -- What the entries answer and leave once numbers and u32 slices stand for shapes, answers and sessions.
 use mathlib.Core.Path.{_≡_}
-use mathlib.Core.List.{List}
+use mathlib.Core.List.{List, _++_}
 use Prim.Native.Nat.{ℕ}
 use lib.Dec.{eqb}
-use lib.ListN.{length}
+use lib.ListN.{length, drop}
 use Rattle.gtb.specs.declared.Shape.{Shape}
 use Rattle.gtb.specs.declared.Refusal.{Refusal}
 use Rattle.gtb.specs.declared.Status.{Status}
@@ -11,6 +11,7 @@ use Rattle.gtb.specs.declared.Status.the-variants.{Done}
 use Rattle.gtb.specs.declared.Status.the-variants as status
 use Rattle.gtb.specs.Shape.{lawful}
 use Rattle.gtb.specs.Answer.{statusNumber, unless}
+use Rattle.page.specs.Page.{marksOf}
 use Rattle.session.specs.declared.Session.{Session}
 use Rattle.session.specs.declared.Counted.{Counted}
 use Rattle.session.specs.declared.Counted.the-variants as counted
@@ -26,6 +27,11 @@ pub record Crosses {A : Type 0} (number : A → ℕ) (Promise : A → Type 0) (r
   pub answer : A
   pub holds : Promise answer
   pub crossed : r ≡ number answer
+
+-- the marks are copied to the front of a list as long as the symbols; one of another length is turned down
+pub record MarksCrossing (s : Shape) (symbols marks marks′ : List ℕ) (r : ℕ) : Type 0 where
+  pub right : length marks ≡ length symbols → (r ≡ length (marksOf s symbols)) × (marks′ ≡ marksOf s symbols ++ drop (length (marksOf s symbols)) marks)
+  pub wrong : (length marks ≡ length symbols → ⊥) → (r ≡ statusNumber (status.Refused Refusal.Length)) × (marks′ ≡ marks)
 
 -- a fresh session tests 1, then the length of the slice
 unfoldable pub beginningOf : Shape → List ℕ → Status

@@ -1,4 +1,4 @@
-// Every entry but `page::marks` over numbers and slices of u32, so that a program in another language can try it.
+// Every entry over numbers and slices of u32, so that a program in another language can try it.
 mod crossing;
 
 use crate::crossing::LENGTH;
@@ -19,7 +19,7 @@ ghost use Rattle.correction.specs.Answer.{decodedNumber};
 ghost use Rattle.page.specs.Page.{Writing, readNumber, pageOf};
 ghost use Rattle.session.specs.Session.{countedNumber};
 ghost use Rattle.gtb.specs.Shape.{shapeOf};
-ghost use Rattle.harness.specs.Entries.{Crosses, FreshCrossing, countedIn, ArriveCrossing};
+ghost use Rattle.harness.specs.Entries.{Crosses, MarksCrossing, FreshCrossing, countedIn, ArriveCrossing};
 
 #[no_mangle]
 pub extern "C" fn harness_encode(
@@ -61,6 +61,19 @@ pub extern "C" fn harness_read_page(q: u32, n: u32, b: u32, symbols: &[u32]) -> 
     ensures { λ r. ⌜ r ≡ readNumber (pageOf (shapeOf q n b) (now (symbols .entry))) ⌝ }
 {
     page::number::read(page::read_page(Shape { q, n, b }, symbols))
+}
+
+// The marks, copied to the front of a list as long as the symbols, and how many they are.
+#[no_mangle]
+pub extern "C" fn harness_marks(q: u32, n: u32, b: u32, symbols: &[u32], marks: &mut [u32]) -> u32
+    ensures { λ r. ⌜ MarksCrossing (shapeOf q n b) (now (symbols .entry)) (now (marks .entry)) (now (marks .exit)) r ⌝ }
+{
+    if marks.len() != symbols.len() {
+        return gtb::number::refused(Refusal::Length);
+    }
+    let part = page::marks(Shape { q, n, b }, symbols);
+    gtb::copy(part, marks);
+    part.len() as u32
 }
 
 #[no_mangle]

@@ -1,4 +1,4 @@
--- Symbols as bytes: four a symbol, low byte first (document 01, end of "The tally program").
+-- Symbols as bytes: four a symbol, low byte first (RULES 7).
 use mathlib.Core.List.{List, [], _∷_, _++_}
 use Prim.Native.Nat.{ℕ, _+_, _*_, _/_, _%_}
 use lib.ListN.{getD, take, drop}

@@ -118,6 +118,20 @@ marks-within s symbols number c h =
     let two = sizes s (f .lawful) .least in
     omega arith
 
+-- they are few
+marks-fit : (s : Shape) (symbols : List ℕ) (r : PageRead) → pageOf s symbols ≡ r → (length (marksIn symbols r) ≤ length symbols) × (length (marksIn symbols r) ≤ 898)
+marks-fit s symbols (Page number c) h =
+    let f = page-facts s symbols number c h in
+    let size : length (take c (drop 2 symbols)) ≡ c = ap length (sym (marks-of s symbols number c h)) ∙ f .length in
+    let within = marks-within s symbols number c h in
+    let most = sizes s (f .lawful) .info in
+    (omega (arith, f .size), omega (arith, f .size))
+marks-fit s symbols (Refused e) h = (omega arith, omega arith)
+
+pub marks-few : (s : Shape) (symbols : List ℕ) → (length (marksOf s symbols) ≤ length symbols) × (length (marksOf s symbols) ≤ 898)
+unfolding marksOf
+marks-few s symbols = marks-fit s symbols (pageOf s symbols) refl
+
 -- a page is K symbols long
 pub page-length : (s : Shape) (number : ℕ) (marks : List ℕ) → 2 ≤ infoLength s → length marks ≤ most s → length (pageSymbols s number marks) ≡ infoLength s
 unfolding pageSymbols

@@ -1,4 +1,4 @@
--- The page (document 01, "The page").
+-- The page (RULES 4).
 use mathlib.Core.Path.{_≡_}
 use mathlib.Core.Bool.{Bool}
 use mathlib.Core.List.{List, [], _∷_, _++_}

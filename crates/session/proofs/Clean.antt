@@ -1,4 +1,4 @@
--- Demand 3 for reading as in document 01: clean damage to at most n - 1 digits.
+-- Demand 3 for the clean way of reading: clean damage to at most n - 1 digits.
 use mathlib.Core.Path.{_≡_, refl}
 use mathlib.Core.Bool.{Bool, true, false}
 use mathlib.Core.List.{List}

@@ -1,4 +1,4 @@
--- A recording, the arrivals that fit it, and what must come of them (document 01, "The session"; demand 3).
+-- A recording, the arrivals that fit it, and what must come of them (RULES 5; demand 3 is RULES 12).
 use mathlib.Core.Path.{_≡_}
 use mathlib.Core.Logic.{_⊎_}
 use mathlib.Core.Bool.{Bool, true, false, cond, _||_}

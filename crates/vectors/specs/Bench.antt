@@ -1,4 +1,4 @@
--- P1 to P10 of document 01, and the shapes and marks beside them, in one table.
+-- P1 to P10 (RULES 8), and the shapes and marks beside them, in one table.
 use mathlib.Core.Path.{_≡_}
 use mathlib.Core.Logic.{_↔_}
 use mathlib.Core.Bool.{Bool, true, false}

@@ -1,1 +1,1 @@
-// The bench values of document 01 that are marked for proof, shown of the definitions. No code: specs/ has the table, proofs/ shows it.
+// The bench values P1 to P10 (RULES 8), shown of the definitions. No code: specs/ has the table, proofs/ shows it.
