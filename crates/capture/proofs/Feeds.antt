@@ -3,10 +3,10 @@ use mathlib.Core.Path.{_≡_, refl, sym, ap, _∙_}
 use mathlib.Core.Logic.{⊎-elim}
 use mathlib.Core.Bool.{true, false}
 use mathlib.Core.List.{List, [], _∷_, _++_, append-nil, append-assoc}
-use Prim.Native.Nat.{ℕ, zero, suc, _+_, _-_, _<_}
+use Prim.Native.Nat.{ℕ, suc, _+_, _-_, _<_}
 use native.Mathlib.Nat.{zero-lt-suc}
 use native.Mathlib.Omega.{arith}
-use borrow.Author.Tests.{eqb-true, ne-eqb, eq-eqb}
+use borrow.Author.Tests.{ne-eqb, eq-eqb}
 use lib.Dec.{eqb}
 use lib.ListN.{length, getD, take, drop, length-drop, take-append-drop}
 use lib.Seq.{drop-length, drop-drop, drop-cons, getD-take, getD-drop, length-take-le}
@@ -18,7 +18,7 @@ use Rattle.capture.specs.declared.Tally.{Tally}
 use Rattle.capture.specs.declared.Judged.{Judged}
 use Rattle.capture.specs.Output.{answerText}
 use Rattle.capture.specs.Judge.{passed, judgedOf}
-use Rattle.capture.specs.Feed.{Fed, after, feed, closing, closingIn}
+use Rattle.capture.specs.Feed.{Fed, after, feed, closing}
 
 -- ---- one byte more
 pub feed-none : (t : Tally) (held : List ℕ) → feed t held [] ≡ record { tally = t; held = held; text = [] }

@@ -1,15 +1,15 @@
 -- One line judged: the cases of the definitions.
 use mathlib.Core.Path.{_≡_, refl, sym, ap, _∙_}
 use mathlib.Core.Logic.{⊎-elim}
-use mathlib.Core.Bool.{Bool, true, false, cond, _&&_}
+use mathlib.Core.Bool.{Bool, true, false, _&&_}
 use mathlib.Core.List.{List, [], _++_}
 use Prim.Native.Nat.{ℕ, _≤_, _<_}
 use native.Mathlib.Omega.{arith}
 use borrow.Author.Tests.{lt-ltb, le-ltb, ne-eqb, eq-eqb, leb-true, leb-false}
-use lib.Dec.{eqb, ltb, leb}
+use lib.Dec.{eqb, leb}
 use lib.ListN.{length, getD, take, drop, replicate, length-replicate, length-append, length-drop}
 use lib.Seq.{length-take-le, getD-take, ext-getD}
-use Rattle.parity.proofs.Tests.{either, and-no-left}
+use Rattle.parity.proofs.Tests.{either}
 use Rattle.gtb.specs.declared.Shape.{Shape}
 use Rattle.gtb.specs.declared.Refusal.{Refusal}
 use Rattle.gtb.specs.declared.Status.{Status}
@@ -19,23 +19,23 @@ use Rattle.gtb.specs.Answer as answer
 use Rattle.gtb.proofs.Sizes.{sizes}
 use Rattle.lines.specs.Text.{sameBytes, namesShape, namesWord}
 use Rattle.lines.specs.Content.{Content, Spelled, Unreadable, contentOf}
-use Rattle.lines.specs.Parse.{Holds}
+use Rattle.lines.specs.Parse.{Stored}
 use Rattle.lines.proofs.Same.{differ-same}
-use Rattle.lines.proofs.Contents.{content-spelled, content-none}
+use Rattle.lines.proofs.Contents.{content-spelled}
 use Rattle.session.specs.declared.Session.{Session}
 use Rattle.session.specs.Session.{freshOf, freshStatus}
 use Rattle.session.specs.declared.Arrived.{Arrived}
 use Rattle.session.specs.declared.Outcome.{Outcome}
 use Rattle.session.specs.declared.Outcome.the-variants.{Refused}
 use Rattle.session.specs.declared.Outcome.the-variants as outcome
-use Rattle.session.specs.Arrival.{clean, Opened, opened, unless, outcomeOf, sessionAfter, scratchAfter, Arriving}
+use Rattle.session.specs.Arrival.{clean, opened, unless, outcomeOf, sessionAfter, scratchAfter, Arriving}
 use Rattle.host.specs.Exported.{shapeOf}
 use Rattle.capture.specs.declared.Phase.{Phase}
 use Rattle.capture.specs.declared.Phase.the-variants.{ShapeNames, ShapeValues, WordNames, Words, Ended}
 use Rattle.capture.specs.declared.Tally.{Tally}
-use Rattle.capture.specs.declared.Answer.the-variants.{Silent, Line}
+use Rattle.capture.specs.declared.Answer.the-variants.{Line}
 use Rattle.capture.specs.declared.Judged.{Judged}
-use Rattle.capture.specs.Judge.{lineContent, passed, fault, named, begun, shaped, shapeIn, worded, broughtBy, arrived, judgedIn, judgedOf}
+use Rattle.capture.specs.Judge.{lineContent, passed, fault, named, begun, shaped, worded, broughtBy, arrived, judgedIn, judgedOf}
 use Rattle.capture.specs.Steps.{Room}
 
 -- ---- lines by length
@@ -83,7 +83,7 @@ begun-refused σ s st e h p = rw h p
 pub shaped-none : (σ : Session) (c : Content) {r : Judged} → c ≡ Unreadable → r ≡ fault σ Refusal.Syntax → r ≡ shaped σ c
 shaped-none σ c h e = rw h e
 
-module _ (σ : Session) {line stored : List ℕ} {count : ℕ} (h : Holds line stored count) where
+module _ (σ : Session) {line stored : List ℕ} {count : ℕ} (h : Stored line stored count) where
   says : contentOf line ≡ Spelled (h .values)
   says = content-spelled line (h .values) (h .spelled)
 
@@ -148,7 +148,7 @@ cut-few l e = record { few = λ _. e; many = λ m. absurd (omega arith); most = 
 pub cut-many : {count size : ℕ} → 1024 ≤ count → size ≡ 1024 → Cut count size
 cut-many l e = record { few = λ m. omega arith; many = λ _. e; most = omega arith }
 
-pub worded-arrived : (σ : Session) {line stored : List ℕ} {count size room : ℕ} → Holds line stored count → length stored ≡ 1024 → Cut count size → Room (σ .shape) room
+pub worded-arrived : (σ : Session) {line stored : List ℕ} {count size room : ℕ} → Stored line stored count → length stored ≡ 1024 → Cut count size → Room (σ .shape) room
     → (scratch : List ℕ) → length scratch ≡ 7688 → {word′ scratch′ : List ℕ} {a : Arrived} → Arriving clean σ (take size stored) (take room scratch) word′ scratch′ a
     → record { tally = record { phase = Words; session = a .session }; answer = Line (a .outcome) } ≡ worded σ (contentOf line)
 unfolding arrived

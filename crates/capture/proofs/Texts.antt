@@ -27,7 +27,7 @@ use Rattle.capture.specs.declared.Phase.the-variants.{Words}
 use Rattle.capture.specs.declared.Tally.{Tally}
 use Rattle.capture.specs.Output.{refusedLine, callsFrom, callsText}
 use Rattle.capture.specs.Feed.{closing, closingIn}
-use Rattle.capture.specs.Steps.{Appended, Holds, Closed}
+use Rattle.capture.specs.Steps.{Appended, LineSoFar, Closed}
 
 -- a text written over the output that waits stands at its end
 pub put-appended : {old text new : List ℕ} {at r : ℕ} → at + length text ≤ length old → Put old at text new r → Appended old at text new r
@@ -136,7 +136,7 @@ pub closed-by : {t : Tally} {whole : Bool} {old text new : List ℕ} {r : ℕ} �
 closed-by text p = record { output = λ line same. p .front ∙ sym (text line same); within = appended-within (omega arith) p }
 
 -- the line so far is empty when nothing is held
-pub held-none : {buffer line : List ℕ} {held : ℕ} → Holds buffer held line → eqb held 0 ≡ eqb (length line) 0
+pub held-none : {buffer line : List ℕ} {held : ℕ} → LineSoFar buffer held line → eqb held 0 ≡ eqb (length line) 0
 held-none {buffer} {line} {held} h =
     ⊎-elim
     (λ s. rw (← h .kept (ltb-true held 16384 s), length-take-le held buffer (omega (arith, ltb-true held 16384 s, h .size))))

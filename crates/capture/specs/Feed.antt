@@ -1,5 +1,4 @@
--- The program over its whole input (document 01, "The tally program"), byte by byte: the bytes since the last newline are held.
-use mathlib.Core.Path.{_≡_}
+-- The program over its whole input (RULES, "The tally program"), byte by byte: the bytes since the last newline are held.
 use mathlib.Core.Bool.{Bool, true, false, cond}
 use mathlib.Core.List.{List, [], _∷_, _++_}
 use Prim.Native.Nat.{ℕ, _-_, _^_}

@@ -1,4 +1,4 @@
--- The program's answers as text (document 01, "The tally program").
+-- The program's answers as text (RULES, "The tally program").
 use mathlib.Core.Bool.{cond}
 use mathlib.Core.List.{List, [], _∷_, _++_}
 use Prim.Native.Nat.{ℕ, suc}
@@ -9,7 +9,7 @@ use Rattle.session.specs.declared.Outcome.{Outcome}
 use Rattle.session.specs.declared.Outcome.the-variants.{Refused}
 use Rattle.session.specs.Arrival.{outcomeValues}
 use Rattle.capture.specs.declared.Answer.{Answer}
-use Rattle.capture.specs.declared.Answer.the-variants.{Silent, Line}
+use Rattle.capture.specs.declared.Answer.the-variants.{Nothing, Line}
 
 -- a line of three values
 abbrev pub valuesText : List ℕ → List ℕ
@@ -23,7 +23,7 @@ unfoldable pub outcomeLine : Outcome → List ℕ
 outcomeLine r = valuesText (outcomeValues r)
 
 abbrev pub answerText : Answer → List ℕ
-answerText Silent = []
+answerText Nothing = []
 answerText (Line r) = outcomeLine r
 
 abbrev pub refusedLine : Refusal → List ℕ

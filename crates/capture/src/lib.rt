@@ -30,7 +30,7 @@ pub struct Tally {
 
 // What a line is answered with: nothing, or a line of output.
 pub enum Answer {
-    Silent,
+    Nothing,
     Line(Outcome),
 }
 

@@ -1,4 +1,4 @@
-// The house text form (document 01, "The tally program"): one line of input to numbers, one answer to bytes.
+// The house text form (RULES, "The tally program"): one line of input to numbers, one answer to bytes.
 ghost use mathlib.Core.Path.{_≡_};
 ghost use mathlib.Core.List.{[], _∷_};
 ghost use Prim.Native.Nat.{_+_, _≤_};
