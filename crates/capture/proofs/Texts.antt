@@ -20,12 +20,15 @@ use Rattle.parity.proofs.Tests.{either}
 use Rattle.lines.specs.Text.{countText, outcomeText, Put, pasted}
 use Rattle.lines.proofs.Decimals.{at-most-ten}
 use Rattle.lines.proofs.Pasting.{name-length}
+use Rattle.session.specs.declared.Outcome.{Outcome}
+use Rattle.session.specs.declared.Outcome.the-variants.{Taken, Again, Refused}
+use Rattle.session.specs.Arrival.{outcomeValues}
 use Rattle.session.specs.Steps.{Counts}
 use Rattle.session.proofs.Arrays.{counts}
 use Rattle.capture.specs.declared.Phase.{Phase}
 use Rattle.capture.specs.declared.Phase.the-variants.{Words}
 use Rattle.capture.specs.declared.Tally.{Tally}
-use Rattle.capture.specs.Output.{refusedLine, callsFrom, callsText}
+use Rattle.capture.specs.Output.{outcomeLine, refusedLine, callsFrom, callsText}
 use Rattle.capture.specs.Feed.{closing, closingIn}
 use Rattle.capture.specs.Steps.{Appended, LineSoFar, Closed}
 
@@ -60,6 +63,13 @@ appended-within {old} {text} {new} {at} {r} l p =
     omega arith
 
 -- ---- the lines of the output
+-- the line of an outcome has its three values
+pub outcome-values : (r : Outcome) → outcomeLine r ≡ outcomeText (getD (outcomeValues r) 0 0) (getD (outcomeValues r) 1 0) (getD (outcomeValues r) 2 0)
+unfolding outcomeLine
+outcome-values (Taken number k) = refl
+outcome-values (Again number k) = refl
+outcome-values (Refused e) = refl
+
 pub count-short : (function calls : ℕ) → function < 2 ^ 32 → calls < 2 ^ 32 → length (countText function calls) ≤ 22
 unfolding countText
 count-short function calls l m = simp length-append (omega (arith, at-most-ten function l, at-most-ten calls m))
