@@ -1,17 +1,18 @@
 -- However the input is cut into blocks, what is written is the output of the whole.
 use mathlib.Core.Path.{_≡_, refl, sym, ap, _∙_, subst}
+use mathlib.Core.Bool.{true}
 use mathlib.Core.List.{List, [], _++_}
-use Prim.Native.Nat.{ℕ, _-_, _^_, _≤_}
+use Prim.Native.Nat.{ℕ, _+_, _-_, _≤_}
 use native.Mathlib.Omega.{arith}
 use lib.ListN.{length, take}
-use lib.Seq.{take-all}
+use lib.Seq.{take-all, take-append-add}
 use Rattle.lines.specs.Text.{namesOutcome}
 use Rattle.capture.specs.declared.Tally.{Tally}
 use Rattle.capture.specs.declared.Reader.{Reader}
-use Rattle.capture.specs.Feed.{start, Fed, feed, closing, written, outputOf}
+use Rattle.capture.specs.Feed.{start, isEnded, Fed, feed, closing, written, readLimit, outputOf}
 use Rattle.capture.specs.Steps.{LineSoFar, Finished}
 use Rattle.capture.specs.Whole.{BlockRun, None, Block, joined}
-use Rattle.capture.proofs.Feeds.{feed-none, feed-append}
+use Rattle.capture.proofs.Feeds.{feed-none, feed-append, ended-rest}
 
 -- what a run leads to
 record Leads (fed : Fed) (text : List ℕ) (r : Reader) (buffer : List ℕ) : Type 0 where
@@ -35,15 +36,29 @@ leads (Block r r₁ r₂ buffer buffer₁ buffer₂ block text rest blocks t run
     })
 
 -- from the beginning on, with the closing at the end
-pub whole-output : {r r₂ : Reader} {buffer buffer₂ text out : List ℕ} {k : ℕ} (blocks : List (List ℕ)) → r .tally ≡ start → r .held ≡ 0 → length buffer ≡ 16384
-    → BlockRun r buffer blocks text r₂ buffer₂ → Finished r₂ out k → length (joined blocks) ≤ 2 ^ 32 - 1
-    → namesOutcome ++ text ++ take k out ≡ outputOf (joined blocks)
-unfolding outputOf
-whole-output {r} {r₂} {buffer} {buffer₂} {text} {out} {k} blocks first empty full run end few =
-    let l = leads run [] (record { size = full; kept = λ _. ap (λ (n : ℕ). take n buffer) empty; long = λ m. absurd (omega arith) }) in
-    let fed = feed (r .tally) [] (joined blocks) in
-    let begun : feed (r .tally) [] (joined blocks) ≡ feed start [] (take (2 ^ 32 - 1) (joined blocks)) =
-    ap (λ (t : Tally). feed t [] (joined blocks)) first ∙ ap (feed start []) (sym (take-all (2 ^ 32 - 1) (joined blocks) few)) in
-    ap (λ (x : List ℕ). namesOutcome ++ x ++ take k out) (l .output)
-    ∙ ap (λ (x : List ℕ). namesOutcome ++ fed .text ++ x) (end .output buffer₂ (fed .held) (l .held) ∙ ap (λ (t : Tally). closing t (fed .held)) (l .tally))
-    ∙ ap written begun
+module _ {r r₂ : Reader} {buffer buffer₂ text out : List ℕ} {k : ℕ} (blocks : List (List ℕ)) (first : r .tally ≡ start) (empty : r .held ≡ 0) (full : length buffer ≡ 16384)
+    (run : BlockRun r buffer blocks text r₂ buffer₂) (end : Finished r₂ out k) (few : length (joined blocks) ≤ readLimit) where
+  begun : Leads (feed start [] (joined blocks)) text r₂ buffer₂
+  begun =
+      rw first at
+      (leads run [] (record { size = full; kept = λ _. ap (λ (n : ℕ). take n buffer) empty; long = λ m. absurd (omega arith) }))
+
+  fed-output : namesOutcome ++ text ++ take k out ≡ written (feed start [] (joined blocks))
+  fed-output =
+      let fed = feed start [] (joined blocks) in
+      ap (λ (x : List ℕ). namesOutcome ++ x ++ take k out) (begun .output)
+      ∙ ap (λ (x : List ℕ). namesOutcome ++ fed .text ++ x) (end .output buffer₂ (fed .held) (begun .held) ∙ ap (λ (t : Tally). closing t (fed .held)) (begun .tally))
+
+  pub whole-output : namesOutcome ++ text ++ take k out ≡ outputOf (joined blocks)
+  unfolding outputOf
+  whole-output = fed-output ∙ ap (λ (x : List ℕ). written (feed start [] x)) (sym (take-all readLimit (joined blocks) few))
+
+  -- where a fault was answered, that is the output of the whole input, whatever bytes follow
+  pub ended-output : isEnded (r₂ .tally .phase) ≡ true → (rest : List ℕ) → namesOutcome ++ text ++ take k out ≡ outputOf (joined blocks ++ rest)
+  unfolding outputOf
+  ended-output fault rest =
+      let left = readLimit - length (joined blocks) in
+      let all : length (joined blocks) + left ≡ readLimit = omega arith in
+      fed-output
+      ∙ sym (ended-rest (joined blocks) (take left rest) (rw (begun .tally) at fault))
+      ∙ ap (λ (x : List ℕ). written (feed start [] x)) (sym (take-append-add (joined blocks) rest left) ∙ ap (λ (n : ℕ). take n (joined blocks ++ rest)) all)

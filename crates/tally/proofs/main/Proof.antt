@@ -47,6 +47,9 @@ returns c = search needs
 begin-requires : tie.Need-begin-requires Inv-loop μ-loop
 begin-requires c κs = search needs
 
+limit-requires : tie.Need-limit-requires Inv-loop μ-loop
+limit-requires c κs = search needs
+
 loop-holds : tie.Need-loop-holds Inv-loop μ-loop
 loop-holds c = search needs
 
@@ -154,6 +157,7 @@ main-spec =
     write-all-requires
     returns
     begin-requires
+    limit-requires
     loop-holds
     has-ended-requires
     wanted-requires
