@@ -1,3 +1,4 @@
+-- `capture::append` meets its contract: the line was too long, is now, or is not.
 use Rattle.capture.proofs.Frames.{extended-long, extended-over, extended-put}
 use borrow.Author.Needs.{needs}
 use Rattle.capture.proofs.append.Statement.{statement}

@@ -1,3 +1,4 @@
+-- `capture::begin` meets its contract.
 use mathlib.Core.Path.{refl, ap}
 use Rattle.session.specs.declared.Session.{Session}
 use Rattle.capture.specs.declared.Phase.the-variants.{ShapeNames}

@@ -1,3 +1,4 @@
+-- `capture::end_line` meets its contract: of a line too long nothing is judged.
 use mathlib.Core.Path.{sym}
 use mathlib.Core.Logic.{⊎-elim}
 use native.Mathlib.Omega.{arith}

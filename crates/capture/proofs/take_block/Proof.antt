@@ -1,3 +1,4 @@
+-- `capture::take_block` meets its contract. The loop's invariant, `Reading`: what is left of the block leads to the same end.
 use mathlib.Core.Path.{refl}
 use Prim.Native.Nat.{_-_}
 use native.Mathlib.Nat.{le-refl}

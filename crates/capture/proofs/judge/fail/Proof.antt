@@ -1,3 +1,4 @@
+-- `capture::judge::fail` meets its contract.
 use mathlib.Core.Path.{refl}
 use Rattle.capture.specs.Judge.{fault}
 use Rattle.capture.proofs.judge.fail.Statement.{statement}

@@ -1,3 +1,4 @@
+-- `capture::judge::judge` meets its contract, phase by phase.
 use Rattle.capture.proofs.Judges.{judged-shape-names, judged-shape-values, judged-word-names, judged-words, judged-ended}
 use borrow.Author.Needs.{needs}
 use Rattle.capture.proofs.judge.judge.Statement.{statement}

@@ -1,3 +1,4 @@
+-- `capture::judge::pass` meets its contract.
 use mathlib.Core.Path.{refl}
 use Rattle.capture.specs.Judge.{passed}
 use Rattle.capture.proofs.judge.pass.Statement.{statement}

@@ -1,3 +1,4 @@
+-- `capture::judge::room_for` meets its contract.
 use mathlib.Core.Path.{sym, _∙_}
 use native.Mathlib.Omega.{arith}
 use Rattle.parity.proofs.Tests.{clash}

@@ -1,3 +1,4 @@
+-- `capture::judge::start_session` meets its contract.
 use mathlib.Core.Path.{sym, ap, _∙_}
 use Rattle.capture.specs.Judge.{passed}
 use Rattle.capture.proofs.Judges.{begun-done, begun-refused}

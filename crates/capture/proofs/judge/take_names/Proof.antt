@@ -1,3 +1,4 @@
+-- `capture::judge::take_names` meets its contract.
 use Rattle.capture.proofs.Judges.{named-yes, named-no}
 use borrow.Author.Needs.{needs}
 use Rattle.capture.proofs.judge.take_names.Statement.{statement}

@@ -1,3 +1,4 @@
+-- `capture::judge::take_shape` meets its contract: the values that are stored are those of the line.
 use Rattle.lines.proofs.Contents.{content-none}
 use Rattle.capture.proofs.Judges.{shaped-none, shaped-other, shaped-three}
 use borrow.Author.Needs.{needs}

@@ -1,3 +1,4 @@
+-- `capture::judge::take_word` meets its contract: the values that are stored arrive.
 use mathlib.Core.Path.{sym}
 use mathlib.Core.Logic.{⊎-elim}
 use native.Mathlib.Omega.{arith}
