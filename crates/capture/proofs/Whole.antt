@@ -5,7 +5,7 @@ use mathlib.Core.List.{List, [], _++_}
 use Prim.Native.Nat.{ℕ, _+_, _-_, _≤_}
 use native.Mathlib.Omega.{arith}
 use lib.ListN.{length, take}
-use lib.Seq.{take-all, take-append-add}
+use lib.Seq.{take-all, take-append-add, take-at}
 use Rattle.lines.specs.Text.{namesOutcome}
 use Rattle.capture.specs.declared.Tally.{Tally}
 use Rattle.capture.specs.declared.Reader.{Reader}
@@ -35,7 +35,7 @@ leads (Block r r₁ r₂ buffer buffer₁ buffer₂ block text rest blocks t run
       output = ap (λ (x : List ℕ). x ++ rest) (t .wrote ∙ f .output) ∙ ap (λ (x : List ℕ). fed .text ++ x) (l .output ∙ ap (λ (x : Fed). x .text) same);
     })
 
--- from the beginning on, with the closing at the end
+-- from the beginning on, with the closing at the end, in each way in which the program stops reading
 module _ {r r₂ : Reader} {buffer buffer₂ text out : List ℕ} {k : ℕ} (blocks : List (List ℕ)) (first : r .tally ≡ start) (empty : r .held ≡ 0) (full : length buffer ≡ 16384)
     (run : BlockRun r buffer blocks text r₂ buffer₂) (end : Finished r₂ out k) (few : length (joined blocks) ≤ readLimit) where
   begun : Leads (feed start [] (joined blocks)) text r₂ buffer₂
@@ -49,6 +49,7 @@ module _ {r r₂ : Reader} {buffer buffer₂ text out : List ℕ} {k : ℕ} (blo
       ap (λ (x : List ℕ). namesOutcome ++ x ++ take k out) (begun .output)
       ∙ ap (λ (x : List ℕ). namesOutcome ++ fed .text ++ x) (end .output buffer₂ (fed .held) (begun .held) ∙ ap (λ (t : Tally). closing t (fed .held)) (begun .tally))
 
+  -- where the input ended
   pub whole-output : namesOutcome ++ text ++ take k out ≡ outputOf (joined blocks)
   unfolding outputOf
   whole-output = fed-output ∙ ap (λ (x : List ℕ). written (feed start [] x)) (sym (take-all readLimit (joined blocks) few))
@@ -62,3 +63,8 @@ module _ {r r₂ : Reader} {buffer buffer₂ text out : List ℕ} {k : ℕ} (blo
       fed-output
       ∙ sym (ended-rest (joined blocks) (take left rest) (rw (begun .tally) at fault))
       ∙ ap (λ (x : List ℕ). written (feed start [] x)) (sym (take-append-add (joined blocks) rest left) ∙ ap (λ (n : ℕ). take n (joined blocks ++ rest)) all)
+
+  -- and so it is where the limit was reached
+  pub limit-output : length (joined blocks) ≡ readLimit → (rest : List ℕ) → namesOutcome ++ text ++ take k out ≡ outputOf (joined blocks ++ rest)
+  unfolding outputOf
+  limit-output all rest = fed-output ∙ ap (λ (x : List ℕ). written (feed start [] x)) (sym (take-at (joined blocks) rest readLimit all))
