@@ -63,13 +63,12 @@ module _ {buffer : List ℕ} {held : ℕ} (bytes : List ℕ) (full : length buff
 pub record End (held end : ℕ) : Type 0 where
   pub short : held < 16384 → end ≡ held
   pub long : 16384 ≤ held → end ≡ 0
-  pub most : end < 16384
 
 pub end-short : {held end : ℕ} → held < 16384 → end ≡ held → End held end
-end-short l e = record { short = λ _. e; long = λ m. absurd (omega arith); most = omega arith }
+end-short l e = record { short = λ _. e; long = λ m. absurd (omega arith) }
 
 pub end-long : {held end : ℕ} → 16384 ≤ held → end ≡ 0 → End held end
-end-long l e = record { short = λ m. absurd (omega arith); long = λ _. e; most = omega arith }
+end-long l e = record { short = λ m. absurd (omega arith); long = λ _. e }
 
 judged-held : (t : Tally) {buffer line : List ℕ} {held end : ℕ} → End held end → LineSoFar buffer held line → judgedOf t (take end buffer) ≡ judgedOf t line
 judged-held t {buffer} {line} {held} {end} e h =

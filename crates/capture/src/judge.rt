@@ -50,7 +50,7 @@ fn take_names(session: Session, expected: bool, next: Phase) -> Judged
     fail(session, Refusal::Syntax)
 }
 
-// The session of line 2.
+// A session of the shape of line 2, or a fault.
 fn start_session(session: Session, shape: Shape) -> Judged
     ensures { λ r. ⌜ r ≡ begun session shape (freshStatus shape) ⌝ }
 {

@@ -1,7 +1,5 @@
 -- `capture::begin` meets its contract.
-use mathlib.Core.Path.{refl, ap}
-use Rattle.session.specs.declared.Session.{Session}
-use Rattle.capture.specs.declared.Phase.the-variants.{ShapeNames}
+use mathlib.Core.Path.{refl}
 use Rattle.capture.specs.Feed.{start}
 use borrow.Author.Needs.{needs}
 use Rattle.capture.proofs.begin.Statement.{statement}
@@ -12,7 +10,7 @@ fresh-requires c κs = search needs
 
 returns : tie.Need-returns
 unfolding start
-returns c = (ap (λ (σ : Session). record { phase = ShapeNames; session = σ }) (c .before .fresh .ensures .session), refl)
+returns c = (rw (c .before .fresh .ensures .session), refl)
 
 pub begin-spec : {M : Type 1} → statement M
 begin-spec = tie.close (tie.spec fresh-requires returns)

@@ -1,6 +1,7 @@
 -- `capture::end_line` meets its contract: of a line too long nothing is judged.
 use mathlib.Core.Path.{sym}
 use mathlib.Core.Logic.{⊎-elim}
+use Prim.Native.Nat.{_<_}
 use native.Mathlib.Omega.{arith}
 use lib.Seq.{length-take-le}
 use Rattle.capture.proofs.Frames.{End, end-short, end-long, line-ended}
@@ -10,13 +11,15 @@ use Rattle.capture.proofs.end_line.Tie as tie
 
 slice-aggregate-judge : tie.Need-slice-aggregate-judge
 slice-aggregate-judge c =
-    let end : End _ _ = ⊎-elim (λ x. end-short (x .0 .taken) (x .1)) (λ x. end-long (x .0 .left) (x .1)) (c .before .before .if1 .came) in
-    sym (length-take-le _ _ (omega (arith, end .most, c .before .before .before .before .before .before .pre .0)))
+    let few : c .before .before .if1 .end < 16384 = ⊎-elim (λ x. omega arith) (λ x. omega arith) (c .before .before .if1 .came) in
+    sym (length-take-le _ _ (omega (arith, c .before .before .before .before .before .before .pre .0)))
 
 judge-requires : tie.Need-judge-requires
 judge-requires c κs =
-    let end : End _ _ = ⊎-elim (λ x. end-short (x .0 .taken) (x .1)) (λ x. end-long (x .0 .left) (x .1)) (c .before .before .before .if1 .came) in
-    (rw (length-take-le (c .before .before .before .if1 .end) (c .before .before .before .before .before .before .before .args .line .now) (omega (arith, end .most, c .before .before .before .before .before .before .before .pre .0))) (end .most), c .before .before .before .before .before .before .before .pre .1)
+    let start = c .before .before .before .before .before .before .before in
+    let end = c .before .before .before .if1 .end in
+    let few : end < 16384 = ⊎-elim (λ x. omega arith) (λ x. omega arith) (c .before .before .before .if1 .came) in
+    (rw (length-take-le end (start .args .line .now) (omega (arith, start .pre .0))) few, start .pre .1)
 
 put-answer-requires : tie.Need-put-answer-requires
 put-answer-requires c κs = search needs
