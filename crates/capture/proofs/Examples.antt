@@ -1,4 +1,4 @@
--- Document 01's example, computed from the definitions.
+-- The example of the rules (RULES 7), computed from the definitions.
 use mathlib.Core.Path.{_≡_, refl}
 use Rattle.parity.specs.Xor.{_⊕_, xorSum, when}
 use Rattle.parity.specs.Count.{bit, sum, count, any, all, firstValue}

@@ -3,22 +3,24 @@ use mathlib.Core.Path.{_≡_, refl, sym, ap, _∙_}
 use mathlib.Core.Logic.{⊎-elim}
 use mathlib.Core.Bool.{true, false}
 use mathlib.Core.List.{List, [], _∷_, _++_, append-nil, append-assoc}
-use Prim.Native.Nat.{ℕ, zero, suc, _+_, _-_, _<_}
+use Prim.Native.Nat.{ℕ, suc, _+_, _-_, _<_}
 use native.Mathlib.Nat.{zero-lt-suc}
 use native.Mathlib.Omega.{arith}
-use borrow.Author.Tests.{eqb-true, ne-eqb, eq-eqb}
+use borrow.Author.Tests.{ne-eqb, eq-eqb}
 use lib.Dec.{eqb}
 use lib.ListN.{length, getD, take, drop, length-drop, take-append-drop}
 use lib.Seq.{drop-length, drop-drop, drop-cons, getD-take, getD-drop, length-take-le}
-use Rattle.parity.proofs.Tests.{either}
-use Rattle.lines.specs.Text.{newline}
+use Rattle.parity.proofs.Tests.{either, clash}
+use Rattle.lines.specs.Text.{newline, namesOutcome}
 use Rattle.lines.specs.Parse.{FirstNewline}
-use Rattle.capture.specs.declared.Phase.the-variants.{Ended}
+use Rattle.capture.specs.declared.Phase.{Phase}
+use Rattle.capture.specs.declared.Phase.the-variants.{ShapeNames, ShapeValues, WordNames, Words, Ended}
 use Rattle.capture.specs.declared.Tally.{Tally}
 use Rattle.capture.specs.declared.Judged.{Judged}
 use Rattle.capture.specs.Output.{answerText}
 use Rattle.capture.specs.Judge.{passed, judgedOf}
-use Rattle.capture.specs.Feed.{Fed, after, feed, closing, closingIn}
+use Rattle.capture.specs.Feed.{start, isEnded, Fed, after, feed, closing, written}
+use Rattle.capture.proofs.Texts.{closing-in}
 
 -- ---- one byte more
 pub feed-none : (t : Tally) (held : List ℕ) → feed t held [] ≡ record { tally = t; held = held; text = [] }
@@ -72,6 +74,13 @@ ended-judged : (t : Tally) (line : List ℕ) → t .phase ≡ Ended → judgedOf
 unfolding judgedOf
 ended-judged t line h = rw h
 
+ended : (p : Phase) → isEnded p ≡ true → p ≡ Ended
+ended ShapeNames h = absurd (clash h refl)
+ended ShapeValues h = absurd (clash h refl)
+ended WordNames h = absurd (clash h refl)
+ended Words h = absurd (clash h refl)
+ended Ended h = refl
+
 pub ended-silent : (bytes : List ℕ) (t : Tally) (held : List ℕ) → t .phase ≡ Ended → (feed t held bytes .text ≡ []) × (closing (feed t held bytes .tally) (feed t held bytes .held) ≡ [])
 unfolding closing passed
 ended-silent [] t held h = rw (feed-none t held, h) (refl, refl)
@@ -80,6 +89,18 @@ ended-silent (b ∷ bytes) t held h =
     (λ (e : eqb b newline ≡ true). rw (feed-end t held b bytes e, ended-judged t held h) (ended-silent bytes (passed Ended (t .session) .tally) [] refl))
     (λ (e : eqb b newline ≡ false). rw (feed-byte t held b bytes e) (ended-silent bytes t (held ++ (b ∷ [])) h))
     (either (eqb b newline))
+
+-- so the bytes after one have no bearing on what is written
+pub ended-rest : (a b : List ℕ) → isEnded (feed start [] a .tally .phase) ≡ true → written (feed start [] (a ++ b)) ≡ written (feed start [] a)
+ended-rest a b h =
+    let r = feed start [] a in
+    let e = ended (r .tally .phase) h in
+    let f = feed (r .tally) (r .held) b in
+    let none = ended-silent b (r .tally) (r .held) e in
+    ap written (feed-append a b start [])
+    ∙ ap (λ (t : List ℕ). namesOutcome ++ (r .text ++ t) ++ closing (f .tally) (f .held)) (none .0)
+    ∙ ap (λ (t : List ℕ). namesOutcome ++ t ++ closing (f .tally) (f .held)) (append-nil (r .text))
+    ∙ ap (λ (t : List ℕ). namesOutcome ++ r .text ++ t) (none .1 ∙ sym (closing-in (r .tally) (r .held) e))
 
 -- ---- a piece of a block, up to the first newline
 abbrev pub piece : List ℕ → ℕ → ℕ → List ℕ

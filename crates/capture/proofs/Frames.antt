@@ -18,14 +18,14 @@ use Rattle.capture.specs.declared.Reader.{Reader}
 use Rattle.capture.specs.Output.{answerText}
 use Rattle.capture.specs.Judge.{judgedOf}
 use Rattle.capture.specs.Feed.{Fed, after, feed}
-use Rattle.capture.specs.Steps.{Appended, Holds, Extended, LineEnded, FedBy, BlockTaken}
+use Rattle.capture.specs.Steps.{Appended, LineSoFar, Extended, LineEnded, BlockTaken}
 use Rattle.capture.proofs.Texts.{put-appended}
 use Rattle.capture.proofs.Judges.{long-judged}
 use Rattle.capture.proofs.Feeds.{after-after, piece, feed-rest, feed-line}
 
 -- ---- bytes join the line
 module _ {buffer : List ℕ} {held : ℕ} (bytes : List ℕ) (full : length buffer ≡ 16384) where
-  held-length : (line : List ℕ) → Holds buffer held line → held < 16384 → length line ≡ held
+  held-length : (line : List ℕ) → LineSoFar buffer held line → held < 16384 → length line ≡ held
   held-length line h l = ap length (sym (h .kept l)) ∙ length-take-le held buffer (omega arith)
 
   -- it was too long already
@@ -63,15 +63,14 @@ module _ {buffer : List ℕ} {held : ℕ} (bytes : List ℕ) (full : length buff
 pub record End (held end : ℕ) : Type 0 where
   pub short : held < 16384 → end ≡ held
   pub long : 16384 ≤ held → end ≡ 0
-  pub most : end < 16384
 
 pub end-short : {held end : ℕ} → held < 16384 → end ≡ held → End held end
-end-short l e = record { short = λ _. e; long = λ m. absurd (omega arith); most = omega arith }
+end-short l e = record { short = λ _. e; long = λ m. absurd (omega arith) }
 
 pub end-long : {held end : ℕ} → 16384 ≤ held → end ≡ 0 → End held end
-end-long l e = record { short = λ m. absurd (omega arith); long = λ _. e; most = omega arith }
+end-long l e = record { short = λ m. absurd (omega arith); long = λ _. e }
 
-judged-held : (t : Tally) {buffer line : List ℕ} {held end : ℕ} → End held end → Holds buffer held line → judgedOf t (take end buffer) ≡ judgedOf t line
+judged-held : (t : Tally) {buffer line : List ℕ} {held end : ℕ} → End held end → LineSoFar buffer held line → judgedOf t (take end buffer) ≡ judgedOf t line
 judged-held t {buffer} {line} {held} {end} e h =
     ⊎-elim
     (λ (b : ltb held 16384 ≡ true).
@@ -101,11 +100,11 @@ line-ended reader {out = out} {out′ = out′} {j = j} {at = at} e is room a fe
 -- the line so far; what is left leads to the same end
 pub record Left (fed : Fed) (block buffer out : List ℕ) (reader : Reader) (from : ℕ) : Type 0 where
   pub line : List ℕ
-  pub held : Holds buffer (reader .held) line
+  pub held : LineSoFar buffer (reader .held) line
   pub same : after (take (reader .at) out) (feed (reader .tally) line (drop from block)) ≡ fed
 
 pub record Reading (reader₀ : Reader) (buffer₀ block buffer scratch out : List ℕ) (reader : Reader) (from : ℕ) : Type 0 where
-  pub left : (line : List ℕ) → Holds buffer₀ (reader₀ .held) line → Left (feed (reader₀ .tally) line block) block buffer out reader from
+  pub left : (line : List ℕ) → LineSoFar buffer₀ (reader₀ .held) line → Left (feed (reader₀ .tally) line block) block buffer out reader from
   pub low : from ≤ length block
   pub few : reader .at ≤ 30 * from
   pub buffer-size : length buffer ≡ 16384
@@ -141,7 +140,7 @@ module _ {reader₀ : Reader} {buffer₀ block buffer scratch out : List ℕ} {r
             let end = ap (after (take (reader .at) out)) (sym (feed-rest (reader .tally) (l .line) f all)) ∙ l .same in
             record {
               tally = ap (λ (y : Fed). y .tally) end;
-              held = subst (Holds buffer′ held′) (ap (λ (y : Fed). y .held) end) (x .joined (l .line) (l .held));
+              held = subst (LineSoFar buffer′ held′) (ap (λ (y : Fed). y .held) end) (x .joined (l .line) (l .held));
               output = sym (append-nil (take (reader .at) out)) ∙ ap (λ (y : Fed). y .text) end;
             };
         within = omega (arith, r .few, r .low);

@@ -20,7 +20,7 @@ use Rattle.gtb.specs.Answer as answer
 use Rattle.gtb.proofs.Sizes.{sizes}
 use Rattle.lines.specs.Text.{sameBytes, namesShape, namesWord}
 use Rattle.lines.specs.Content.{Content, Spelled, Unreadable, contentOf}
-use Rattle.lines.specs.Parse.{Holds}
+use Rattle.lines.specs.Parse.{Stored}
 use Rattle.lines.proofs.Same.{differ-same}
 use Rattle.lines.proofs.Contents.{content-spelled}
 use Rattle.session.specs.declared.Session.{Session}
@@ -84,7 +84,7 @@ begun-refused σ s st e h p = rw h p
 pub shaped-none : (σ : Session) (c : Content) {r : Judged} → c ≡ Unreadable → r ≡ fault σ Refusal.Syntax → r ≡ shaped σ c
 shaped-none σ c h e = rw h e
 
-module _ (σ : Session) {line stored : List ℕ} {count : ℕ} (h : Holds line stored count) where
+module _ (σ : Session) {line stored : List ℕ} {count : ℕ} (h : Stored line stored count) where
   says : contentOf line ≡ Spelled (h .values)
   says = content-spelled line (h .values) (h .spelled)
 
@@ -149,7 +149,7 @@ cut-few l e = record { few = λ _. e; many = λ m. absurd (omega arith); most = 
 pub cut-many : {count size : ℕ} → 1024 ≤ count → size ≡ 1024 → Cut count size
 cut-many l e = record { few = λ m. omega arith; many = λ _. e; most = omega arith }
 
-pub worded-arrived : (σ : Session) {line stored : List ℕ} {count size room : ℕ} → Holds line stored count → length stored ≡ 1024 → Cut count size → Room (σ .shape) room
+pub worded-arrived : (σ : Session) {line stored : List ℕ} {count size room : ℕ} → Stored line stored count → length stored ≡ 1024 → Cut count size → Room (σ .shape) room
     → (scratch : List ℕ) → length scratch ≡ 7688 → {word′ scratch′ : List ℕ} {a : Arrived} → Arriving clean σ (take size stored) (take room scratch) word′ scratch′ a
     → record { tally = record { phase = Words; session = a .session }; answer = Line (a .outcome) } ≡ worded σ (contentOf line)
 unfolding arrived

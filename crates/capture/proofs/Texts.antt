@@ -20,14 +20,17 @@ use Rattle.parity.proofs.Tests.{either}
 use Rattle.lines.specs.Text.{countText, outcomeText, Put, pasted}
 use Rattle.lines.proofs.Decimals.{at-most-ten}
 use Rattle.lines.proofs.Pasting.{name-length}
+use Rattle.session.specs.declared.Outcome.{Outcome}
+use Rattle.session.specs.declared.Outcome.the-variants.{Taken, Again, Refused}
+use Rattle.session.specs.Arrival.{outcomeValues}
 use Rattle.session.specs.Steps.{Counts}
 use Rattle.session.proofs.Arrays.{counts}
 use Rattle.capture.specs.declared.Phase.{Phase}
 use Rattle.capture.specs.declared.Phase.the-variants.{Words}
 use Rattle.capture.specs.declared.Tally.{Tally}
-use Rattle.capture.specs.Output.{refusedLine, callsFrom, callsText}
+use Rattle.capture.specs.Output.{outcomeLine, refusedLine, callsFrom, callsText}
 use Rattle.capture.specs.Feed.{closing, closingIn}
-use Rattle.capture.specs.Steps.{Appended, Holds, Closed}
+use Rattle.capture.specs.Steps.{Appended, LineSoFar, Closed}
 
 -- a text written over the output that waits stands at its end
 pub put-appended : {old text new : List ℕ} {at r : ℕ} → at + length text ≤ length old → Put old at text new r → Appended old at text new r
@@ -60,6 +63,13 @@ appended-within {old} {text} {new} {at} {r} l p =
     omega arith
 
 -- ---- the lines of the output
+-- the line of an outcome has its three values
+pub outcome-values : (r : Outcome) → outcomeLine r ≡ outcomeText (getD (outcomeValues r) 0 0) (getD (outcomeValues r) 1 0) (getD (outcomeValues r) 2 0)
+unfolding outcomeLine
+outcome-values (Taken number k) = refl
+outcome-values (Again number k) = refl
+outcome-values (Refused e) = refl
+
 pub count-short : (function calls : ℕ) → function < 2 ^ 32 → calls < 2 ^ 32 → length (countText function calls) ≤ 22
 unfolding countText
 count-short function calls l m = simp length-append (omega (arith, at-most-ten function l, at-most-ten calls m))
@@ -136,7 +146,7 @@ pub closed-by : {t : Tally} {whole : Bool} {old text new : List ℕ} {r : ℕ} �
 closed-by text p = record { output = λ line same. p .front ∙ sym (text line same); within = appended-within (omega arith) p }
 
 -- the line so far is empty when nothing is held
-pub held-none : {buffer line : List ℕ} {held : ℕ} → Holds buffer held line → eqb held 0 ≡ eqb (length line) 0
+pub held-none : {buffer line : List ℕ} {held : ℕ} → LineSoFar buffer held line → eqb held 0 ≡ eqb (length line) 0
 held-none {buffer} {line} {held} h =
     ⊎-elim
     (λ s. rw (← h .kept (ltb-true held 16384 s), length-take-le held buffer (omega (arith, ltb-true held 16384 s, h .size))))

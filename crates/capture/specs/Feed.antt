@@ -1,4 +1,4 @@
--- The program over its whole input (document 01, "The tally program"), byte by byte: the bytes since the last newline are held.
+-- The program over its whole input (RULES 7), byte by byte: the bytes since the last newline are held.
 use mathlib.Core.Bool.{Bool, true, false, cond}
 use mathlib.Core.List.{List, [], _∷_, _++_}
 use Prim.Native.Nat.{ℕ, _-_, _^_}
@@ -61,6 +61,10 @@ closing t held = closingIn (t .phase) (t .session) held
 abbrev pub written : Fed → List ℕ
 written r = namesOutcome ++ r .text ++ closing (r .tally) (r .held)
 
--- what the program writes for an input, of which at most 2^32 - 1 bytes are read
+-- at most so many bytes are read; what follows counts as absent
+abbrev pub readLimit : ℕ
+readLimit = 2 ^ 32 - 1
+
+-- what the program writes for an input
 unfoldable pub outputOf : List ℕ → List ℕ
-outputOf input = written (feed start [] (take (2 ^ 32 - 1) input))
+outputOf input = written (feed start [] (take readLimit input))

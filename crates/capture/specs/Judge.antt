@@ -1,4 +1,4 @@
--- What the program makes of one line (document 01, "The tally program"). A line comes without its newline.
+-- What the program makes of one line (RULES 7). A line comes without its newline.
 use mathlib.Core.Bool.{Bool, true, false, cond}
 use mathlib.Core.List.{List}
 use Prim.Native.Nat.{ℕ}
@@ -18,7 +18,7 @@ use Rattle.session.specs.Arrival.{clean, Opened, opened, outcomeOf, sessionAfte
 use Rattle.capture.specs.declared.Phase.{Phase}
 use Rattle.capture.specs.declared.Phase.the-variants.{ShapeNames, ShapeValues, WordNames, Words, Ended}
 use Rattle.capture.specs.declared.Tally.{Tally}
-use Rattle.capture.specs.declared.Answer.the-variants.{Silent, Line}
+use Rattle.capture.specs.declared.Answer.the-variants.{Nothing, Line}
 use Rattle.capture.specs.declared.Judged.{Judged}
 
 -- the values of a line of at most 16,384 bytes, the newline counted
@@ -27,7 +27,7 @@ lineContent line = cond (ltb (length line) 16384) (contentOf line) Unreadable
 
 -- no line of output; the next line is looked at in this phase
 unfoldable pub passed : Phase → Session → Judged
-passed phase σ = record { tally = record { phase = phase; session = σ }; answer = Silent }
+passed phase σ = record { tally = record { phase = phase; session = σ }; answer = Nothing }
 
 -- a fault of the first three lines is answered, and ends the program
 unfoldable pub fault : Session → Refusal → Judged

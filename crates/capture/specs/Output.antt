@@ -1,29 +1,24 @@
--- The program's answers as text (document 01, "The tally program").
+-- The program's answers as text (RULES 7).
 use mathlib.Core.Bool.{cond}
 use mathlib.Core.List.{List, [], _∷_, _++_}
 use Prim.Native.Nat.{ℕ, suc}
 use lib.Dec.{eqb}
 use Rattle.gtb.specs.declared.Refusal.{Refusal}
+use Rattle.gtb.specs.Answer.{refusalNumber}
 use Rattle.lines.specs.Text.{namesCalls, outcomeText, countText}
 use Rattle.session.specs.declared.Outcome.{Outcome}
-use Rattle.session.specs.declared.Outcome.the-variants.{Refused}
-use Rattle.session.specs.Arrival.{outcomeValues}
+use Rattle.session.specs.declared.Outcome.the-variants.{Taken, Again, Refused}
 use Rattle.capture.specs.declared.Answer.{Answer}
-use Rattle.capture.specs.declared.Answer.the-variants.{Silent, Line}
-
--- a line of three values
-abbrev pub valuesText : List ℕ → List ℕ
-valuesText [] = []
-valuesText (kind ∷ []) = []
-valuesText (kind ∷ number ∷ []) = []
-valuesText (kind ∷ number ∷ fixed ∷ rest) = outcomeText kind number fixed
+use Rattle.capture.specs.declared.Answer.the-variants.{Nothing, Line}
 
 -- outcome, page or refusal number, digits changed
 unfoldable pub outcomeLine : Outcome → List ℕ
-outcomeLine r = valuesText (outcomeValues r)
+outcomeLine (Taken number k) = outcomeText 0 number k
+outcomeLine (Again number k) = outcomeText 1 number k
+outcomeLine (Refused e) = outcomeText 2 (refusalNumber e) 0
 
 abbrev pub answerText : Answer → List ℕ
-answerText Silent = []
+answerText Nothing = []
 answerText (Line r) = outcomeLine r
 
 abbrev pub refusedLine : Refusal → List ℕ

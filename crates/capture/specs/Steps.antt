@@ -8,7 +8,6 @@ use lib.ListN.{length, take}
 use Rattle.gtb.specs.declared.Shape.{Shape}
 use Rattle.gtb.specs.Shape.{lawful, scratchLength}
 use Rattle.capture.specs.declared.Tally.{Tally}
-use Rattle.capture.specs.declared.Judged.{Judged}
 use Rattle.capture.specs.declared.Reader.{Reader}
 use Rattle.capture.specs.Output.{answerText}
 use Rattle.capture.specs.Judge.{judgedOf}
@@ -21,14 +20,14 @@ pub record Appended (old : List ℕ) (at : ℕ) (text new : List ℕ) (r : ℕ) 
   pub front : take r new ≡ take at old ++ text
 
 -- the line so far: its bytes while it is short enough, its being too long afterwards
-pub record Holds (buffer : List ℕ) (held : ℕ) (line : List ℕ) : Type 0 where
+pub record LineSoFar (buffer : List ℕ) (held : ℕ) (line : List ℕ) : Type 0 where
   pub size : length buffer ≡ 16384
   pub kept : held < 16384 → take held buffer ≡ line
   pub long : 16384 ≤ held → 16384 ≤ length line
 
 -- bytes join the line so far
 pub record Extended (buffer : List ℕ) (held : ℕ) (bytes buffer′ : List ℕ) (r : ℕ) : Type 0 where
-  pub joined : (line : List ℕ) → Holds buffer held line → Holds buffer′ r (line ++ bytes)
+  pub joined : (line : List ℕ) → LineSoFar buffer held line → LineSoFar buffer′ r (line ++ bytes)
   pub size : length buffer′ ≡ 16384
 
 -- room for the scratch of a shape, none for one outside the lists
@@ -38,8 +37,8 @@ pub record Room (s : Shape) (r : ℕ) : Type 0 where
 
 -- the line so far is judged, and the answer written
 pub record LineEnded (reader : Reader) (buffer out scratch′ out′ : List ℕ) (r : Reader) : Type 0 where
-  pub tally : (line : List ℕ) → Holds buffer (reader .held) line → r .tally ≡ judgedOf (reader .tally) line .tally
-  pub output : (line : List ℕ) → Holds buffer (reader .held) line
+  pub tally : (line : List ℕ) → LineSoFar buffer (reader .held) line → r .tally ≡ judgedOf (reader .tally) line .tally
+  pub output : (line : List ℕ) → LineSoFar buffer (reader .held) line
       → Appended out (reader .at) (answerText (judgedOf (reader .tally) line .answer)) out′ (r .at)
   pub empty : r .held ≡ 0
   pub short : r .at ≤ reader .at + 30
@@ -49,11 +48,11 @@ pub record LineEnded (reader : Reader) (buffer out scratch′ out′ : List ℕ)
 -- a block is fed: the tally, the line so far, and the output from the start of its buffer on
 pub record FedBy (fed : Fed) (buffer′ out′ : List ℕ) (r : Reader) : Type 0 where
   pub tally : r .tally ≡ fed .tally
-  pub held : Holds buffer′ (r .held) (fed .held)
+  pub held : LineSoFar buffer′ (r .held) (fed .held)
   pub output : take (r .at) out′ ≡ fed .text
 
 pub record BlockTaken (reader : Reader) (buffer block buffer′ scratch′ out′ : List ℕ) (r : Reader) : Type 0 where
-  pub fed : (line : List ℕ) → Holds buffer (reader .held) line → FedBy (feed (reader .tally) line block) buffer′ out′ r
+  pub fed : (line : List ℕ) → LineSoFar buffer (reader .held) line → FedBy (feed (reader .tally) line block) buffer′ out′ r
   pub within : r .at ≤ 491584
   pub line : length buffer′ ≡ 16384
   pub room : length scratch′ ≡ 7688
@@ -65,5 +64,5 @@ pub record Closed (t : Tally) (whole : Bool) (out′ : List ℕ) (r : ℕ) : Typ
   pub within : r ≤ length out′
 
 pub record Finished (reader : Reader) (out′ : List ℕ) (r : ℕ) : Type 0 where
-  pub output : (buffer line : List ℕ) → Holds buffer (reader .held) line → take r out′ ≡ closing (reader .tally) line
+  pub output : (buffer line : List ℕ) → LineSoFar buffer (reader .held) line → take r out′ ≡ closing (reader .tally) line
   pub within : r ≤ length out′

@@ -7,17 +7,17 @@ use Rattle.capture.specs.declared.Reader.{Reader}
 use Rattle.capture.specs.Steps.{BlockTaken}
 
 -- one block taken, and what it wrote
-pub record Taken (reader : Reader) (buffer block : List ℕ) (text : List ℕ) (reader′ : Reader) (buffer′ : List ℕ) : Type 0 where
+pub record BlockStep (reader : Reader) (buffer block : List ℕ) (text : List ℕ) (reader′ : Reader) (buffer′ : List ℕ) : Type 0 where
   pub scratch : List ℕ
   pub out : List ℕ
   pub taken : BlockTaken reader buffer block buffer′ scratch out reader′
   pub wrote : text ≡ take (reader′ .at) out
 
 -- all blocks in turn, and what they wrote together
-pub data Run : Reader → List ℕ → List (List ℕ) → List ℕ → Reader → List ℕ → Type 0 where
-  None : (r : Reader) (buffer : List ℕ) → Run r buffer [] [] r buffer
+pub data BlockRun : Reader → List ℕ → List (List ℕ) → List ℕ → Reader → List ℕ → Type 0 where
+  None : (r : Reader) (buffer : List ℕ) → BlockRun r buffer [] [] r buffer
   Block : (r r₁ r₂ : Reader) (buffer buffer₁ buffer₂ block text rest : List ℕ) (blocks : List (List ℕ))
-      → Taken r buffer block text r₁ buffer₁ → Run r₁ buffer₁ blocks rest r₂ buffer₂ → Run r buffer (block ∷ blocks) (text ++ rest) r₂ buffer₂
+      → BlockStep r buffer block text r₁ buffer₁ → BlockRun r₁ buffer₁ blocks rest r₂ buffer₂ → BlockRun r buffer (block ∷ blocks) (text ++ rest) r₂ buffer₂
 
 -- the blocks put together
 abbrev pub joined : List (List ℕ) → List ℕ

@@ -23,7 +23,7 @@ fn pass(phase: Phase, session: Session) -> Judged
 {
     Judged {
         tally: Tally { phase, session },
-        answer: Answer::Silent,
+        answer: Answer::Nothing,
     }
 }
 
@@ -50,7 +50,8 @@ fn take_names(session: Session, expected: bool, next: Phase) -> Judged
     fail(session, Refusal::Syntax)
 }
 
-fn start(session: Session, shape: Shape) -> Judged
+// A session of the shape of line 2, or a fault.
+fn start_session(session: Session, shape: Shape) -> Judged
     ensures { λ r. ⌜ r ≡ begun session shape (freshStatus shape) ⌝ }
 {
     let fresh = Session::fresh(shape);
@@ -78,7 +79,7 @@ fn take_shape(session: Session, line: &[u8]) -> Judged
         n: values[1],
         b: values[2],
     };
-    start(session, shape)
+    start_session(session, shape)
 }
 
 // How long a scratch the arrival wants.

@@ -11,7 +11,7 @@ use session::Session;
 ghost use mathlib.Core.Path.{_≡_};
 ghost use Prim.Native.Nat.{_+_, _≤_, min};
 ghost use lib.ListN.{length};
-ghost use Rattle.capture.specs.Feed.{start, isEnded};
+ghost use Rattle.capture.specs.Feed.{start, isEnded, readLimit};
 ghost use Rattle.capture.specs.Steps.{Extended, LineEnded, BlockTaken, Finished};
 
 // Which line is next: the first three, a word line, or none any more after a fault.
@@ -30,7 +30,7 @@ pub struct Tally {
 
 // What a line is answered with: nothing, or a line of output.
 pub enum Answer {
-    Silent,
+    Nothing,
     Line(Outcome),
 }
 
@@ -47,7 +47,11 @@ pub struct Reader {
 }
 
 // At most so many bytes are read; what follows counts as absent.
-pub const LIMIT: usize = 4294967295;
+pub fn limit() -> usize
+    ensures { λ r. ⌜ r ≡ readLimit ⌝ }
+{
+    4294967295
+}
 
 // Before the first line.
 pub fn begin() -> Reader

@@ -26,7 +26,7 @@ pub fn put_answer(out: &mut [u8], at: usize, answer: Answer) -> usize
     ensures { λ r. ⌜ Appended (now (out .entry)) at (answerText answer) (now (out .exit)) r × (r ≤ at + 30) ⌝ }
 {
     match answer {
-        Answer::Silent => at,
+        Answer::Nothing => at,
         Answer::Line(outcome) => put_line(out, at, outcome),
     }
 }

@@ -1,20 +1,17 @@
 -- What a line says, computed, is what it spells.
-use mathlib.Core.Path.{_≡_, refl, sym, ap, _∙_, subst}
+use mathlib.Core.Path.{_≡_, refl, sym, ap, _∙_}
 use mathlib.Core.Logic.{⊎-elim}
-use mathlib.Core.Bool.{Bool, true, false, cond, _&&_}
+use mathlib.Core.Bool.{true, false, _&&_}
 use mathlib.Core.List.{List, [], _∷_, _++_, append-nil}
-use Prim.Native.Nat.{ℕ, zero, suc, _+_, _*_, _-_, _^_, _<_}
+use Prim.Native.Nat.{ℕ, _+_, _*_, _-_, _^_, _<_}
 use native.Mathlib.Nat.{not-suc-le-zero}
 use native.Mathlib.Omega.{arith}
 use borrow.Author.Tests.{ne-eqb, ltb-true, lt-ltb}
 use lib.Dec.{eqb, ltb}
 use lib.ListN.{length, getD}
-use Rattle.parity.specs.Count.{all}
-use Rattle.parity.proofs.Tests.{either, clash, and-left, and-right, and-both, all-elim, all-intro}
+use Rattle.parity.proofs.Tests.{either, and-left, and-right, all-elim, all-intro}
 use Rattle.lines.specs.Text.{space, decimal, spell, sameBytes, Spells}
-use Rattle.lines.specs.Content.{Content, Spelled, Unreadable, valuesIn, small, contentOf}
-use Rattle.lines.specs.Parse.{Parsing, Holds}
-use Rattle.lines.specs.declared.Parsed.the-variants.{Values, Malformed}
+use Rattle.lines.specs.Content.{Spelled, Unreadable, valuesIn, small, contentOf}
 use Rattle.lines.proofs.Decimals.{AllDigits, decimal-digits, value, value-decimal}
 use Rattle.lines.proofs.Same.{same-equal, equal-same}
 
@@ -88,10 +85,3 @@ content-none line none =
     })))
     (λ (f : test ≡ false). rw f)
     (either test)
-
--- what the parser answers, by what the line says
-pub parsed-values : {line stored : List ℕ} {count : ℕ} → Parsing line stored (Values count) → Holds line stored count
-parsed-values {count = count} p = p .accepted count refl
-
-pub parsed-none : {line stored : List ℕ} → Parsing line stored Malformed → contentOf line ≡ Unreadable
-parsed-none {line} p = content-none line (p .refused refl)

@@ -9,7 +9,7 @@ use borrow.Author.Count.{below-more}
 use lib.ListN.{length, getD, drop, set, length-append, length-set, List·getD-append, drop-of-length-le}
 use lib.Seq.{drop-cons, getD-set-same, getD-set-other, getD-at}
 use Rattle.lines.specs.Text.{space, decimal, Spells}
-use Rattle.lines.specs.Parse.{Holds, Parsing}
+use Rattle.lines.specs.Parse.{Stored, Parsing}
 use Rattle.lines.specs.Scan.{ValueAt, Scanning}
 use Rattle.lines.specs.declared.Parsed.the-variants.{Values, Malformed}
 use Rattle.lines.specs.declared.Number.{Number}
@@ -65,7 +65,7 @@ module _ {line stored : List ℕ} {count from : ℕ} (p : Progress line stored c
     pub finished : next ≡ length line → Parsing line (set stored count v) (Values (count + 1))
     finished e =
         let s = left-last (p .left) v (a .small) (a .text ∙ ap (λ (l : List ℕ). decimal v ++ l) (drop-of-length-le line {i = next} (omega arith))) in
-        let h : Holds line (set stored count v) (count + 1) = record { values = p .done ++ (v ∷ []); spelled = s; counted = new-counted; kept = new-kept } in
+        let h : Stored line (set stored count v) (count + 1) = record { values = p .done ++ (v ∷ []); spelled = s; counted = new-counted; kept = new-kept } in
         record {
           size = new-size;
           accepted = λ n q. let k : count + 1 ≡ n = cc in rw k at h;

@@ -1,12 +1,13 @@
 -- Texts written one after another into a list.
 use mathlib.Core.Path.{_≡_, refl, sym, ap, _∙_, subst}
-use mathlib.Core.List.{List, [], _∷_, _++_, append-assoc}
-use Prim.Native.Nat.{ℕ, zero, suc, _+_, _^_, _/_, _%_, _≤_, _<_}
+use mathlib.Core.List.{List, [], _∷_, _++_, append-nil, append-assoc}
+use Prim.Native.Nat.{ℕ, zero, suc, _+_, _-_, _^_, _/_, _%_, _≤_, _<_}
 use native.Mathlib.Nat.{add-assoc}
 use native.Mathlib.Numerals.{add-one}
 use native.Mathlib.Omega.{arith}
-use lib.ListN.{length, getD, take, drop, set, length-append, length-set}
-use lib.Seq.{paste, paste-suc, take-length, length-take-le, set-split, append-snoc, take-at, drop-at, drop-drop}
+use borrow.Rule.Slice.PartMut.{midOf, putMid}
+use lib.ListN.{length, take, drop, set, length-append, length-take, length-drop, length-set, drop-of-length-le}
+use lib.Seq.{take-all, take-length, length-take-le, set-split, append-snoc, take-at, drop-at, drop-drop}
 use Rattle.lines.specs.Text.{space, newline, ascii, digit, decimal, outcomeName, countText, outcomeText, pasted, Put}
 use Rattle.lines.proofs.Decimals.{decimal-more, length-more, at-most-ten}
 
@@ -20,15 +21,24 @@ put-one old at b l =
       room = rw length-set (omega arith);
     }
 
--- one turn of copying a text
-pub copy-more : (old : List ℕ) (at : ℕ) (text new : List ℕ) (i : ℕ) → at + i < length old → i < length text → new ≡ paste old at text i
-    → set new (at + i) (getD text i 0) ≡ paste old at text (i + 1)
-copy-more old at text new i l m e = rw (e, add-one i) (paste-suc old at text i 0 l m)
+-- a text copied over the part from `at` on
+module _ (old text part : List ℕ) (at : ℕ) (fits : at + length text ≤ length old)
+    (is : part ≡ take (length text) text ++ drop (length text) (midOf at (length old - at) old)) where
+  copied-written : putMid at (length old - at) old part ≡ pasted old at text
+  unfolding pasted
+  copied-written =
+      let rest : take (length old - at) (drop at old) ≡ drop at old = take-all (length old - at) (drop at old) (rw length-drop (omega arith)) in
+      let none : drop (length old - at) (drop at old) ≡ [] = drop-of-length-le (drop at old) {i = length old - at} (rw length-drop (omega arith)) in
+      rw (is, rest, none, take-length, drop-drop, append-nil) (simp append-assoc)
 
--- the whole text has been copied
-pub copy-all : (old : List ℕ) (at : ℕ) (text new : List ℕ) (i : ℕ) → i ≡ length text → at + i ≤ length new → new ≡ paste old at text i → Put old at text new (at + i)
-unfolding pasted
-copy-all old at text new i all fits e = record { written = e ∙ rw (all, take-length); next = ap (λ (k : ℕ). at + k) all; room = fits }
+  pub copied : (r : ℕ) → r ≡ length text → Put old at text (putMid at (length old - at) old part) (at + r)
+  unfolding pasted
+  copied r all =
+      record {
+        written = copied-written;
+        next = ap (λ (k : ℕ). at + k) all;
+        room = rw copied-written (simp (length-append, length-take, length-drop) (omega arith));
+      }
 
 module _ (old a b : List ℕ) (at : ℕ) (fits : at + length a ≤ length old) where
   head : length (take at old ++ a) ≡ at + length a

@@ -1,7 +1,7 @@
 -- The equality test on texts.
 use mathlib.Core.Path.{_≡_, refl, ap, _∙_, sym}
 use mathlib.Core.Logic.{⊎-elim}
-use mathlib.Core.Bool.{true, false}
+use mathlib.Core.Bool.{Bool, true, false}
 use mathlib.Core.List.{List, [], _∷_}
 use Prim.Native.Nat.{ℕ}
 use borrow.Author.Tests.{eqb-true, eq-eqb}
@@ -30,3 +30,8 @@ equal-same {xs} {ys} e = ap (sameBytes xs) (sym e) ∙ same-refl xs
 
 pub differ-same : (xs ys : List ℕ) → (xs ≡ ys → ⊥) → sameBytes xs ys ≡ false
 differ-same xs ys h = ⊎-elim (λ t. absurd (h (same-equal xs ys t))) (λ f. f) (either (sameBytes xs ys))
+
+-- a test that holds exactly for equal texts is this one
+pub tested-same : (b : Bool) (xs ys : List ℕ) → (b ≡ true → xs ≡ ys) × (xs ≡ ys → b ≡ true) → b ≡ sameBytes xs ys
+tested-same b xs ys h =
+    ⊎-elim (λ (t : b ≡ true). t ∙ sym (equal-same (h .0 t))) (λ (f : b ≡ false). f ∙ sym (differ-same xs ys (λ e. clash (h .1 e) f))) (either b)

@@ -111,30 +111,6 @@ begins text (x ∷ xs) h =
       cut = h .text ∙ spell-cons x xs;
     }
 
--- ---- values are known from their text
-after-injective : (xs ys : List ℕ) → after xs ≡ after ys → spell xs ≡ spell ys
-unfolding after
-after-injective [] [] e = refl
-after-injective [] (y ∷ ys) e = let z : _≡_ {A = ℕ} 0 1 = cc in absurd (omega arith)
-after-injective (x ∷ xs) [] e = let z : _≡_ {A = ℕ} 0 1 = cc in absurd (omega arith)
-after-injective (x ∷ xs) (y ∷ ys) e = tail-eq-of-cons-eq e
-
-nothing-stops : Stops (spell [])
-unfolding spell
-nothing-stops = omega arith
-
-spell-injective : (xs ys : List ℕ) → spell xs ≡ spell ys → xs ≡ ys
-spell-injective [] [] e = refl
-spell-injective [] (y ∷ ys) e = absurd (no-digit (spell []) nothing-stops y (after ys) (e ∙ spell-cons y ys))
-spell-injective (x ∷ xs) [] e = absurd (no-digit (spell []) nothing-stops x (after xs) (sym e ∙ spell-cons x xs))
-spell-injective (x ∷ xs) (y ∷ ys) e =
-    let q = same-front x y (after xs) (after ys) (after-stops xs) (after-stops ys) (sym (spell-cons x xs) ∙ e ∙ spell-cons y ys) in
-    let t : xs ≡ ys = spell-injective xs ys (after-injective xs ys (q .1)) in
-    (λ i. q .0 i ∷ t i)
-
-pub spells-unique : {line xs ys : List ℕ} → Spells line xs → Spells line ys → xs ≡ ys
-spells-unique {xs = xs} {ys = ys} p q = spell-injective xs ys (sym (p .text) ∙ q .text)
-
 -- ---- a line read from the left: `done` has been read, `rest` is left
 pub record Left (line done rest : List ℕ) : Type 0 where
   pub joined : (xs : List ℕ) → Spells rest xs → Spells line (done ++ xs)

@@ -8,7 +8,7 @@ use Rattle.lines.specs.declared.Parsed.{Parsed}
 use Rattle.lines.specs.declared.Parsed.the-variants.{Values, Malformed}
 
 -- the line spells `count` values; of these the first 1024 are stored
-pub record Holds (line stored : List ℕ) (count : ℕ) : Type 0 where
+pub record Stored (line stored : List ℕ) (count : ℕ) : Type 0 where
   pub values : List ℕ
   pub spelled : Spells line values
   pub counted : length values ≡ count
@@ -17,7 +17,7 @@ pub record Holds (line stored : List ℕ) (count : ℕ) : Type 0 where
 -- `Values` exactly for a line that spells values, with their number; `Malformed` for every other line
 pub record Parsing (line stored : List ℕ) (r : Parsed) : Type 0 where
   pub size : length stored ≡ 1024
-  pub accepted : (count : ℕ) → r ≡ Values count → Holds line stored count
+  pub accepted : (count : ℕ) → r ≡ Values count → Stored line stored count
   pub refused : r ≡ Malformed → (values : List ℕ) → Spells line values → ⊥
 
 -- r is the first place in from..to whose byte is a newline, or `to`

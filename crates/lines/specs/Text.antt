@@ -1,4 +1,4 @@
--- The house text form (document 01, "The tally program"). A byte is a number, a text the list of its bytes.
+-- The house text form (RULES 7). A byte is a number, a text the list of its bytes.
 use mathlib.Core.Path.{_≡_}
 use mathlib.Core.Bool.{Bool, true, false, _&&_}
 use mathlib.Core.List.{List, [], _∷_, _++_}

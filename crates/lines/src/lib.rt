@@ -1,4 +1,4 @@
-// The house text form (document 01, "The tally program"): one line of input to numbers, one answer to bytes.
+// The house text form (RULES 7): one line of input to numbers, one answer to bytes.
 ghost use mathlib.Core.Path.{_≡_};
 ghost use mathlib.Core.List.{[], _∷_};
 ghost use Prim.Native.Nat.{_+_, _≤_};
@@ -90,20 +90,10 @@ pub fn parse(line: &[u8], values: &mut [u32; 1024]) -> Parsed
 }
 
 // Whether the line is the text.
-pub fn is_line(line: &[u8], text: &[u8]) -> bool
+fn is_line(line: &[u8], text: &[u8]) -> bool
     ensures { λ r. ⌜ r ≡ sameBytes (now (line .entry)) (now (text .entry)) ⌝ }
 {
-    if line.len() != text.len() {
-        return false;
-    }
-    let mut i = 0;
-    while i < line.len() {
-        if line[i] != text[i] {
-            return false;
-        }
-        i += 1;
-    }
-    true
+    check::same(line, text)
 }
 
 pub fn is_shape_names(line: &[u8]) -> bool
@@ -123,14 +113,7 @@ pub fn find_newline(block: &[u8], from: usize, to: usize) -> usize
     requires { ⌜ (from ≤ to) × (to ≤ length (now block)) ⌝ }
     ensures { λ r. ⌜ FirstNewline (now (block .entry)) from to r ⌝ }
 {
-    let mut i = from;
-    while i < to {
-        if block[i] == b'\n' {
-            return i;
-        }
-        i += 1;
-    }
-    to
+    bytes::scan::find(block, from, to, b'\n')
 }
 
 // Writes the text over `out` from `at` on, and answers the place after it.
@@ -138,12 +121,7 @@ pub fn put_text(out: &mut [u8], at: usize, text: &[u8]) -> usize
     requires { ⌜ at + length (now text) ≤ length (now out) ⌝ }
     ensures { λ r. ⌜ Put (now (out .entry)) at (now (text .entry)) (now (out .exit)) r ⌝ }
 {
-    let mut i = 0;
-    while i < text.len() {
-        out[at + i] = text[i];
-        i += 1;
-    }
-    at + i
+    at + bytes::copy(text, &mut out[at..])
 }
 
 fn put_byte(out: &mut [u8], at: usize, byte: u8) -> usize
@@ -166,7 +144,7 @@ fn put_digits(out: &mut [u8], at: usize, value: u32) -> usize
     put_byte(out, last, b'0' + (value % 10) as u8)
 }
 
-pub fn put_number(out: &mut [u8], at: usize, value: u32) -> usize
+fn put_number(out: &mut [u8], at: usize, value: u32) -> usize
     requires { ⌜ at + 10 ≤ length (now out) ⌝ }
     ensures { λ r. ⌜ Put (now (out .entry)) at (decimal value) (now (out .exit)) r ⌝ }
 {

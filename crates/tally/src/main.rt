@@ -36,7 +36,7 @@ fn main() {
         return;
     }
     let mut reader = capture::begin();
-    let mut left = capture::LIMIT;
+    let mut left = capture::limit();
     while left > 0 && !capture::has_ended(reader) {
         let want = capture::wanted(left);
         let got = libc::read(STDIN_FILENO, &mut block[..want]);

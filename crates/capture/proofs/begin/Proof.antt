@@ -1,22 +1,16 @@
-use mathlib.Core.Path.{refl, ap}
-use Rattle.session.specs.declared.Session.{Session}
-use Rattle.capture.specs.declared.Phase.the-variants.{ShapeNames}
+-- `capture::begin` meets its contract.
+use mathlib.Core.Path.{refl}
 use Rattle.capture.specs.Feed.{start}
 use borrow.Author.Needs.{needs}
 use Rattle.capture.proofs.begin.Statement.{statement}
 use Rattle.capture.proofs.begin.Tie as tie
-use Rattle.capture.proofs.begin.Reads as reads
-use Rattle.capture.proofs.begin.Lts as lts
-use Rattle.session.proofs.Session.fresh.Reads as fresh-reads
 
--- src/lib.rt:53:9
 fresh-requires : tie.Need-fresh-requires
 fresh-requires c κs = search needs
 
--- src/lib.rt:50:1
 returns : tie.Need-returns
 unfolding start
-returns c = (ap (λ (σ : Session). record { phase = ShapeNames; session = σ }) (c .before .fresh .ensures .session), refl)
+returns c = (rw (c .before .fresh .ensures .session), refl)
 
 pub begin-spec : {M : Type 1} → statement M
 begin-spec = tie.close (tie.spec fresh-requires returns)

@@ -1,41 +1,35 @@
+-- `capture::end_line` meets its contract: of a line too long nothing is judged.
 use mathlib.Core.Path.{sym}
 use mathlib.Core.Logic.{⊎-elim}
+use Prim.Native.Nat.{_<_}
 use native.Mathlib.Omega.{arith}
 use lib.Seq.{length-take-le}
 use Rattle.capture.proofs.Frames.{End, end-short, end-long, line-ended}
 use borrow.Author.Needs.{needs}
 use Rattle.capture.proofs.end_line.Statement.{statement}
 use Rattle.capture.proofs.end_line.Tie as tie
-use Rattle.capture.proofs.end_line.Reads as reads
-use Rattle.capture.proofs.end_line.Lts as lts
-use Rattle.capture.proofs.judge.judge.Reads as judge-reads
-use Rattle.capture.proofs.output.put_answer.Reads as put-answer-reads
 
--- src/lib.rt:93:32
 slice-aggregate-judge : tie.Need-slice-aggregate-judge
 slice-aggregate-judge c =
-    let end : End _ _ = ⊎-elim (λ x. end-short (x .0 .taken) (x .1)) (λ x. end-long (x .0 .left) (x .1)) (c .before .before .if1 .came) in
-    sym (length-take-le _ _ (omega (arith, end .most, c .before .before .before .before .before .before .pre .0)))
+    let few : c .before .before .if1 .end < 16384 = ⊎-elim (λ x. omega arith) (λ x. omega arith) (c .before .before .if1 .came) in
+    sym (length-take-le _ _ (omega (arith, c .before .before .before .before .before .before .pre .0)))
 
--- src/lib.rt:93:9
 judge-requires : tie.Need-judge-requires
 judge-requires c κs =
-    let end : End _ _ = ⊎-elim (λ x. end-short (x .0 .taken) (x .1)) (λ x. end-long (x .0 .left) (x .1)) (c .before .before .before .if1 .came) in
-    (rw (length-take-le (c .before .before .before .if1 .end) (c .before .before .before .before .before .before .before .args .line .now) (omega (arith, end .most, c .before .before .before .before .before .before .before .pre .0))) (end .most), c .before .before .before .before .before .before .before .pre .1)
+    let start = c .before .before .before .before .before .before .before in
+    let end = c .before .before .before .if1 .end in
+    let few : end < 16384 = ⊎-elim (λ x. omega arith) (λ x. omega arith) (c .before .before .before .if1 .came) in
+    (rw (length-take-le end (start .args .line .now) (omega (arith, start .pre .0))) few, start .pre .1)
 
--- src/lib.rt:96:9
 put-answer-requires : tie.Need-put-answer-requires
 put-answer-requires c κs = search needs
 
--- src/lib.rt:81:1
 same-length : tie.Need-same-length
 same-length c = search needs
 
--- src/lib.rt:81:1
 same-length-2 : tie.Need-same-length-2
 same-length-2 c = search needs
 
--- src/lib.rt:81:1
 returns : tie.Need-returns
 returns c =
     let end : End _ _ = ⊎-elim (λ x. end-short (x .0 .taken) (x .1)) (λ x. end-long (x .0 .left) (x .1)) (c .before .before .before .before .before .before .before .before .before .before .before .if1 .came) in

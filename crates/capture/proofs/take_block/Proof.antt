@@ -1,3 +1,4 @@
+-- `capture::take_block` meets its contract. The loop's invariant, `Reading`: what is left of the block leads to the same end.
 use mathlib.Core.Path.{refl}
 use Prim.Native.Nat.{_-_}
 use native.Mathlib.Nat.{le-refl}
@@ -7,11 +8,6 @@ use Rattle.capture.proofs.Frames.{Reading, reading-begins, block-taken,
 use borrow.Author.Needs.{needs}
 use Rattle.capture.proofs.take_block.Statement.{statement}
 use Rattle.capture.proofs.take_block.Tie as tie
-use Rattle.capture.proofs.take_block.Reads as reads
-use Rattle.capture.proofs.take_block.Lts as lts
-use Rattle.capture.proofs.append.Reads as append-reads
-use Rattle.capture.proofs.end_line.Reads as end-line-reads
-use Rattle.lines.proofs.find_newline.Reads as find-newline-reads
 
 abbrev Inv-loop : tie.InvT-loop
 Inv-loop block line₀ scratch₀ out₀ reader₀ from₀ line scratch out reader from = Reading reader₀ line₀ block line scratch out reader from
@@ -19,66 +15,52 @@ Inv-loop block line₀ scratch₀ out₀ reader₀ from₀ line scratch out read
 abbrev μ-loop : tie.MeasureT-loop
 μ-loop block line₀ scratch₀ out₀ reader₀ from₀ line scratch out reader from = length block - from
 
--- src/lib.rt:114:5
 loop-holds : tie.Need-loop-holds Inv-loop μ-loop
 loop-holds c = reading-begins _ _ _ _ _ refl (c .before .before .before .before .pre .1) (c .before .before .before .before .pre .2) (c .before .before .before .before .pre .3)
 
--- src/lib.rt:115:13
 find-newline-requires : tie.Need-find-newline-requires Inv-loop μ-loop
 find-newline-requires c κs = (c .loop .inv .low, le-refl _)
 
--- src/lib.rt:116:49
 sub-append : tie.Need-sub-append Inv-loop μ-loop
 sub-append c = search needs
 
--- src/lib.rt:116:49
 part-append-start : tie.Need-part-append-start Inv-loop μ-loop
 part-append-start c = search needs
 
--- src/lib.rt:116:49
 part-append-end : tie.Need-part-append-end Inv-loop μ-loop
 part-append-end c = search needs
 
--- src/lib.rt:116:9
 append-requires : tie.Need-append-requires Inv-loop μ-loop
 append-requires c κs = c .before .before .before .loop .inv .buffer-size
 
--- src/lib.rt:118:13
 same-length : tie.Need-same-length Inv-loop μ-loop
 same-length c = search needs
 
--- src/lib.rt:118:13
 same-length-2 : tie.Need-same-length-2 Inv-loop μ-loop
 same-length-2 c = search needs
 
--- src/lib.rt:118:13
 same-length-3 : tie.Need-same-length-3 Inv-loop μ-loop
 same-length-3 c = search needs
 
--- src/lib.rt:118:13
 returns : tie.Need-returns Inv-loop μ-loop
 returns c =
     let taken = block-taken (c .before .before .before .before .before .before .before .loop .inv) (c .before .before .before .before .before .before .find-newline .ensures) (c .before .before .before .append .ensures) (c .if1 .taken) (c .before .before .before .before .before .before .before .before .before .before .before .before .pre .0) in
     record { fed = taken .fed; within = taken .within; line = taken .line; room = taken .room; size = taken .size }
 
--- src/lib.rt:120:9
 end-line-requires : tie.Need-end-line-requires Inv-loop μ-loop
 end-line-requires c κs =
     let inv = c .before .before .before .before .before .before .before .before .before .before .loop .inv in
     let found = c .before .before .before .before .before .before .before .before .before .find-newline .ensures in
     (c .before .before .before .before .before .before .append .ensures .size, inv .scratch-size, omega (arith, inv .few, inv .out-size, found .low, found .high, c .before .before .before .before .before .before .before .before .before .before .before .before .before .before .before .pre .0, c .before .before .before .if1 .left))
 
--- src/lib.rt:121:16
 add-from : tie.Need-add-from Inv-loop μ-loop
 add-from c = omega (arith, c .before .before .before .before .before .before .before .before .before .before .before .before .before .before .find-newline .ensures .high, c .before .before .before .before .before .before .before .before .before .before .before .before .before .before .before .before .before .before .before .before .pre .0)
 
--- src/lib.rt:114:5
 loop-less : tie.Need-loop-less Inv-loop μ-loop
 loop-less c =
     let found = c .before .before .before .before .before .before .before .before .before .before .before .before .before .before .find-newline .ensures in
     omega (arith, found .low, found .high, c .before .before .before .before .before .before .before .before .if1 .left)
 
--- src/lib.rt:114:5
 loop-again : tie.Need-loop-again Inv-loop μ-loop
 loop-again c =
     let found = c .before .before .before .before .before .before .before .before .before .before .before .before .before .before .find-newline .ensures in

@@ -6,20 +6,6 @@ use lib.ListN.{length}
 use borrow.Author.Needs.{needs}
 use Rattle.tally.proofs.main.Statement.{statement}
 use Rattle.tally.proofs.main.Tie as tie
-use Rattle.tally.proofs.main.Reads as reads
-use Rattle.tally.proofs.main.Lts as lts
-use Rattle.capture.proofs.begin.Reads as begin-reads
-use Rattle.capture.proofs.finish.Reads as finish-reads
-use Rattle.capture.proofs.has_ended.Reads as has-ended-reads
-use Rattle.capture.proofs.take_block.Reads as take-block-reads
-use Rattle.capture.proofs.wanted.Reads as wanted-reads
-use Rattle.io.proofs.count.Reads as count-reads
-use Rattle.io.proofs.write_all.Reads as write-all-reads
-use Rattle.libc.proofs.read.Reads as read-reads
-use Rattle.lines.proofs.put_outcome_names.Reads as put-outcome-names-reads
-use Rattle.tally.proofs.buffer.Reads as buffer-reads
-use Rattle.tally.proofs.output_buffer.Reads as output-buffer-reads
-use Rattle.tally.proofs.scratch_buffer.Reads as scratch-buffer-reads
 
 abbrev Inv-loop : tie.InvT-loop
 Inv-loop block₀ line₀ scratch₀ out₀ names reader₀ left₀ block line scratch out reader left =
@@ -28,166 +14,129 @@ Inv-loop block₀ line₀ scratch₀ out₀ names reader₀ left₀ block line s
 abbrev μ-loop : tie.MeasureT-loop
 μ-loop block₀ line₀ scratch₀ out₀ names reader₀ left₀ block line scratch out reader left = left
 
--- src/main.rt:30:21
 buffer-requires : tie.Need-buffer-requires Inv-loop μ-loop
 buffer-requires c κs = search needs
 
--- src/main.rt:31:20
 buffer-requires-2 : tie.Need-buffer-requires-2 Inv-loop μ-loop
 buffer-requires-2 c κs = search needs
 
--- src/main.rt:32:23
 scratch-buffer-requires : tie.Need-scratch-buffer-requires Inv-loop μ-loop
 scratch-buffer-requires c κs = search needs
 
--- src/main.rt:33:19
 output-buffer-requires : tie.Need-output-buffer-requires Inv-loop μ-loop
 output-buffer-requires c κs = search needs
 
--- src/main.rt:34:42
 slice-aggregate-put-outcome-names : tie.Need-slice-aggregate-put-outcome-names Inv-loop μ-loop
 slice-aggregate-put-outcome-names c = search needs
 
--- src/main.rt:34:9
 put-outcome-names-requires : tie.Need-put-outcome-names-requires Inv-loop μ-loop
 put-outcome-names-requires c κs = search needs
 
--- src/main.rt:35:38
 array-share-prefix-out : tie.Need-array-share-prefix-out Inv-loop μ-loop
 array-share-prefix-out c = search needs
 
--- src/main.rt:35:38
 slice-aggregate-write-all : tie.Need-slice-aggregate-write-all Inv-loop μ-loop
 slice-aggregate-write-all c = prefix _ _ (c .before .before .put-outcome-names .ensures .room)
 
--- src/main.rt:35:9
 write-all-requires : tie.Need-write-all-requires Inv-loop μ-loop
 write-all-requires c κs = search needs
 
--- src/main.rt:36:9
 returns : tie.Need-returns Inv-loop μ-loop
 returns c = search needs
 
--- src/main.rt:38:9
 begin-requires : tie.Need-begin-requires Inv-loop μ-loop
 begin-requires c κs = search needs
 
--- src/main.rt:40:5
+limit-requires : tie.Need-limit-requires Inv-loop μ-loop
+limit-requires c κs = search needs
+
 loop-holds : tie.Need-loop-holds Inv-loop μ-loop
 loop-holds c = search needs
 
--- src/main.rt:40:24
 has-ended-requires : tie.Need-has-ended-requires Inv-loop μ-loop
 has-ended-requires c κs = search needs
 
--- src/main.rt:41:13
 wanted-requires : tie.Need-wanted-requires Inv-loop μ-loop
 wanted-requires c κs = search needs
 
--- src/main.rt:42:44
 array-borrow-prefix-block : tie.Need-array-borrow-prefix-block Inv-loop μ-loop
 array-borrow-prefix-block c = search needs
 
--- src/main.rt:42:44
 slice-aggregate-read : tie.Need-slice-aggregate-read Inv-loop μ-loop
 slice-aggregate-read c = prefix _ _ (omega (arith, least-block _ _ (c .before .wanted .ensures), c .before .before .before .before .before .loop .inv .0))
 
--- src/main.rt:42:13
 read-requires : tie.Need-read-requires Inv-loop μ-loop
 read-requires c κs = search needs
 
--- src/main.rt:44:13
 returns-2 : tie.Need-returns-2 Inv-loop μ-loop
 returns-2 c = search needs
 
--- src/main.rt:46:36
 array-share-prefix-block : tie.Need-array-share-prefix-block Inv-loop μ-loop
 array-share-prefix-block c = want-fits _ _ _ (c .before .before .read .last .1 .0) (c .before .before .before .before .wanted .ensures) (c .before .block2 .given) (c .before .before .before .before .before .before .before .before .loop .inv .0)
 
--- src/main.rt:46:36
 slice-aggregate-count : tie.Need-slice-aggregate-count Inv-loop μ-loop
 slice-aggregate-count c = prefix _ _ (want-fits _ _ _ (c .before .before .before .read .last .1 .0) (c .before .before .before .before .before .wanted .ensures) (c .before .before .block2 .given) (c .before .before .before .before .before .before .before .before .before .loop .inv .0))
 
--- src/main.rt:46:13
 count-requires : tie.Need-count-requires Inv-loop μ-loop
 count-requires c κs = search needs
 
--- src/main.rt:50:9
 sub-left : tie.Need-sub-left Inv-loop μ-loop
 sub-left c = count-left _ _ _ (c .before .before .before .before .before .read .last .1 .0) (c .before .before .before .before .before .before .before .wanted .ensures) (c .before .before .before .before .block2 .given) (c .before .before .before .before .before .before .before .before .before .before .before .loop .inv .0) _ (c .before .count .ensures .0 .0)
 
--- src/main.rt:51:46
 array-share-prefix-block-2 : tie.Need-array-share-prefix-block-2 Inv-loop μ-loop
 array-share-prefix-block-2 c = count-fits _ _ _ (c .before .before .before .before .before .read .last .1 .0) (c .before .before .before .before .before .before .before .wanted .ensures) (c .before .before .before .before .block2 .given) (c .before .before .before .before .before .before .before .before .before .before .before .loop .inv .0) _ (c .before .count .ensures .0 .0)
 
--- src/main.rt:51:46
 slice-aggregate-take-block : tie.Need-slice-aggregate-take-block Inv-loop μ-loop
 slice-aggregate-take-block c = prefix _ _ (count-fits _ _ _ (c .before .before .before .before .before .before .read .last .1 .0) (c .before .before .before .before .before .before .before .before .wanted .ensures) (c .before .before .before .before .before .block2 .given) (c .before .before .before .before .before .before .before .before .before .before .before .before .loop .inv .0) _ (c .before .before .count .ensures .0 .0))
 
--- src/main.rt:51:63
 slice-aggregate-take-block-2 : tie.Need-slice-aggregate-take-block-2 Inv-loop μ-loop
 slice-aggregate-take-block-2 c = search needs
 
--- src/main.rt:51:74
 slice-aggregate-take-block-3 : tie.Need-slice-aggregate-take-block-3 Inv-loop μ-loop
 slice-aggregate-take-block-3 c = search needs
 
--- src/main.rt:51:88
 slice-aggregate-take-block-4 : tie.Need-slice-aggregate-take-block-4 Inv-loop μ-loop
 slice-aggregate-take-block-4 c = search needs
 
--- src/main.rt:51:9
 take-block-requires : tie.Need-take-block-requires Inv-loop μ-loop
 take-block-requires c κs =
     (count-short _ _ _ (c .before .before .before .before .before .before .before .before .before .read .last .1 .0) (c .before .before .before .before .before .before .before .before .before .before .before .wanted .ensures) (c .before .before .before .before .before .before .before .before .block2 .given) (c .before .before .before .before .before .before .before .before .before .before .before .before .before .before .before .loop .inv .0) _ (c .before .before .before .before .before .count .ensures .0 .0), c .before .before .before .before .before .before .before .before .before .before .before .before .before .before .before .loop .inv .1, c .before .before .before .before .before .before .before .before .before .before .before .before .before .before .before .loop .inv .2, c .before .before .before .before .before .before .before .before .before .before .before .before .before .before .before .loop .inv .3)
 
--- src/main.rt:52:42
 array-share-prefix-out-2 : tie.Need-array-share-prefix-out-2 Inv-loop μ-loop
 array-share-prefix-out-2 c = search needs
 
--- src/main.rt:52:42
 slice-aggregate-write-all-2 : tie.Need-slice-aggregate-write-all-2 Inv-loop μ-loop
 slice-aggregate-write-all-2 c = prefix _ _ (omega (arith, c .before .before .before .before .take-block .ensures .within, c .before .before .before .before .take-block .ensures .size))
 
--- src/main.rt:52:13
 write-all-requires-2 : tie.Need-write-all-requires-2 Inv-loop μ-loop
 write-all-requires-2 c κs = search needs
 
--- src/main.rt:53:13
 returns-3 : tie.Need-returns-3 Inv-loop μ-loop
 returns-3 c = search needs
 
--- src/main.rt:40:5
 loop-less : tie.Need-loop-less Inv-loop μ-loop
 loop-less c = search needs
 
--- src/main.rt:40:5
 loop-again : tie.Need-loop-again Inv-loop μ-loop
 loop-again c =
     let taken = c .before .before .before .before .before .before .take-block .ensures in
     (refilled (c .before .before .before .before .before .before .before .before .before .before .before .before .before .before .before .before .before .before .wanted .result) (c .before .before .before .before .before .before .before .before .before .before .before .before .before .before .before .before .before .before .before .before .before .before .loop .block) (c .before .before .before .before .before .before .before .before .before .before .before .before .before .before .before .before .read .last .1 .0) (c .before .before .before .before .before .before .before .before .before .before .before .before .before .before .before .block2 .given) (c .before .before .before .before .before .before .before .before .before .before .before .before .before .before .before .before .before .before .before .before .before .before .loop .inv .0), taken .line, taken .room, taken .size)
 
--- src/main.rt:56:39
 slice-aggregate-finish : tie.Need-slice-aggregate-finish Inv-loop μ-loop
 slice-aggregate-finish c = search needs
 
--- src/main.rt:56:9
 finish-requires : tie.Need-finish-requires Inv-loop μ-loop
 finish-requires c κs = search needs
 
--- src/main.rt:57:34
 array-share-prefix-out-3 : tie.Need-array-share-prefix-out-3 Inv-loop μ-loop
 array-share-prefix-out-3 c = search needs
 
--- src/main.rt:57:34
 slice-aggregate-write-all-3 : tie.Need-slice-aggregate-write-all-3 Inv-loop μ-loop
 slice-aggregate-write-all-3 c = prefix _ _ (c .before .before .finish .ensures .within)
 
--- src/main.rt:57:5
 write-all-requires-3 : tie.Need-write-all-requires-3 Inv-loop μ-loop
 write-all-requires-3 c κs = search needs
 
--- src/main.rt:29:1
 returns-4 : tie.Need-returns-4 Inv-loop μ-loop
 returns-4 c = search needs
 
@@ -208,6 +157,7 @@ main-spec =
     write-all-requires
     returns
     begin-requires
+    limit-requires
     loop-holds
     has-ended-requires
     wanted-requires

@@ -1,12 +1,9 @@
+-- `capture::judge::pass` meets its contract.
 use mathlib.Core.Path.{refl}
 use Rattle.capture.specs.Judge.{passed}
-use borrow.Author.Needs.{needs}
 use Rattle.capture.proofs.judge.pass.Statement.{statement}
 use Rattle.capture.proofs.judge.pass.Tie as tie
-use Rattle.capture.proofs.judge.pass.Reads as reads
-use Rattle.capture.proofs.judge.pass.Lts as lts
 
--- src/judge.rt:21:1
 returns : tie.Need-returns
 unfolding passed
 returns c = refl

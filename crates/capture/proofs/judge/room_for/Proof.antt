@@ -1,3 +1,4 @@
+-- `capture::judge::room_for` meets its contract.
 use mathlib.Core.Path.{sym, _∙_}
 use native.Mathlib.Omega.{arith}
 use Rattle.parity.proofs.Tests.{clash}
@@ -6,27 +7,19 @@ use Rattle.gtb.proofs.Sizes.{sizes}
 use borrow.Author.Needs.{needs}
 use Rattle.capture.proofs.judge.room_for.Statement.{statement}
 use Rattle.capture.proofs.judge.room_for.Tie as tie
-use Rattle.capture.proofs.judge.room_for.Reads as reads
-use Rattle.capture.proofs.judge.room_for.Lts as lts
-use Rattle.gtb.proofs.is_lawful.Reads as is-lawful-reads
-use Rattle.gtb.proofs.size.scratch_length.Reads as scratch-length-reads
 
--- src/judge.rt:88:8
 is-lawful-requires : tie.Need-is-lawful-requires
 is-lawful-requires c κs = search needs
 
--- src/judge.rt:89:9
 scratch-length-requires : tie.Need-scratch-length-requires
 scratch-length-requires c κs = sym (c .before .is-lawful .ensures) ∙ c .if1 .taken
 
--- src/judge.rt:89:9
 returns : tie.Need-returns
 unfolding scratchLength
 returns c =
     let l = sym (c .before .before .is-lawful .ensures) ∙ c .before .if1 .taken in
     record { exact = λ t. c .scratch-length .ensures; few = rw (c .scratch-length .ensures) (sizes _ l .scratch) }
 
--- src/judge.rt:85:1
 returns-2 : tie.Need-returns-2
 returns-2 c = record { exact = λ t. absurd (clash t (sym (c .before .is-lawful .ensures) ∙ c .if1 .left)); few = omega arith }
 

@@ -1,25 +1,18 @@
+-- `capture::judge::take_names` meets its contract.
 use Rattle.capture.proofs.Judges.{named-yes, named-no}
 use borrow.Author.Needs.{needs}
 use Rattle.capture.proofs.judge.take_names.Statement.{statement}
 use Rattle.capture.proofs.judge.take_names.Tie as tie
-use Rattle.capture.proofs.judge.take_names.Reads as reads
-use Rattle.capture.proofs.judge.take_names.Lts as lts
-use Rattle.capture.proofs.judge.fail.Reads as fail-reads
-use Rattle.capture.proofs.judge.pass.Reads as pass-reads
 
--- src/judge.rt:48:9
 pass-requires : tie.Need-pass-requires
 pass-requires c κs = search needs
 
--- src/judge.rt:48:9
 returns : tie.Need-returns
 returns c = named-yes _ _ _ (c .before .if1 .taken) (c .pass .ensures)
 
--- src/judge.rt:50:5
 fail-requires : tie.Need-fail-requires
 fail-requires c κs = search needs
 
--- src/judge.rt:44:1
 returns-2 : tie.Need-returns-2
 returns-2 c = named-no _ _ _ (c .before .if1 .left) (c .fail .ensures)
 

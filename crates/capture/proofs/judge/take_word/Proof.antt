@@ -1,3 +1,4 @@
+-- `capture::judge::take_word` meets its contract: the values that are stored arrive.
 use mathlib.Core.Path.{sym}
 use mathlib.Core.Logic.{⊎-elim}
 use native.Mathlib.Omega.{arith}
@@ -7,61 +8,44 @@ use Rattle.capture.proofs.Judges.{Cut, cut-few, cut-many, worded-none, 
 use borrow.Author.Needs.{needs}
 use Rattle.capture.proofs.judge.take_word.Statement.{statement}
 use Rattle.capture.proofs.judge.take_word.Tie as tie
-use Rattle.capture.proofs.judge.take_word.Reads as reads
-use Rattle.capture.proofs.judge.take_word.Lts as lts
-use Rattle.capture.proofs.judge.room_for.Reads as room-for-reads
-use Rattle.lines.proofs.parse.Reads as parse-reads
-use Rattle.session.proofs.Session.arrive.Reads as arrive-reads
 
--- src/judge.rt:100:33
 parse-requires : tie.Need-parse-requires
 parse-requires c κs = search needs
 
--- src/judge.rt:100:24
 enum-known-count : tie.Need-enum-known-count
 enum-known-count c = search needs
 
--- src/judge.rt:103:24
 enum-told : tie.Need-enum-told
 enum-told c = search needs
 
--- src/judge.rt:101:9
 returns : tie.Need-returns
 returns c = (worded-none _ _ (content-none _ (c .before .before .parse .ensures .refused (c .enum-told .given .1))), c .before .before .before .before .before .before .pre)
 
--- src/judge.rt:111:9
 room-for-requires : tie.Need-room-for-requires
 room-for-requires c κs = search needs
 
--- src/judge.rt:112:34
 array-borrow-prefix-values : tie.Need-array-borrow-prefix-values
 array-borrow-prefix-values c =
     let cut : Cut _ _ = ⊎-elim (λ x. cut-few (x .0 .taken) (x .1)) (λ x. cut-many (x .0 .left) (x .1)) (c .before .before .if1 .came) in
     omega (arith, c .before .before .before .before .before .before .parse .ensures .size, cut .most)
 
--- src/judge.rt:112:34
 slice-aggregate-arrive : tie.Need-slice-aggregate-arrive
 slice-aggregate-arrive c =
     let cut : Cut _ _ = ⊎-elim (λ x. cut-few (x .0 .taken) (x .1)) (λ x. cut-many (x .0 .left) (x .1)) (c .before .before .before .if1 .came) in
     sym (length-take-le _ _ (omega (arith, c .before .before .before .before .before .before .before .parse .ensures .size, cut .most)))
 
--- src/judge.rt:112:55
 slice-relend-prefix-arrive : tie.Need-slice-relend-prefix-arrive
 slice-relend-prefix-arrive c = search needs
 
--- src/judge.rt:112:55
 slice-aggregate-arrive-2 : tie.Need-slice-aggregate-arrive-2
 slice-aggregate-arrive-2 c = sym (length-take-le _ _ (omega (arith, c .before .before .room-for .ensures .few, c .before .before .before .before .before .before .before .before .before .before .before .before .pre)))
 
--- src/judge.rt:112:9
 arrive-requires : tie.Need-arrive-requires
 arrive-requires c κs = search needs
 
--- src/judge.rt:95:1
 same-length : tie.Need-same-length
 same-length c = search needs
 
--- src/judge.rt:95:1
 returns-2 : tie.Need-returns-2
 returns-2 c =
     let parsed = c .before .before .before .before .before .before .before .before .before .before .before .before .before .parse .ensures in

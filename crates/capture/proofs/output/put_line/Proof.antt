@@ -35,7 +35,7 @@ unfolding outcomeLine
 returns c =
     let start = c .before .before .before .before .before .before .before .before in
     rw (c .before .before .before .before .before .outcome .given .1)
-    (put-outcome 0 _ _ (omega arith) (omega arith) (start .pre) (c .before .before .put-outcome .ensures))
+    (put-outcome _ _ _ (omega arith) (omega arith) (start .pre) (c .before .before .put-outcome .ensures))
 
 same-length-2 : tie.Need-same-length-2
 same-length-2 c = search needs
@@ -45,7 +45,7 @@ unfolding outcomeLine
 returns-2 c =
     let start = c .before .before .before .before .before .before .before .before in
     rw (c .before .before .before .before .before .outcome2 .given .1)
-    (put-outcome 1 _ _ (omega arith) (omega arith) (start .pre) (c .before .before .put-outcome2 .ensures))
+    (put-outcome _ _ _ (omega arith) (omega arith) (start .pre) (c .before .before .put-outcome2 .ensures))
 
 same-length-3 : tie.Need-same-length-3
 same-length-3 c = search needs
@@ -55,7 +55,7 @@ unfolding outcomeLine
 returns-3 c =
     let start = c .before .before .before .before .before .before .before .before .before in
     rw (c .before .before .before .before .before .before .outcome3 .given .1, ← c .before .before .before .refusal .ensures)
-    (put-outcome 2 _ 0 (omega arith) (omega arith) (start .pre) (c .before .before .put-outcome3 .ensures))
+    (put-outcome _ _ _ (omega arith) (omega arith) (start .pre) (c .before .before .put-outcome3 .ensures))
 
 pub put-line-spec : {M : Type 1} → statement M
 put-line-spec =
