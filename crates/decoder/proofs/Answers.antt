@@ -2,7 +2,7 @@
 use mathlib.Core.Path.{_≡_, refl, sym, ap, _∙_, subst₂}
 use mathlib.Core.Bool.{true, false}
 use mathlib.Core.List.{List}
-use Prim.Native.Nat.{ℕ}
+use Prim.Native.Nat.{ℕ, _<_, _≤_}
 use lib.Dec.{eqb}
 use lib.ListN.{length}
 use Rattle.gtb.specs.declared.Shape.{Shape}
@@ -13,8 +13,8 @@ use Rattle.correction.specs.declared.Decoded.{Decoded}
 use Rattle.correction.specs.declared.Decoded.the-variants.{Corrected, Refused}
 use Rattle.decoder.specs.Decode.{restored, correctable, decodeOf, Decoding}
 use Rattle.correction.specs.Answer.{decodedWord}
-use Rattle.decoder.specs.Steps.{Corrections, Corrects}
-use Rattle.correction.specs.Steps.{Toggled}
+use Rattle.decoder.specs.Steps.{Corrections, Corrects, Restores}
+use Rattle.correction.specs.Steps.{Toggled, Within}
 use Rattle.correction.proofs.Tables.{mends}
 use Rattle.decoder.proofs.Meaning.{decode-meets}
 
@@ -22,10 +22,16 @@ use Rattle.decoder.proofs.Meaning.{decode-meets}
 pub uncorrected : {s : Shape} {w : List ℕ} → correctable s w ≡ false → Corrects s w w (Refused Refusal.Uncorrectable)
 uncorrected e = record { answer = rw e; word = refl }
 
-pub corrected : {s : Shape} {w w′ places errors : List ℕ} {k : ℕ} → length w ≡ wordLength s
-    → Corrections s w k places errors → Toggled k (at places) (at errors) w w′ → Corrects s w w′ (Corrected k)
+pub corrected : {s : Shape} {w w′ places errors : List ℕ} {k : ℕ} → Corrections s w k places errors → Restores s w places errors k w′ → Corrects s w w′ (Corrected k)
+corrected c g = record { answer = rw (c .accepted, c .changed); word = g .word c }
+
+-- `restore`: what the shared step asks, and what it gives
+pub placed : {s : Shape} {k : ℕ} {places : List ℕ} (w : List ℕ) → length w ≡ wordLength s → Within s k places → (k ≤ 8) × ((x : ℕ) → x < k → at places x < length w)
+placed w size within = (within .few, λ x l. rw size (within .below x l))
+
+pub restores : {s : Shape} {w w′ places errors : List ℕ} {k : ℕ} → length w ≡ wordLength s → Toggled k (at places) (at errors) w w′ → Restores s w places errors k w′
 unfolding restored
-corrected size c g = record { answer = rw (c .accepted, c .changed); word = mends (c .listed) size g }
+restores size toggled = record { word = λ found. mends (found .listed) size toggled }
 
 -- ---- the contract from its two equations
 decoding : {s : Shape} {w w′ : List ℕ} {r : Decoded} → r ≡ decodeOf s w → w′ ≡ decodedWord w (restored s w) r → Decoding s w w′ r

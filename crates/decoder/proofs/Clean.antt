@@ -113,12 +113,16 @@ module _ (s : Shape) (law : Lawful s) (f v e : ℕ → ℕ) (r : Received s f v 
 
 -- over words: the error is taken off whole
 module _ (s : Shape) (law : Lawful s) (w v : List ℕ) (e : ℕ → ℕ) (size : length v ≡ wordLength s) (r : Received s (at w) (at v) e) where
-  pub clean-restored : restored s w ≡ v
-  unfolding restored mended
-  clean-restored =
+  clean-mended : mended s w (errorAt s (at w)) ≡ v
+  unfolding mended
+  clean-mended =
       sym
       (is-tabulate (wordLength s) (λ j. at w j ⊕ errorAt s (at w) j) v size
       (λ j l. rw (r .sum j l, error-exact s law (at w) (at v) e r j l) (simp xors)))
+
+  pub clean-restored : restored s w ≡ v
+  unfolding restored
+  clean-restored = clean-mended
 
   -- the located positions are few, and the restored word is silent
   pub clean-correctable : correctable s w ≡ true
@@ -126,7 +130,7 @@ module _ (s : Shape) (law : Lawful s) (w v : List ℕ) (e : ℕ → ℕ) (size :
   clean-correctable =
       and-both
       (le-leb (count (wordLength s) (located s (at w))) (s .n - 1) (rw (located-count s law (at w) (at v) e r) (r .few)))
-      (all-intro (s .n) (λ t. all (s .q) (λ L. eqb (syndrome s (at (restored s w)) t L) 0))
+      (all-intro (s .n) (λ t. all (s .q) (λ L. eqb (syndrome s (at (mended s w (errorAt s (at w)))) t L) 0))
       (λ t lt.
-      all-intro (s .q) (λ L. eqb (syndrome s (at (restored s w)) t L) 0)
-      (λ L lL. eq-eqb (syndrome s (at (restored s w)) t L) 0 (ap (λ (u : List ℕ). syndrome s (at u) t L) clean-restored ∙ r .quiet .silent t L lt lL))))
+      all-intro (s .q) (λ L. eqb (syndrome s (at (mended s w (errorAt s (at w)))) t L) 0)
+      (λ L lL. eq-eqb (syndrome s (at (mended s w (errorAt s (at w)))) t L) 0 (ap (λ (u : List ℕ). syndrome s (at u) t L) clean-mended ∙ r .quiet .silent t L lt lL))))

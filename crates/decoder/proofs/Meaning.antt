@@ -27,7 +27,7 @@ use Rattle.gtb.proofs.Crossing.{eqb-xor}
 use Rattle.gtb.proofs.Words.{word-narrow, narrow-word, tabulate-word, test-silent}
 use Rattle.correction.specs.declared.Decoded.the-variants.{Corrected, Refused}
 use Rattle.decoder.specs.Damage.{Unmasked, Explains}
-use Rattle.correction.specs.Error.{weight, damaged, onCheck}
+use Rattle.correction.specs.Error.{weight, damaged, onCheck, mended}
 use Rattle.decoder.specs.Decode.{located, errorAt, restored, correctable, decodeOf, Decoding}
 use Rattle.gtb.specs.Answer.{unless}
 use Rattle.correction.specs.Answer.{decodedWord}
@@ -88,9 +88,9 @@ module _ (s : Shape) (law : Lawful s) (w : List ℕ) (hw : Word s w) (ok : corre
   unfolding correctable
   few = leb-true (count (wordLength s) (located s (at w))) (s .n - 1) (and-left _ _ ok)
 
-  quiet : Silent s (at (restored s w))
+  quiet : Silent s (at (mended s w (errorAt s (at w))))
   unfolding correctable
-  quiet = test-silent s (at (restored s w)) (and-right (leb (count (wordLength s) (located s (at w))) (s .n - 1)) _ ok)
+  quiet = test-silent s (at (mended s w (errorAt s (at w)))) (and-right (leb (count (wordLength s) (located s (at w))) (s .n - 1)) _ ok)
 
   -- the error at a located position is the value of one of its checks
   error-shown : (j : ℕ) → j < wordLength s → located s (at w) j ≡ true → (t : ℕ) × (t < s .n) × (errorAt s (at w) j ≡ onCheck s (at w) j t)
@@ -127,7 +127,6 @@ module _ (s : Shape) (law : Lawful s) (w : List ℕ) (hw : Word s w) (ok : corre
 
   -- the error has the word's syndromes
   shows : (t L : ℕ) → t < s .n → L < s .q → syndrome s (at w) t L ≡ syndrome s (at (errorWord s (errorAt s (at w)))) t L
-  unfolding restored
   shows = same-syndrome s w (errorAt s (at w)) quiet
 
   -- so it is unmasked

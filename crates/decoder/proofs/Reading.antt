@@ -84,7 +84,7 @@ module _ (s : Shape) (h : Lawful s) (w syn : List ℕ) (y : Syndromes s w syn) w
 
       -- test 4 by the table after the corrections
       correctable-by : {new : List ℕ} → Cancelled s k places errors syn new → k < s .n → correctable s w ≡ all (s .n * s .q) (λ e. eqb (at new e) 0)
-      unfolding correctable restored
+      unfolding correctable
       correctable-by c lk =
           ap₂ (λ (a b : Bool). a && b)
           (le-leb (count (wordLength s) (located s (at w))) (s .n - 1) (omega (arith, counts-located, l .counted)))

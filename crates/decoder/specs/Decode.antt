@@ -38,7 +38,7 @@ restored s w = mended s w (errorAt s (at w))
 -- at most n - 1 are located, and taking their errors off silences every check
 unfoldable pub correctable : Shape → List ℕ → Bool
 correctable s w =
-    leb (count (wordLength s) (located s (at w))) (s .n - 1) && silentTest s (at (restored s w))
+    leb (count (wordLength s) (located s (at w))) (s .n - 1) && silentTest s (at (mended s w (errorAt s (at w))))
 
 -- tests 1, 2, 3, 4
 unfoldable pub decodeOf : Shape → List ℕ → Decoded

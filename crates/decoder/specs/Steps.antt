@@ -64,6 +64,10 @@ pub record Corrections (s : Shape) (w : List ℕ) (k : ℕ) (places errors : Lis
   pub changed : count (wordLength s) (located s (at w)) ≡ k
   pub listed : Lists s (errorAt s (at w)) k places errors
 
+-- the first k errors taken off their places: where they are the word's corrections, it is restored
+pub record Restores (s : Shape) (w places errors : List ℕ) (k : ℕ) (w′ : List ℕ) : Type 0 where
+  pub word : Corrections s w k places errors → w′ ≡ restored s w
+
 -- what is found from the syndromes of a word: its corrections, or n if there are none
 pub record Found (s : Shape) (syn places errors : List ℕ) (r : ℕ) : Type 0 where
   pub within : r < s .n → Within s r places

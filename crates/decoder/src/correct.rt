@@ -10,7 +10,8 @@ use gtb::Shape;
 ghost use mathlib.Core.Path.{_≡_};
 ghost use lib.ListN.{length};
 ghost use Rattle.gtb.specs.Shape.{Lawful, wordLength};
-ghost use Rattle.decoder.specs.Steps.{Found, Corrects};
+ghost use Rattle.correction.specs.Steps.{Within};
+ghost use Rattle.decoder.specs.Steps.{Restores, Found, Corrects};
 
 // The corrections, places and errors: how many, or n if there are none that silence every check. They are tried on `syn`.
 fn find(shape: Shape, syn: &mut [u32; 248], places: &mut [usize; 8], errors: &mut [u32; 8]) -> usize
@@ -31,6 +32,14 @@ fn find(shape: Shape, syn: &mut [u32; 248], places: &mut [usize; 8], errors: &mu
     n
 }
 
+// The errors are taken off the word.
+fn restore(shape: Shape, word: &mut [u32], places: &[usize; 8], errors: &[u32; 8], count: usize)
+    requires { ⌜ (length (now word) ≡ wordLength shape) × Within shape count (now places) ⌝ }
+    ensures { λ _. ⌜ Restores shape (now (word .entry)) (now (places .entry)) (now (errors .entry)) count (now (word .exit)) ⌝ }
+{
+    apply(word, places, errors, count);
+}
+
 // Test 4: the word is corrected, or left as it came.
 pub fn correct(shape: Shape, word: &mut [u32]) -> Decoded
     requires { ⌜ Lawful shape × (length (now word) ≡ wordLength shape) ⌝ }
@@ -44,6 +53,7 @@ pub fn correct(shape: Shape, word: &mut [u32]) -> Decoded
     if n <= count {
         return Decoded::Refused(Refusal::Uncorrectable);
     }
-    apply(word, &places, &errors, count);
-    Decoded::Corrected(count as u32)
+    restore(shape, word, &places, &errors, count);
+    let changed = count as u32;
+    Decoded::Corrected(changed)
 }

@@ -19,14 +19,13 @@ same-length c = search needs
 returns : tie.Need-returns
 returns c = uncorrected (c .before .find .ensures .many (c .if1 .taken) _ (c .before .before .before .before .before .before .syndromes .ensures))
 
-apply-requires : tie.Need-apply-requires
-apply-requires c κs =
+restore-requires : tie.Need-restore-requires
+restore-requires c κs =
     let e = c .before .before .before in
-    let inside = e .before .find .ensures .within (e .if1 .left) in
-    (inside .few, rw (e .before .before .before .before .before .before .before .before .before .pre .1) (inside .below))
+    (e .before .before .before .before .before .before .before .before .before .pre .1, e .before .find .ensures .within (e .if1 .left))
 
-cast-t21 : tie.Need-cast-t21
-cast-t21 c = search needs
+cast-changed : tie.Need-cast-changed
+cast-changed c = search needs
 
 same-length-2 : tie.Need-same-length-2
 same-length-2 c = search needs
@@ -34,8 +33,7 @@ same-length-2 c = search needs
 returns-2 : tie.Need-returns-2
 returns-2 c =
     let e = c .before .before .before .before .before .before in
-    corrected (e .before .before .before .before .before .before .before .before .before .pre .1)
-    (e .before .find .ensures .few (e .if1 .left) _ (e .before .before .before .before .before .before .syndromes .ensures)) (c .before .before .apply .ensures)
+    corrected (e .before .find .ensures .few (e .if1 .left) _ (e .before .before .before .before .before .before .syndromes .ensures)) (c .before .before .restore .ensures)
 
 pub correct-spec : {M : Type 1} → statement M
 correct-spec =
@@ -46,7 +44,7 @@ correct-spec =
     find-requires
     same-length
     returns
-    apply-requires
-    cast-t21
+    restore-requires
+    cast-changed
     same-length-2
     returns-2)
