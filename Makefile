@@ -1,7 +1,7 @@
 # make: the program and the static library for C. make run: the tally of the sample capture. make test: the whole gate.
 PREFIX ?= /usr/local
 
-.PHONY: all run check test edits bench install clean
+.PHONY: all run check test bench install clean
 
 all:
 	rt check tally host
@@ -15,10 +15,6 @@ check:
 
 test:
 	bash .ci/run
-
-# the wrong programs that the gate leaves out
-edits:
-	tests/edits/run
 
 bench: target/bin/tally target/staticlib/libhost.a target/staticlib/libharness.a
 	cd tests && cargo build --release --offline

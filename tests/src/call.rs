@@ -12,6 +12,7 @@ pub enum Entry {
     Extract,
     Decode,
     ReadPage,
+    Marks,
     WritePage,
     Fresh,
     Count,
@@ -28,6 +29,7 @@ impl Entry {
             Entry::Extract => &["word", "scratch", "data"],
             Entry::Decode | Entry::HostReadWord => &["word"],
             Entry::ReadPage | Entry::HostReadPage => &["data"],
+            Entry::Marks => &["data", "marks"],
             Entry::WritePage => &["marks", "data"],
             Entry::Fresh | Entry::Count => &["session"],
             Entry::Arrive => &["session", "word", "scratch", "outcome"],
@@ -82,6 +84,7 @@ impl Call {
             (Entry::Extract, [word, scratch, data]) => answer_of(extract(self.shape, word, scratch, data).map(|()| 0)),
             (Entry::Decode, [word]) => answer_of(decode(self.shape, word)),
             (Entry::ReadPage, [data]) => answer_of(page_answer(self.shape, data)),
+            (Entry::Marks, [data, marks]) => answer_of(marks_part(self.shape, data, marks)),
             (Entry::WritePage, [marks, data]) => {
                 answer_of(write_page(self.shape, self.number, marks, data).map(|()| 0))
             }
@@ -98,6 +101,16 @@ impl Call {
 
 fn page_answer(shape: Shape, data: &[u32]) -> Result<u32, Refusal> {
     read_page(shape, data).map(|head| 1024 * head.page + head.marks as u32)
+}
+
+/// The page's marks, copied to the front of a list as long as the data; none of a page that is refused.
+fn marks_part(shape: Shape, data: &[u32], marks: &mut [u32]) -> Result<u32, Refusal> {
+    if marks.len() != data.len() {
+        return Err(Refusal::Length);
+    }
+    let count = read_page(shape, data).map_or(0, |head| head.marks);
+    marks[..count].copy_from_slice(data.get(2..2 + count).unwrap_or(&[]));
+    Ok(count as u32)
 }
 
 fn fresh(shape: Shape, session: &mut [u32]) -> Result<u32, Refusal> {

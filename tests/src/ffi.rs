@@ -32,6 +32,15 @@ extern "C" {
     ) -> u32;
     fn harness_decode(q: u32, n: u32, b: u32, word: *mut u32, word_len: usize) -> u32;
     fn harness_read_page(q: u32, n: u32, b: u32, data: *const u32, data_len: usize) -> u32;
+    fn harness_marks(
+        q: u32,
+        n: u32,
+        b: u32,
+        data: *const u32,
+        data_len: usize,
+        marks: *mut u32,
+        marks_len: usize,
+    ) -> u32;
     fn harness_write_page(
         q: u32,
         n: u32,
@@ -105,6 +114,10 @@ pub fn decode(shape: Shape, word: &mut [u32]) -> u32 {
 
 pub fn read_page(shape: Shape, data: &[u32]) -> u32 {
     unsafe { harness_read_page(shape.q, shape.n, shape.b, data.as_ptr(), data.len()) }
+}
+
+pub fn marks(shape: Shape, data: &[u32], marks: &mut [u32]) -> u32 {
+    unsafe { harness_marks(shape.q, shape.n, shape.b, data.as_ptr(), data.len(), marks.as_mut_ptr(), marks.len()) }
 }
 
 pub fn write_page(shape: Shape, page: u32, marks: &[u32], data: &mut [u32]) -> u32 {

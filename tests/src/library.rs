@@ -17,6 +17,7 @@ impl Call {
             }
             (Entry::Decode, [word]) => ffi::decode(shape, word.lend()).into(),
             (Entry::ReadPage, [data]) => ffi::read_page(shape, data.lend()).into(),
+            (Entry::Marks, [data, marks]) => ffi::marks(shape, data.lend(), marks.lend()).into(),
             (Entry::WritePage, [marks, data]) => ffi::write_page(shape, self.number, marks.lend(), data.lend()).into(),
             (Entry::Fresh, [session]) => ffi::fresh(shape, session.lend()).into(),
             (Entry::Count, [session]) => ffi::count(session.lend(), self.number),

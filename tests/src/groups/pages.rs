@@ -43,9 +43,10 @@ fn reading(q: u32, n: u32, random: &mut Random) -> Verdict {
             }
             expect(&Call::new(Entry::ReadPage, shape, &[&data]))?;
             expect(&Call::new(Entry::HostReadPage, shape, &[&to_bytes(&data)]))?;
+            expect(&Call::new(Entry::Marks, shape, &[&data, &random.numbers(data.len())]))?;
         }
     }
-    Ok(2 * rounds * WIDTHS.len() as u64)
+    Ok(3 * rounds * WIDTHS.len() as u64)
 }
 
 fn writing(q: u32, n: u32, random: &mut Random) -> Verdict {

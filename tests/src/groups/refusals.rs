@@ -12,11 +12,12 @@ use crate::reference::writer::codeword;
 use crate::report::{Group, Unit, Verdict};
 use crate::shrink::expect;
 
-const ENTRIES: [Entry; 10] = [
+const ENTRIES: [Entry; 11] = [
     Entry::Encode,
     Entry::Extract,
     Entry::Decode,
     Entry::ReadPage,
+    Entry::Marks,
     Entry::WritePage,
     Entry::Fresh,
     Entry::Count,
@@ -24,6 +25,10 @@ const ENTRIES: [Entry; 10] = [
     Entry::HostReadWord,
     Entry::HostReadPage,
 ];
+
+/// Those that test the width of a slice.
+const WIDE: [Entry; 7] =
+    [Entry::Encode, Entry::Extract, Entry::Decode, Entry::ReadPage, Entry::Marks, Entry::WritePage, Entry::Arrive];
 
 pub fn group() -> Group {
     let mut group = Group::new("refusals", Unit::Calls);
@@ -56,6 +61,7 @@ fn good(entry: Entry, shape: Shape, random: &mut Random) -> Call {
         Entry::Extract => Call::new(entry, shape, &[&word, &scratch, &random.numbers(data.len())]),
         Entry::Decode => Call::new(entry, shape, &[&damaged(shape, codeword(shape, &data), random)]),
         Entry::ReadPage => Call::new(entry, shape, &[&page_data]),
+        Entry::Marks => Call::new(entry, shape, &[&page_data, &random.numbers(page_data.len())]),
         Entry::WritePage => Call::numbered(entry, shape, number, &[&page.marks, &random.numbers(data.len())]),
         Entry::Fresh => Call::new(entry, shape, &[&random.numbers(SESSION_LEN)]),
         Entry::Count => Call::numbered(entry, shape, random.below(256) as u32, &[&session]),
@@ -151,7 +157,7 @@ fn widths(q: u32, n: u32, random: &mut Random) -> Verdict {
     let mut tried = 0;
     for b in [1, 8, 11, 31, 32] {
         let shape = Shape::new(q, n, b);
-        for entry in [Entry::Encode, Entry::Extract, Entry::Decode, Entry::ReadPage, Entry::WritePage, Entry::Arrive] {
+        for entry in WIDE {
             let call = good(entry, shape, random);
             let judged = if entry == Entry::Arrive { 1 } else { 0 };
             let length = call.slices[judged].len();
