@@ -1,4 +1,4 @@
--- Demand 3 for the clean way of reading: clean damage to at most n - 1 digits.
+-- Demand 3 for reading clean damage to at most n - 1 digits (RULES, "Reading a damaged word").
 use mathlib.Core.Path.{_≡_, refl}
 use mathlib.Core.Bool.{Bool, true, false}
 use mathlib.Core.List.{List}
@@ -21,8 +21,10 @@ use Rattle.session.specs.declared.Session.{Session}
 use Rattle.session.specs.declared.Outcome.{Outcome}
 use Rattle.session.specs.Session.{freshOf}
 use Rattle.session.specs.Arrival.{Sound, clean}
-use Rattle.session.specs.Recording.{Sheet, Recording, Arrival, Fits, Run, Demand3}
+use Rattle.session.specs.Recording.{Sheet, Recording, Arrival, Fits}
+use Rattle.session.specs.Claim.{Run, EveryList, Demand3}
 use Rattle.session.proofs.Openings.{not-nine}
+use Rattle.session.proofs.Fed.{every-list}
 use Rattle.session.proofs.Demand.{demand3}
 
 -- a test that turns down by a lower number
@@ -40,6 +42,7 @@ decode-never s w =
     (decode-next (correctable s w) _ _ (lit< tt)
     (λ r. let z : _≡_ {A = ℕ} 0 1 = cc in omega arith))))
 
+-- it gives back every stored word that has clean damage to at most n - 1 digits
 pub clean-sound : (s : Shape) → Lawful s → Sound clean s
 clean-sound s legal = record {
   right = λ v e stored word allowed.
@@ -56,7 +59,13 @@ clean-sound s legal = record {
   never = decode-never s;
 }
 
+-- demand 3, with no hypothesis on the way left
 pub demand3-clean : (s : Shape) (pages : List Sheet) (arrivals : List Arrival) (answers : List Outcome) (end : Session)
     → Recording s pages → Fits clean s pages arrivals → Run clean (freshOf s) arrivals answers end
     → Demand3 clean s pages arrivals answers end
 demand3-clean s pages arrivals answers end r = demand3 clean s pages arrivals answers end (clean-sound s (r .lawful)) r
+
+-- what holds of every list of arrivals, whether it fits a recording or not
+pub every-list-clean : (s : Shape) → Lawful s → (arrivals : List Arrival) (answers : List Outcome) (end : Session)
+    → Run clean (freshOf s) arrivals answers end → EveryList clean s arrivals answers end
+every-list-clean s legal = every-list clean s (clean-sound s legal)

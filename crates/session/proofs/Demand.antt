@@ -1,22 +1,25 @@
 -- Demand 3: what comes of a whole list of arrivals that fits a recording.
-use mathlib.Core.Path.{_≡_, refl, sym, ap, _∙_}
+use mathlib.Core.Path.{_≡_, refl, sym, ap, _∙_, subst}
+use mathlib.Core.Logic.{⊎-elim}
 use mathlib.Core.Bool.{Bool, true, false, cond, _||_}
 use mathlib.Core.List.{List, [], _∷_}
 use Prim.Native.Nat.{ℕ, zero, suc, _+_, _<_, _≤_}
-use native.Mathlib.Nat.{add-zero, mul-one, le-refl, le-of-lt}
+use native.Mathlib.Nat.{add-zero, mul-one, le-refl, le-of-lt, le-trans}
 use lib.ListN.{length, take}
 use lib.Seq.{take-length}
-use borrow.Author.Tests.{eq-eqb}
+use borrow.Author.Tests.{eq-eqb, eqb-true}
 use Rattle.parity.specs.Count.{bit, sum, count}
-use Rattle.parity.proofs.Tests.{any-suc, any-zero, any-intro}
+use Rattle.parity.proofs.Tests.{clash, any-suc, any-zero, any-intro, any-elim}
 use Rattle.parity.proofs.Sums.{sum-cong, sum-none, sum-const}
 use Rattle.gtb.specs.declared.Shape.{Shape}
+use Rattle.gtb.specs.declared.Refusal.{Refusal}
 use Rattle.session.specs.declared.Session.{Session}
 use Rattle.session.specs.declared.Outcome.{Outcome}
 use Rattle.session.specs.declared.Arrived.{Arrived}
 use Rattle.session.specs.Session.{freshOf, countOf}
 use Rattle.session.specs.Arrival.{Way, Sound, Opened, Page, Bad, outcomeOf, sessionAfter}
-use Rattle.session.specs.Recording.{Sheet, sheetAt, Recording, tally, Arrival, openedAt, Fits, Run, stop, step, hasNumber, come, Machine, emptyMachine, machineStep, machine, answerAt, EveryList, isTaken, answerTo, Claim}
+use Rattle.session.specs.Recording.{Sheet, sheetAt, Recording, tally, Arrival, arrivalAt, openedAt, TurnedDown, Brings, Fits}
+use Rattle.session.specs.Claim.{Run, stop, step, hasNumber, come, Machine, emptyMachine, machineStep, machine, answerAt, EveryList, isTaken, answerTo, Claim}
 use Rattle.session.proofs.Machine.{feed-pages, fed-counts, weighed, fed-weight, machine-more}
 use Rattle.session.proofs.Fed.{reply, brought, answersOf, run-answers, run-end, run-reply, every-list}
 use Rattle.session.proofs.Fits.{From, sheet-opened, fits-from, only-recording}
@@ -127,15 +130,43 @@ module _ (way : Way) (s : Shape) (sound : Sound way s) (pages : List Sheet) (r :
       ∙ sum-cong (length pages) _ _
       (λ i li. ap (λ (b : Bool). cond b (countOf f (sheetAt pages i .marks)) 0) (held-pages way s arrivals j l (sheetAt pages i .number)))
 
+  -- a page that an arrival so far brings has come
+  brought-comes : (m i : ℕ) → i < length pages → (j : ℕ) → j < m → (k : ℕ) → Brings way s (arrivalAt arrivals j) (sheetAt pages i) k
+      → come way s arrivals m (sheetAt pages i .number) ≡ true
+  unfolding come
+  brought-comes m i l j lj k b =
+      let p : ℕ = sheetAt pages i .number in
+      any-intro m (λ j′. hasNumber p (openedAt way s arrivals j′)) j lj
+      (rw (sheet-opened way s sound arrivals pages r j i l k b) (eq-eqb p p refl))
+
+  -- an arrival that opens to the number of a page brings that page
+  numbered-brings : (j : ℕ) → j < length arrivals → (i : ℕ) → i < length pages
+      → hasNumber (sheetAt pages i .number) (openedAt way s arrivals j) ≡ true
+      → (k : ℕ) × Brings way s (arrivalAt arrivals j) (sheetAt pages i) k
+  numbered-brings j l i li h =
+      ⊎-elim
+      (λ (t : (e : Refusal) × TurnedDown way s (arrivalAt arrivals j) e). absurd (clash h (ap (hasNumber (sheetAt pages i .number)) (t .1 .by))))
+      (λ (b : (i′ : ℕ) × (i′ < length pages) × (k : ℕ) × Brings way s (arrivalAt arrivals j) (sheetAt pages i′) k).
+      let same : sheetAt pages (b .0) .number ≡ sheetAt pages i .number =
+      eqb-true _ _ (rw (sheet-opened way s sound arrivals pages r j (b .0) (b .1) (b .2) (b .3)) at h) in
+      (b .2, subst (λ (x : ℕ). Brings way s (arrivalAt arrivals j) (sheetAt pages x) (b .2)) (r .different (b .0) i (b .1) li same) (b .3)))
+      (fits .each j l)
+
+  -- a page that has come was brought
+  comes-brought : (m : ℕ) → m ≤ length arrivals → (i : ℕ) → i < length pages → come way s arrivals m (sheetAt pages i .number) ≡ true
+      → (j : ℕ) × (j < m) × (k : ℕ) × Brings way s (arrivalAt arrivals j) (sheetAt pages i) k
+  unfolding come
+  comes-brought m lm i li h =
+      let (j, lj, has) = any-elim m (λ j′. hasNumber (sheetAt pages i .number) (openedAt way s arrivals j′)) h in
+      let (k, b) = numbered-brings j (le-trans lj lm) i li has in
+      (j, lj, k, b)
+
   -- in the end each page has come
   all-come : (i : ℕ) → i < length pages → held way s arrivals (length arrivals) .pages (sheetAt pages i .number) ≡ true
-  unfolding come
   all-come i l =
       let (j, lj, k, b) = fits .every i l in
-      let p : ℕ = sheetAt pages i .number in
-      held-pages way s arrivals (length arrivals) (le-refl (length arrivals)) p
-      ∙ any-intro (length arrivals) (λ j′. hasNumber p (openedAt way s arrivals j′)) j lj
-      (rw (sheet-opened way s sound arrivals pages r j i l k b) (eq-eqb p p refl))
+      held-pages way s arrivals (length arrivals) (le-refl (length arrivals)) (sheetAt pages i .number)
+      ∙ brought-comes (length arrivals) i l j lj k b
 
   total-end : (w : Sheet → ℕ) → total pages w (held way s arrivals (length arrivals) .pages) ≡ sum (length pages) (λ i. w (sheetAt pages i))
   unfolding weighed
@@ -160,12 +191,16 @@ module _ (way : Way) (s : Shape) (sound : Sound way s) (pages : List Sheet) (r :
 
 pub demand3 : (way : Way) → Claim way
 demand3 way s pages arrivals answers end sound r fits run =
-    let every : EveryList way s arrivals answers end = every-list way s (r .lawful) sound arrivals answers end run in
+    let every : EveryList way s arrivals answers end = every-list way s sound arrivals answers end run in
     record {
       sofar = λ m l first σ run′. (
         run-answers run′ ∙ take-answers way (freshOf s) m arrivals ∙ ap (take m) (sym (run-answers run)),
         λ f lf.
-            every-list way s (r .lawful) sound (take m arrivals) first σ run′ .agrees .calls f lf ∙ counts-sofar way s sound pages r arrivals fits f m l,
+            every-list way s sound (take m arrivals) first σ run′ .agrees .calls f lf ∙ counts-sofar way s sound pages r arrivals fits f m l,
+      );
+      came = λ m l i li. (
+        comes-brought way s sound pages r arrivals fits m l i li,
+        λ b. brought-comes way s sound pages r arrivals fits m i li (b .0) (b .1) (b .2) (b .3),
       );
       whole = λ f l. every .agrees .calls f l ∙ counts-end way s sound pages r arrivals fits f;
       answer = λ j l i li k b.

@@ -15,13 +15,13 @@ use Rattle.parity.proofs.Sums.{bit-le, sum-le, sum-const}
 use Rattle.parity.proofs.Lists.{at-tabulate}
 use Rattle.gtb.specs.declared.Shape.{Shape}
 use Rattle.gtb.specs.declared.Refusal.{Refusal}
-use Rattle.gtb.specs.Shape.{Lawful}
 use Rattle.session.specs.declared.Session.{Session}
 use Rattle.session.specs.declared.Outcome.{Outcome}
 use Rattle.session.specs.declared.Outcome.the-variants.{Taken, Again, Refused}
 use Rattle.session.specs.Session.{freshOf, countOf, added, overflows, recorded}
 use Rattle.session.specs.Arrival.{Way, Sound, Opened, Page, Bad, opened, outcomeOf, sessionBy, sessionAfter}
-use Rattle.session.specs.Recording.{Arrival, openedAt, arrivalAt, TurnedDown, Run, stop, step, Machine, emptyMachine, machinePage, machineStep, machine, Agrees, answerAt, EveryList, answerTo}
+use Rattle.session.specs.Recording.{Arrival, openedAt, arrivalAt, TurnedDown}
+use Rattle.session.specs.Claim.{Run, stop, step, Machine, emptyMachine, machinePage, machineStep, machine, Agrees, answerAt, EveryList, answerTo}
 use Rattle.session.proofs.Machine.{weighed, fed-weight}
 use Rattle.session.proofs.Openings.{Sane, opened-sane}
 
@@ -183,9 +183,9 @@ pub run-reply : (way : Way) (s : Shape) → Sound way s → {arrivals : List Arr
     → answerAt answers j ≡ reply (machine way s emptyMachine (take j arrivals)) (openedAt way s arrivals j)
 run-reply way s sound {arrivals} run j l = rw (run-answers run) (grown-answer way s sound arrivals (freshOf s) emptyMachine (fresh-grown s) j l)
 
-pub every-list : (way : Way) (s : Shape) → Lawful s → Sound way s → (arrivals : List Arrival) (answers : List Outcome) (end : Session)
+pub every-list : (way : Way) (s : Shape) → Sound way s → (arrivals : List Arrival) (answers : List Outcome) (end : Session)
     → Run way (freshOf s) arrivals answers end → EveryList way s arrivals answers end
-every-list way s legal sound arrivals answers end run = record {
+every-list way s sound arrivals answers end run = record {
   agrees = rw (run-end run) (grown-end way s sound arrivals (freshOf s) emptyMachine (fresh-grown s) .agrees);
   answered = rw (run-answers run) (length-answers way (freshOf s) arrivals);
   refused = refused;

@@ -18,7 +18,8 @@ use Rattle.correction.specs.Error.{weight, damaged}
 use Rattle.page.specs.Page.{writeStatus}
 use Rattle.page.proofs.Pages.{write-read}
 use Rattle.session.specs.Arrival.{Way, Sound, Opened, Page, Bad, openWord, opened}
-use Rattle.session.specs.Recording.{Sheet, sheetAt, symbolsOf, Recording, Arrival, arrivalAt, openedAt, TurnedDown, Brings, Fits, SameSheets}
+use Rattle.session.specs.Recording.{Sheet, sheetAt, symbolsOf, Recording, Arrival, arrivalAt, openedAt, TurnedDown, Brings, Fits}
+use Rattle.session.specs.Claim.{SameSheets}
 
 length-damaged : (v e : List ℕ) → length (damaged v e) ≡ length v
 unfolding damaged

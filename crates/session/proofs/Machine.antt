@@ -15,7 +15,8 @@ use Rattle.parity.proofs.Sums.{sum-cong, sum-add, sum-only}
 use Rattle.gtb.specs.declared.Shape.{Shape}
 use Rattle.session.specs.Session.{countOf}
 use Rattle.session.specs.Arrival.{Way, Opened, Page, Bad}
-use Rattle.session.specs.Recording.{Arrival, openedAt, hasNumber, Machine, machinePage, machineStep, machine}
+use Rattle.session.specs.Recording.{Arrival, openedAt}
+use Rattle.session.specs.Claim.{hasNumber, Machine, machinePage, machineStep, machine}
 
 -- the set after a page: the page, and what it held
 fed-pages : (m : Machine) (number : ℕ) (marks : List ℕ) (known : Bool) → m .pages number ≡ known → (p : ℕ)

@@ -1,4 +1,5 @@
 pub mod Session
 pub mod Arrival
 pub mod Recording
+pub mod Claim
 pub mod Steps

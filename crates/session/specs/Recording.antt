@@ -1,12 +1,11 @@
--- A recording, the arrivals that fit it, and what must come of them (RULES 5; demand 3 is RULES 12).
+-- A recording, and the arrivals that fit it (RULES, "The session").
 use mathlib.Core.Path.{_≡_}
 use mathlib.Core.Logic.{_⊎_}
-use mathlib.Core.Bool.{Bool, true, false, cond, _||_}
-use mathlib.Core.List.{List, [], _∷_}
-use Prim.Native.Nat.{ℕ, _+_, _<_, _≤_}
-use lib.Dec.{eqb}
-use lib.ListN.{length, getD, take}
-use Rattle.parity.specs.Count.{sum, any, count}
+use mathlib.Core.Bool.{Bool, cond}
+use mathlib.Core.List.{List, []}
+use Prim.Native.Nat.{ℕ, _<_}
+use lib.ListN.{length, getD}
+use Rattle.parity.specs.Count.{sum}
 use Rattle.gtb.specs.declared.Shape.{Shape}
 use Rattle.gtb.specs.declared.Refusal.{Refusal}
 use Rattle.gtb.specs.declared.Status.the-variants.{Done}
@@ -15,12 +14,8 @@ use Rattle.gtb.specs.Square.{at, Word}
 use Rattle.gtb.specs.Positions.{Encodes}
 use Rattle.correction.specs.Error.{weight, damaged}
 use Rattle.page.specs.Page.{writeStatus, pageSymbols}
-use Rattle.session.specs.declared.Session.{Session}
-use Rattle.session.specs.declared.Outcome.{Outcome}
-use Rattle.session.specs.declared.Outcome.the-variants.{Taken, Again, Refused}
-use Rattle.session.specs.declared.Arrived.{Arrived}
-use Rattle.session.specs.Session.{freshOf, countOf}
-use Rattle.session.specs.Arrival.{Way, Sound, Opened, Page, Bad, opened, Arriving}
+use Rattle.session.specs.Session.{countOf}
+use Rattle.session.specs.Arrival.{Way, Opened, Bad, opened}
 
 -- ---- recordings
 
@@ -42,6 +37,7 @@ symbolsOf s p = pageSymbols s (p .number) (p .marks)
 -- pages with different numbers, of a shape that a fresh session can be made from, each one that the page writer accepts
 pub record Recording (s : Shape) (pages : List Sheet) : Type 0 where
   pub lawful : Lawful s
+  -- the writer's test 2 is about the length of the lent list: the page's own symbols have length K, so that the tests on page and marks alone decide
   pub accepted : (i : ℕ) → i < length pages → writeStatus s (sheetAt pages i .number) (sheetAt pages i .marks) (symbolsOf s (sheetAt pages i)) ≡ Done
   pub different : (i j : ℕ) → i < length pages → j < length pages → sheetAt pages i .number ≡ sheetAt pages j .number → i ≡ j
 
@@ -86,95 +82,3 @@ pub record Fits (way : Way) (s : Shape) (pages : List Sheet) (arrivals : List Ar
       → ((e : Refusal) × TurnedDown way s (arrivalAt arrivals j) e)
       ⊎ ((i : ℕ) × (i < length pages) × (k : ℕ) × Brings way s (arrivalAt arrivals j) (sheetAt pages i) k)
   pub every : (i : ℕ) → i < length pages → (j : ℕ) × (j < length arrivals) × (k : ℕ) × Brings way s (arrivalAt arrivals j) (sheetAt pages i) k
-
--- ---- a run: sessions and answers, each arrival related to the next by what an arrival ensures
-pub data Run (way : Way) : Session → List Arrival → List Outcome → Session → Type 0 where
-  stop : {σ : Session} → Run way σ [] [] σ
-  step : {σ end : Session} {a : Arrival} {rest : List Arrival} {answers : List Outcome} {r : Arrived} {word′ scratch′ : List ℕ}
-      → Arriving way σ (a .word) (a .scratch) word′ scratch′ r → Run way (r .session) rest answers end
-      → Run way σ (a ∷ rest) (r .outcome ∷ answers) end
-
--- page p has come unrefused among the first m arrivals
-abbrev pub hasNumber : ℕ → Opened → Bool
-hasNumber number (Page p marks k) = eqb p number
-hasNumber number (Bad e) = false
-
-unfoldable pub come : Way → Shape → List Arrival → ℕ → ℕ → Bool
-come way s arrivals m number = any m (λ j. hasNumber number (openedAt way s arrivals j))
-
--- ---- the plain machine: a set of page numbers and a count per function
-pub record Machine : Type 0 where
-  pub pages : ℕ → Bool
-  pub counts : ℕ → ℕ
-
-abbrev pub emptyMachine : Machine
-emptyMachine = record { pages = λ p. false; counts = λ f. 0 }
-
--- a page that is in the set leaves it as it is
-abbrev pub machinePage : Machine → ℕ → List ℕ → Bool → Machine
-machinePage m number marks true = m
-machinePage m number marks false = record { pages = λ p. m .pages p || eqb p number; counts = λ f. m .counts f + countOf f marks }
-
-abbrev pub machineStep : Machine → Opened → Machine
-machineStep m (Page number marks k) = machinePage m number marks (m .pages number)
-machineStep m (Bad e) = m
-
-abbrev pub machine : Way → Shape → Machine → List Arrival → Machine
-machine way s m [] = m
-machine way s m (a ∷ rest) = machine way s (machineStep m (opened way s (a .word) (a .scratch))) rest
-
--- the session holds what the machine holds
-pub record Agrees (σ : Session) (m : Machine) : Type 0 where
-  pub taken : (p : ℕ) → p < 1024 → getD (σ .taken) p false ≡ m .pages p
-  pub calls : (f : ℕ) → f < 256 → getD (σ .calls) f 0 ≡ m .counts f
-
-abbrev pub answerAt : List Outcome → ℕ → Outcome
-answerAt answers j = getD answers j (Refused Refusal.Shape)
-
--- ---- what every list of arrivals from a fresh session on must show
-pub record EveryList (way : Way) (s : Shape) (arrivals : List Arrival) (answers : List Outcome) (end : Session) : Type 0 where
-  pub agrees : Agrees end (machine way s emptyMachine arrivals)
-  pub answered : length answers ≡ length arrivals
-  -- refused exactly if what was handed in turns it down, by that number, and never by 9
-  pub refused : (j : ℕ) → j < length arrivals → (e : Refusal) → answerAt answers j ≡ Refused e → TurnedDown way s (arrivalAt arrivals j) e
-  pub turned : (j : ℕ) → j < length arrivals → (e : Refusal) → TurnedDown way s (arrivalAt arrivals j) e → answerAt answers j ≡ Refused e
-  pub never : (j : ℕ) → j < length arrivals → answerAt answers j ≡ Refused Refusal.Overflow → ⊥
-
-abbrev pub isTaken : Outcome → Bool
-isTaken (Taken p k) = true
-isTaken (Again p k) = false
-isTaken (Refused e) = false
-
--- taken at a page's first unrefused arrival, again at each later one, with page number and digits changed
-abbrev pub answerTo : Bool → ℕ → ℕ → Outcome
-answerTo true number k = Again number k
-answerTo false number k = Taken number k
-
--- ---- demand 3, of a list that fits a recording
-
--- two recordings have the same pages
-pub record SameSheets (pages others : List Sheet) : Type 0 where
-  pub there : (i : ℕ) → i < length pages → (j : ℕ) × (j < length others) × (sheetAt others j ≡ sheetAt pages i)
-  pub back : (j : ℕ) → j < length others → (i : ℕ) × (i < length pages) × (sheetAt pages i ≡ sheetAt others j)
-
-pub record Demand3 (way : Way) (s : Shape) (pages : List Sheet) (arrivals : List Arrival) (answers : List Outcome) (end : Session) : Type 0 where
-  -- after every prefix the counts are those of the pages that have come unrefused so far
-  pub sofar : (m : ℕ) → m ≤ length arrivals → (first : List Outcome) (σ : Session) → Run way (freshOf s) (take m arrivals) first σ
-      → (first ≡ take m answers) × ((f : ℕ) → f < 256 → getD (σ .calls) f 0 ≡ tally pages (λ p. come way s arrivals m (p .number)) f)
-  -- at the end they are the recording's own
-  pub whole : (f : ℕ) → f < 256 → getD (end .calls) f 0 ≡ tally pages (λ p. true) f
-  -- which answer an arrival that brings a page gets
-  pub answer : (j : ℕ) → j < length arrivals → (i : ℕ) → i < length pages → (k : ℕ) → Brings way s (arrivalAt arrivals j) (sheetAt pages i) k
-      → answerAt answers j ≡ answerTo (come way s arrivals j (sheetAt pages i .number)) (sheetAt pages i .number) k
-  -- taken is answered as often as the recording has pages
-  pub taken : count (length answers) (λ j. isTaken (answerAt answers j)) ≡ length pages
-  -- an arrival that is turned down is answered with that number, and what holds of every list holds of this one
-  pub every : EveryList way s arrivals answers end
-  -- the list fits no other recording of this shape
-  pub only : (others : List Sheet) → Recording s others → Fits way s others arrivals → SameSheets pages others
-
--- the one claim: for every recording, every list of arrivals that fits it and whatever run of them from a fresh session
-abbrev pub Claim : Way → Type 0
-Claim way = (s : Shape) (pages : List Sheet) (arrivals : List Arrival) (answers : List Outcome) (end : Session)
-    → Sound way s → Recording s pages → Fits way s pages arrivals → Run way (freshOf s) arrivals answers end
-    → Demand3 way s pages arrivals answers end
