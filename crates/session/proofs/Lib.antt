@@ -8,3 +8,4 @@ pub mod Fed
 pub mod Fits
 pub mod Demand
 pub mod Clean
+pub mod Undamaged
