@@ -1,6 +1,6 @@
 -- Demand 3 for reading clean damage to at most n - 1 digits (RULES, "Reading a damaged word").
 use mathlib.Core.Path.{_≡_, refl}
-use mathlib.Core.Bool.{Bool, true, false}
+use mathlib.Core.Bool.{Bool}
 use mathlib.Core.List.{List}
 use Prim.Native.Nat.{ℕ, _<_}
 use native.Mathlib.Omega.{arith}

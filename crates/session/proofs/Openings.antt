@@ -19,7 +19,6 @@ use Rattle.correction.specs.declared.Decoded.{Decoded}
 use Rattle.correction.specs.declared.Decoded.the-variants as decoded
 use Rattle.page.specs.declared.PageRead.{PageRead}
 use Rattle.page.specs.declared.PageRead.the-variants as page
-use Rattle.page.specs.Page as pages
 use Rattle.page.specs.Page.{functions, zeros, most, pageOf}
 use Rattle.page.proofs.Pages.{page-facts}
 use Rattle.session.specs.Arrival.{Way, Sound, Opened, Page, Bad, openPage, openWord, opened}

@@ -57,6 +57,7 @@ abbrev pub openPage : Shape → List ℕ → ℕ → PageRead → Opened
 openPage s symbols k (page.Page number c) = Page number (marksOf s symbols) k
 openPage s symbols k (page.Refused e) = Bad e
 
+-- the page in the data digits of the word that was read
 abbrev pub openWord : Shape → List ℕ → Decoded → Opened
 openWord s v (decoded.Corrected k) = openPage s (extractOf s v) k (pageOf s (extractOf s v))
 openWord s v (decoded.Refused e) = Bad e
@@ -81,9 +82,11 @@ sessionBy σ (Page number marks k) (Again p c) = σ
 sessionBy σ (Page number marks k) (Refused e) = σ
 sessionBy σ (Bad e′) r = σ
 
+-- the session after an arrival
 unfoldable pub sessionAfter : Session → Opened → Session
 sessionAfter σ o = sessionBy σ o (outcomeOf σ o)
 
+-- the answer is taken or again
 abbrev pub isAccepted : Outcome → Bool
 isAccepted (Taken p k) = true
 isAccepted (Again p k) = true

@@ -93,6 +93,7 @@ pub record SameSheets (pages others : List Sheet) : Type 0 where
   pub there : (i : ℕ) → i < length pages → (j : ℕ) × (j < length others) × (sheetAt others j ≡ sheetAt pages i)
   pub back : (j : ℕ) → j < length others → (i : ℕ) × (i < length pages) × (sheetAt pages i ≡ sheetAt others j)
 
+-- what such a list must show
 pub record Demand3 (way : Way) (s : Shape) (pages : List Sheet) (arrivals : List Arrival) (answers : List Outcome) (end : Session) : Type 0 where
   -- after every prefix the counts are those of the pages that have come unrefused so far
   pub sofar : (m : ℕ) → m ≤ length arrivals → (first : List Outcome) (σ : Session) → Run way (freshOf s) (take m arrivals) first σ
@@ -101,7 +102,7 @@ pub record Demand3 (way : Way) (s : Shape) (pages : List Sheet) (arrivals : List
   pub came : (m : ℕ) → m ≤ length arrivals → (i : ℕ) → i < length pages
       → (come way s arrivals m (sheetAt pages i .number) ≡ true)
       ↔ ((j : ℕ) × (j < m) × (k : ℕ) × Brings way s (arrivalAt arrivals j) (sheetAt pages i) k)
-  -- at the end they are the recording's own
+  -- at the end the counts are the recording's own
   pub whole : (f : ℕ) → f < 256 → getD (end .calls) f 0 ≡ tally pages (λ p. true) f
   -- which answer an arrival that brings a page gets
   pub answer : (j : ℕ) → j < length arrivals → (i : ℕ) → i < length pages → (k : ℕ) → Brings way s (arrivalAt arrivals j) (sheetAt pages i) k

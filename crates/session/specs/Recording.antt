@@ -24,9 +24,11 @@ pub record Sheet : Type 0 where
   pub number : ℕ
   pub marks : List ℕ
 
+-- stands where a list has no page
 abbrev pub blank : Sheet
 blank = record { number = 0; marks = [] }
 
+-- page i
 abbrev pub sheetAt : List Sheet → ℕ → Sheet
 sheetAt pages i = getD pages i blank
 
@@ -52,12 +54,15 @@ pub record Arrival : Type 0 where
   pub word : List ℕ
   pub scratch : List ℕ
 
+-- stands where a list has no arrival
 abbrev pub nothing : Arrival
 nothing = record { word = []; scratch = [] }
 
+-- arrival j
 abbrev pub arrivalAt : List Arrival → ℕ → Arrival
 arrivalAt arrivals j = getD arrivals j nothing
 
+-- what arrival j brings
 abbrev pub openedAt : Way → Shape → List Arrival → ℕ → Opened
 openedAt way s arrivals j = opened way s (arrivalAt arrivals j .word) (arrivalAt arrivals j .scratch)
 
