@@ -7,7 +7,7 @@ use Prim.Native.Nat.{ℕ, zero, suc, _+_, _*_, _^_, _<_, _≤_}
 use native.Mathlib.Nat.{not-suc-le-zero, le-of-suc-le-suc, le-refl, le-trans}
 use native.Mathlib.Omega.{arith}
 use lib.Dec.{eqb, leb, lit≤}
-use lib.ListN.{length, getD, set, take, length-set, length-replicate, getD-replicate}
+use lib.ListN.{length, getD, take, length-set, length-replicate, getD-replicate}
 use lib.Seq.{getD-set-same, getD-set-other}
 use borrow.Author.Tests.{eqb-true, eqb-false, lt-leb}
 use Rattle.parity.proofs.Tests.{either, any-none}
@@ -38,8 +38,8 @@ pub fresh-grown : (s : Shape) → Grown s (freshOf s) emptyMachine
 unfolding freshOf
 fresh-grown s = record {
   shape = refl;
-  size = length-replicate 1024 false;
-  agrees = record { taken = λ p l. getD-replicate 1024 p false false l; calls = λ f l. getD-replicate 256 f 0 0 l };
+  size = simp length-replicate;
+  agrees = record { taken = λ p l. getD-replicate 1024 p _ false l; calls = λ f l. getD-replicate 256 f _ 0 l };
   few = λ f. omega arith;
 }
 
@@ -80,28 +80,49 @@ grown-reply s σ m g (Page number marks k) sane =
     rw (g .agrees .taken number (sane .0), no-overflow s σ m g marks (sane .1)) (answer-to (m .pages number) number k)
 grown-reply s σ m g (Bad e) sane = refl
 
--- the marked numbers after a new page
-taken-after : (s : Shape) (σ : Session) (m : Machine) → Grown s σ m → (number : ℕ) → number < 1024 → m .pages number ≡ false
-    → (p : ℕ) → p < 1024 → getD (set (σ .taken) number true) p false ≡ (m .pages p || eqb p number)
-taken-after s σ m g number l new p lp =
+-- the marked numbers after a page was taken: every other as it was
+taken-other : (σ : Session) (number : ℕ) (marks : List ℕ) (p : ℕ) → (p ≡ number → ⊥)
+    → getD (recorded σ number marks .taken) p false ≡ getD (σ .taken) p false
+unfolding recorded
+taken-other σ number marks p ne = getD-set-other (σ .taken) number p _ false ne
+
+-- its own marked
+taken-own : (σ : Session) (number : ℕ) (marks : List ℕ) → number < length (σ .taken) → getD (recorded σ number marks .taken) number false ≡ true
+unfolding recorded
+taken-own σ number marks l = getD-set-same (σ .taken) number _ false l
+
+taken-size : (σ : Session) (number : ℕ) (marks : List ℕ) → length (recorded σ number marks .taken) ≡ length (σ .taken)
+unfolding recorded
+taken-size σ number marks = length-set (σ .taken) number _
+
+-- the counts: each mark adds one to its function's
+calls-after : (σ : Session) (number : ℕ) (marks : List ℕ) (f : ℕ) → f < 256
+    → getD (recorded σ number marks .calls) f 0 ≡ getD (σ .calls) f 0 + countOf f marks
+unfolding recorded added
+calls-after σ number marks f l = at-tabulate 256 _ f l
+
+-- so the marked numbers are the machine's
+taken-after : (s : Shape) (σ : Session) (m : Machine) → Grown s σ m → (number : ℕ) (marks : List ℕ) → number < 1024 → m .pages number ≡ false
+    → (p : ℕ) → p < 1024 → getD (recorded σ number marks .taken) p false ≡ (m .pages p || eqb p number)
+taken-after s σ m g number marks l new p lp =
     ⊎-elim
-    (λ (t : eqb p number ≡ true). rw (t, eqb-true p number t, new) (getD-set-same (σ .taken) number true false (rw (g .size) l)))
+    (λ (t : eqb p number ≡ true). rw (t, eqb-true p number t, new) (taken-own σ number marks (rw (g .size) l)))
     (λ (f : eqb p number ≡ false).
-    rw f (getD-set-other (σ .taken) number p true false (eqb-false p number f) ∙ g .agrees .taken p lp ∙ sym (or-false (m .pages p))))
+    rw f (taken-other σ number marks p (eqb-false p number f) ∙ g .agrees .taken p lp ∙ sym (or-false (m .pages p))))
     (either (eqb p number))
 
 -- after a page the session holds what the machine then holds
 grown-by : (s : Shape) (σ : Session) (m : Machine) → Grown s σ m → (number : ℕ) (marks : List ℕ) (k : ℕ) → Sane (Page number marks k)
     → (known : Bool) → m .pages number ≡ known
     → Grown s (sessionBy σ (Page number marks k) (answerTo known number k)) (machinePage m number marks known)
-unfolding recorded added
+unfolding recorded
 grown-by s σ m g number marks k sane true h = g
 grown-by s σ m g number marks k sane false h = record {
   shape = g .shape;
-  size = length-set (σ .taken) number true ∙ g .size;
+  size = taken-size σ number marks ∙ g .size;
   agrees = record {
-    taken = taken-after s σ m g number (sane .0) h;
-    calls = λ f l. at-tabulate 256 _ f l ∙ ap (λ (x : ℕ). x + countOf f marks) (g .agrees .calls f l);
+    taken = taken-after s σ m g number marks (sane .0) h;
+    calls = λ f l. calls-after σ number marks f l ∙ ap (λ (x : ℕ). x + countOf f marks) (g .agrees .calls f l);
   };
   few = λ f.
       omega

@@ -89,7 +89,7 @@ added-more calls marks i k l small e =
 
 -- a count at its limit with a mark to come
 passes : (calls marks : List ℕ) (i : ℕ) → i < length marks → getD marks i 0 < 256
-    → getD (added calls (take i marks)) (getD marks i 0) 0 ≡ 4294967295 → overflows calls marks ≡ true
+    → 2 ^ 32 ≤ getD (added calls (take i marks)) (getD marks i 0) 0 + 1 → overflows calls marks ≡ true
 unfolding overflows
 passes calls marks i l small e =
     let m : ℕ = getD marks i 0 in
@@ -136,9 +136,9 @@ module _ {calls marks calls′ : List ℕ} {i : ℕ} (h : Turn calls marks calls
         small = h .small;
       }
 
-  pub turn-full : i < length marks → getD calls′ (getD marks i 0) 0 ≡ 4294967295 → Adding calls marks calls′ false
-  turn-full l e = record {
-    fits = sym (ap not (passes calls marks i l (h .small .below i l) (ap (λ (xs : List ℕ). getD xs (getD marks i 0) 0) (sym (h .sums)) ∙ e)));
+  pub turn-full : i < length marks → 2 ^ 32 ≤ getD calls′ (getD marks i 0) 0 + 1 → Adding calls marks calls′ false
+  turn-full l full = record {
+    fits = sym (ap not (passes calls marks i l (h .small .below i l) (rw (h .sums) at full)));
     sums = λ t. absurd (clash t refl);
   }
 

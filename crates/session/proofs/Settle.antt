@@ -3,12 +3,12 @@ use mathlib.Core.Path.{_≡_, _∙_}
 use mathlib.Core.Bool.{true, false}
 use mathlib.Core.List.{List}
 use Prim.Native.Nat.{ℕ}
-use lib.ListN.{getD, set}
+use lib.ListN.{getD}
 use Rattle.gtb.specs.declared.Refusal.{Refusal}
 use Rattle.session.specs.declared.Session.{Session}
 use Rattle.session.specs.declared.Outcome.the-variants.{Taken, Again, Refused}
 use Rattle.session.specs.declared.Arrived.{Arrived}
-use Rattle.session.specs.Session.{added, overflows, recorded}
+use Rattle.session.specs.Session.{overflows, recorded}
 use Rattle.session.specs.Arrival.{Page, outcomeOf, sessionAfter}
 use Rattle.session.specs.Steps.{Settling}
 
@@ -23,7 +23,7 @@ module _ {σ : Session} {number k : ℕ} {marks : List ℕ} where
     unfolding outcomeOf sessionAfter
     settle-overflow h answered = record { outcome = answered .1 ∙ rw (first, h); session = answered .0 ∙ rw (first, h) }
 
-    pub settle-taken : overflows (σ .calls) marks ≡ false → {calls′ : List ℕ} → calls′ ≡ added (σ .calls) marks
-        → Settling σ (Page number marks k) (record { session = record { shape = σ .shape; taken = set (σ .taken) number true; calls = calls′ }; outcome = Taken number k })
-    unfolding outcomeOf sessionAfter recorded
-    settle-taken h sums = record { outcome = rw (first, h); session = rw (first, h, sums) }
+    pub settle-taken : overflows (σ .calls) marks ≡ false → {r : Arrived} → (r .session ≡ recorded σ number marks) × (r .outcome ≡ Taken number k)
+        → Settling σ (Page number marks k) r
+    unfolding outcomeOf sessionAfter
+    settle-taken h answered = record { outcome = answered .1 ∙ rw (first, h); session = answered .0 ∙ rw (first, h) }

@@ -48,7 +48,7 @@ element-copy-out-k c = mark (c .before)
 
 returns : tie.Need-returns Inv-loop μ-loop
 returns c =
-    turn-full (c .before .before .before .before .loop .inv) (c .before .before .before .loop-test .taken) (c .if1 .taken)
+    turn-full (c .before .before .before .before .loop .inv) (c .before .before .before .loop-test .taken) (omega (arith, c .if1 .taken))
 
 add-calls : tie.Need-add-calls Inv-loop μ-loop
 add-calls c = record { fits = room c }

@@ -1,6 +1,7 @@
 -- `session::Session::count` meets its contract: each answer follows from the tests passed.
 use mathlib.Core.Path.{sym, _∙_}
-use Prim.Native.Nat.{suc-le-suc}
+use Prim.Native.Nat.{ℕ}
+use native.Mathlib.Omega.{arith}
 use borrow.Author.Needs.{needs}
 use borrow.Author.Tests.{not-true, not-false, lt-ltb, le-ltb}
 use Rattle.gtb.specs.Shape.{Lawful}
@@ -13,6 +14,10 @@ use Rattle.session.proofs.Session.count.Tie as tie
 legal : (c : tie.Else1) → Lawful (c .before .before .before .args .self .shape)
 legal c = sym (c .before .is-lawful .ensures) ∙ not-false _ (c .if1 .left)
 
+-- the function asked for
+abbrev asked : tie.Else1 → ℕ
+asked c = c .before .before .before .args .function
+
 is-lawful-requires : tie.Need-is-lawful-requires
 is-lawful-requires c κs = search needs
 
@@ -22,7 +27,7 @@ returns c = answered countedNumber (rw (sym (c .before .is-lawful .ensures) ∙ 
 
 returns-2 : tie.Need-returns-2
 unfolding countedOf
-returns-2 c = answered countedNumber (rw (legal (c .before), le-ltb _ 256 (c .if2 .taken)))
+returns-2 c = answered countedNumber (rw (legal (c .before), le-ltb (asked (c .before)) 256 (omega arith)))
 
 mul-t10 : tie.Need-mul-t10
 mul-t10 c = search needs
@@ -32,7 +37,7 @@ array-read-t13 c = search needs
 
 returns-3 : tie.Need-returns-3
 unfolding countedOf
-returns-3 c = answered countedNumber (rw (legal (c .before .before), lt-ltb _ 256 (suc-le-suc (c .before .if2 .left))))
+returns-3 c = answered countedNumber (rw (legal (c .before .before), lt-ltb (asked (c .before .before)) 256 (omega arith)))
 
 pub count-spec : {M : Type 1} → statement M
 count-spec =

@@ -1,7 +1,8 @@
 -- `session::Session::settled` meets its contract: the tests passed decide the answer, and what was added is kept or dropped whole.
-use mathlib.Core.Path.{sym, _∙_}
+use mathlib.Core.Path.{refl, sym, _∙_}
 use borrow.Author.Needs.{needs}
 use borrow.Author.Tests.{not-true, not-false}
+use Rattle.session.specs.Session.{recorded}
 use Rattle.session.proofs.Arrays.{counts}
 use Rattle.session.proofs.Settle.{settle-again, settle-overflow, settle-taken}
 use Rattle.session.proofs.Session.settled.Statement.{statement}
@@ -34,10 +35,11 @@ array-write-taken : tie.Need-array-write-taken
 array-write-taken c = search needs
 
 returns-3 : tie.Need-returns-3
+unfolding recorded
 returns-3 c =
     let added = c .before in
     let ok = not-false _ (c .if2 .left) in
-    settle-taken (new added .if1 .left) (not-true _ (sym (added .add-marks .ensures .fits) ∙ ok)) (added .add-marks .ensures .sums ok)
+    settle-taken (new added .if1 .left) (not-true _ (sym (added .add-marks .ensures .fits) ∙ ok)) (cc (added .add-marks .ensures .sums ok), refl)
 
 pub settled-spec : {M : Type 1} → statement M
 settled-spec =

@@ -1,8 +1,5 @@
 -- `session::number::counted` meets its contract.
-use mathlib.Core.Path.{sym, ap, _∙_}
-use Prim.Native.Nat.{_+_, _^_}
 use borrow.Author.Needs.{needs}
-use Rattle.session.specs.Session.{countedNumber}
 use Rattle.session.proofs.number.counted.Statement.{statement}
 use Rattle.session.proofs.number.counted.Tie as tie
 
@@ -28,7 +25,7 @@ returns : tie.Need-returns
 returns c = search needs
 
 returns-2 : tie.Need-returns-2
-returns-2 c = ap (λ x. 2 ^ 32 + x) (c .refusal .ensures) ∙ sym (ap countedNumber (c .before .before .counted2 .given .1))
+returns-2 c = rw (c .before .before .counted2 .given .1, c .refusal .ensures)
 
 pub counted-spec : {M : Type 1} → statement M
 counted-spec =

@@ -1,9 +1,5 @@
 -- `session::number::outcome` meets its contract.
-use mathlib.Core.Path.{sym, ap, _∙_}
-use mathlib.Core.List.{[], _∷_}
-use Prim.Native.Nat.{ℕ}
 use borrow.Author.Needs.{needs}
-use Rattle.session.specs.Arrival.{outcomeValues}
 use Rattle.session.proofs.number.outcome.Statement.{statement}
 use Rattle.session.proofs.number.outcome.Tie as tie
 
@@ -20,13 +16,13 @@ refusal-requires : tie.Need-refusal-requires
 refusal-requires c κs = search needs
 
 returns : tie.Need-returns
-returns c = sym (ap outcomeValues (c .before .outcome .given .1))
+returns c = rw (c .before .outcome .given .1)
 
 returns-2 : tie.Need-returns-2
-returns-2 c = sym (ap outcomeValues (c .before .outcome2 .given .1))
+returns-2 c = rw (c .before .outcome2 .given .1)
 
 returns-3 : tie.Need-returns-3
-returns-3 c = ap (λ (x : ℕ). 2 ∷ x ∷ 0 ∷ []) (c .refusal .ensures) ∙ sym (ap outcomeValues (c .before .before .outcome3 .given .1))
+returns-3 c = rw (c .before .before .outcome3 .given .1, c .refusal .ensures)
 
 pub outcome-spec : {M : Type 1} → statement M
 outcome-spec =
