@@ -14,9 +14,13 @@ array-read-if1 c = search needs
 returns : tie.Need-returns
 returns c = settle-again (c .if1 .taken)
 
+-- the place where the function begins
+abbrev entry : tie.Else1 → tie.Start
+entry c = c .before .before .before .before
+
 add-marks-requires : tie.Need-add-marks-requires
 add-marks-requires c κs =
-    let start = c .before .before .before .before .before .before in
+    let start = entry (c .before .before) in
     (counts (start .args .self .calls) _ (start .good .0 .1 .1 .1 .1 .0), start .pre .1)
 
 -- the place where the page is known to be new
@@ -29,7 +33,8 @@ refused-requires c κs = search needs
 returns-2 : tie.Need-returns-2
 returns-2 c =
     let added = c .before .before in
-    settle-overflow (new added .if1 .left) (not-false _ (sym (added .add-marks .ensures .fits) ∙ not-true _ (c .before .if2 .taken))) (c .refused .ensures)
+    settle-overflow {σ = entry (new added) .args .self} (new added .if1 .left)
+    (not-false _ (sym (added .add-marks .ensures .fits) ∙ not-true _ (c .before .if2 .taken))) (c .refused .ensures)
 
 array-write-taken : tie.Need-array-write-taken
 array-write-taken c = search needs
@@ -39,7 +44,8 @@ unfolding recorded
 returns-3 c =
     let added = c .before in
     let ok = not-false _ (c .if2 .left) in
-    settle-taken (new added .if1 .left) (not-true _ (sym (added .add-marks .ensures .fits) ∙ ok)) (cc (added .add-marks .ensures .sums ok), refl)
+    settle-taken {σ = entry (new added) .args .self} (new added .if1 .left)
+    (not-true _ (sym (added .add-marks .ensures .fits) ∙ ok)) (cc (added .add-marks .ensures .sums ok), refl)
 
 pub settled-spec : {M : Type 1} → statement M
 settled-spec =

@@ -22,7 +22,7 @@ add-result : tie.Need-add-result
 add-result c = search needs
 
 returns : tie.Need-returns
-returns c = search needs
+returns c = rw (c .before .counted .given .1)
 
 returns-2 : tie.Need-returns-2
 returns-2 c = rw (c .before .before .counted2 .given .1, c .refusal .ensures)
