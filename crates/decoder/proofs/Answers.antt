@@ -11,10 +11,11 @@ use Rattle.gtb.specs.Shape.{lawful, wordLength}
 use Rattle.gtb.specs.Square.{at, narrow}
 use Rattle.correction.specs.declared.Decoded.{Decoded}
 use Rattle.correction.specs.declared.Decoded.the-variants.{Corrected, Refused}
-use Rattle.decoder.specs.Decode.{restored, correctable, decodeOf, Decoding}
+use Rattle.decoder.specs.Decode.{restored, correctable, decodeOf, Decoding, errorAt}
 use Rattle.correction.specs.Answer.{decodedWord}
 use Rattle.decoder.specs.Steps.{Corrections, Corrects, Restores}
 use Rattle.correction.specs.Steps.{Toggled, Within}
+use Rattle.correction.specs.Error.{mended}
 use Rattle.correction.proofs.Tables.{mends}
 use Rattle.decoder.proofs.Meaning.{decode-meets}
 
@@ -29,9 +30,9 @@ corrected c g = record { answer = rw (c .accepted, c .changed); word = g .word c
 pub placed : {s : Shape} {k : ℕ} {places : List ℕ} (w : List ℕ) → length w ≡ wordLength s → Within s k places → (k ≤ 8) × ((x : ℕ) → x < k → at places x < length w)
 placed w size within = (within .few, λ x l. rw size (within .below x l))
 
-pub restores : {s : Shape} {w w′ places errors : List ℕ} {k : ℕ} → length w ≡ wordLength s → Toggled k (at places) (at errors) w w′ → Restores s w places errors k w′
-unfolding restored
-restores size toggled = record { word = λ found. mends (found .listed) size toggled }
+pub takes-off : {s : Shape} {w w′ places errors : List ℕ} {k : ℕ} → length w ≡ wordLength s → Toggled k (at places) (at errors) w w′ → Corrections s w k places errors
+    → w′ ≡ mended s w (errorAt s (at w))
+takes-off size toggled found = mends (found .listed) size toggled
 
 -- ---- the contract from its two equations
 decoding : {s : Shape} {w w′ : List ℕ} {r : Decoded} → r ≡ decodeOf s w → w′ ≡ decodedWord w (restored s w) r → Decoding s w w′ r

@@ -1,6 +1,6 @@
 -- What reading means: it accepts exactly where a codeword and clean damage explain the word, and gives that codeword and the damage's weight.
-use mathlib.Core.Path.{_≡_, refl, sym, ap, _∙_}
-use mathlib.Core.Bool.{Bool, true, false, not}
+use mathlib.Core.Path.{_≡_, refl, sym, _∙_}
+use mathlib.Core.Bool.{true, false, not}
 use mathlib.Core.List.{List}
 use mathlib.Core.Logic.{⊎-elim}
 use Prim.Native.Nat.{ℕ, _-_, _^_, _<_, _≤_}
@@ -9,27 +9,21 @@ use lib.Dec.{eqb, leb}
 use lib.ListN.{length}
 use lib.Pow.{pow-pos}
 use borrow.Author.Tests.{leb-true, eq-eqb, ne-eqb, eqb-true, eqb-false, not-true}
-use Rattle.parity.specs.Xor.{_⊕_}
-use Rattle.parity.specs.Count.{count, all}
-use Rattle.parity.specs.Lists.{tabulate}
-use Rattle.parity.proofs.Xors.{xors, lt-pow, eq-of-zero}
+use Rattle.parity.specs.Count.{count}
 use Rattle.parity.proofs.Tests.{either, and-left, and-right, not-of-true, not-of-false, all-elim}
 use Rattle.parity.proofs.Sums.{count-cong}
-use Rattle.parity.proofs.Lists.{length-tabulate, at-tabulate, is-tabulate}
 use Rattle.gtb.specs.declared.Shape.{Shape}
 use Rattle.gtb.specs.declared.Refusal.{Refusal}
 use Rattle.gtb.specs.Shape.{lawful, Lawful, wordLength}
-use Rattle.gtb.specs.Square.{lineOf, at, narrow, syndrome, Word, Silent, silentTest}
+use Rattle.gtb.specs.Square.{lineOf, at, narrow, syndrome, Word, Silent}
 use Rattle.gtb.proofs.Bounds.{bounds}
 use Rattle.gtb.proofs.Lines.{line-lt}
-use Rattle.gtb.proofs.Rows.{syndrome-cong, syndrome-linear, syndrome-width}
-use Rattle.gtb.proofs.Crossing.{eqb-xor}
-use Rattle.gtb.proofs.Words.{word-narrow, narrow-word, tabulate-word, test-silent}
+use Rattle.gtb.proofs.Rows.{syndrome-width}
+use Rattle.gtb.proofs.Words.{word-narrow, narrow-word, test-silent}
 use Rattle.correction.specs.declared.Decoded.the-variants.{Corrected, Refused}
 use Rattle.decoder.specs.Damage.{Unmasked, Explains}
-use Rattle.correction.specs.Error.{weight, damaged, onCheck, mended}
+use Rattle.correction.specs.Error.{onCheck, mended}
 use Rattle.decoder.specs.Decode.{located, errorAt, restored, correctable, decodeOf, Decoding}
-use Rattle.gtb.specs.Answer.{unless}
 use Rattle.correction.specs.Answer.{decodedWord}
 use Rattle.gtb.proofs.Answers.{unless-passed}
 use Rattle.correction.proofs.Errors.{damaged-at, damaged-word, damaged-places, errorWord, error-at, error-weight, put-back, same-syndrome, error-word, mended-word}

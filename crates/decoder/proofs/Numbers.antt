@@ -1,9 +1,9 @@
 -- The numbers of the checks, and their bounds.
-use mathlib.Core.Path.{_≡_, refl, sym, ap, ap₂, _∙_}
+use mathlib.Core.Path.{_≡_, refl, sym, ap, _∙_}
 use mathlib.Core.Bool.{true, false, not}
 use mathlib.Core.List.{List}
-use Prim.Native.Nat.{ℕ, zero, suc, _+_, _*_, _/_, _%_, _<_, _≤_}
-use native.Mathlib.Nat.{zero-mul, suc-mul, zero-add, mul-le-mul, lt-of-lt-of-le}
+use Prim.Native.Nat.{ℕ, _+_, _*_, _<_}
+use native.Mathlib.Nat.{suc-mul}
 use native.Mathlib.Numerals.{add-one}
 use native.Mathlib.Omega.{arith}
 use lib.Arith.{digits-lt, digits-div}
@@ -11,11 +11,9 @@ use lib.Dec.{eqb}
 use borrow.Author.Tests.{eq-eqb, ne-eqb}
 use Rattle.parity.proofs.Tests.{all-no}
 use Rattle.gtb.specs.declared.Shape.{Shape}
-use Rattle.gtb.specs.Shape.{Lawful, wordLength, slopeOf}
-use Rattle.gtb.specs.Square.{lineOf, at}
+use Rattle.gtb.specs.Shape.{Lawful, wordLength}
+use Rattle.gtb.specs.Square.{at}
 use Rattle.gtb.proofs.Bounds.{bounds}
-use Rattle.gtb.proofs.Slopes.{slope-lt}
-use Rattle.gtb.proofs.Lines.{line-lt, line-zero, line-suc}
 use Rattle.correction.proofs.CheckNumbers.{check-row}
 use Rattle.decoder.specs.Steps.{judged}
 use Rattle.correction.specs.Error.{checkOf}

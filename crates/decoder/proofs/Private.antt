@@ -1,9 +1,9 @@
 -- A position's private checks: those that no other located position is on.
-use mathlib.Core.Path.{_≡_, refl, sym, ap, ap₂, _∙_}
-use mathlib.Core.Bool.{Bool, true, false, not, cond, _&&_}
+use mathlib.Core.Path.{_≡_, sym, ap, ap₂, _∙_}
+use mathlib.Core.Bool.{Bool, false, not, _&&_}
 use mathlib.Core.List.{List}
-use Prim.Native.Nat.{ℕ, zero, suc, _+_, _*_, _<_, suc-le-suc}
-use native.Mathlib.Nat.{not-suc-le-zero, le-of-suc-le-suc, zero-lt-suc, ne-of-lt}
+use Prim.Native.Nat.{ℕ, _+_, _*_, _<_}
+use native.Mathlib.Nat.{ne-of-lt}
 use native.Mathlib.Omega.{arith}
 use lib.Dec.{eqb}
 use lib.ListN.{length, set, length-set}
@@ -13,7 +13,6 @@ use borrow.Author.Tests.{eq-eqb, ne-eqb}
 use Rattle.parity.proofs.Tests.{and-no-left, same-eqb}
 use Rattle.gtb.specs.declared.Shape.{Shape}
 use Rattle.gtb.specs.Square.{lineOf, at}
-use Rattle.parity.specs.Count.{firstValue}
 use Rattle.decoder.specs.Steps.{shares, errorAmong, Measured}
 use Rattle.correction.specs.Error.{checkOf}
 

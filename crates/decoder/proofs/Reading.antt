@@ -1,28 +1,23 @@
 -- What is found in the table of syndromes is what the definitions say of the word.
-use mathlib.Core.Path.{_≡_, refl, sym, ap, ap₂, _∙_, subst}
+use mathlib.Core.Path.{_≡_, refl, sym, ap, ap₂, _∙_}
 use mathlib.Core.Bool.{Bool, true, false, not, _&&_}
 use mathlib.Core.List.{List}
-use Prim.Native.Nat.{ℕ, _+_, _-_, _*_, _/_, _%_, _<_, _≤_}
-use native.Mathlib.Nat.{mod-lt, div-lt-iff-lt-mul, div-add-mod'}
+use Prim.Native.Nat.{ℕ, _-_, _*_, _<_, _≤_}
 use native.Mathlib.Omega.{arith}
-use lib.Arith.{digits-lt}
 use lib.Dec.{eqb}
-use borrow.Author.Tests.{le-leb, lt-leb, eq-eqb, ne-eqb}
-use Rattle.parity.specs.Xor.{_⊕_, xorSum, when}
+use borrow.Author.Tests.{le-leb, lt-leb}
+use Rattle.parity.specs.Xor.{when}
 use Rattle.parity.specs.Count.{count, all, firstValue}
-use Rattle.parity.proofs.XorSums.{cong, only}
+use Rattle.parity.proofs.XorSums.{cong}
 use Rattle.parity.proofs.Sums.{count-cong}
-use Rattle.parity.proofs.Tests.{and-no-left, all-elim, all-intro, all-cong, any-cong, same}
-use Rattle.parity.proofs.Lists.{at-tabulate}
+use Rattle.parity.proofs.Tests.{and-no-left, all-cong, any-cong}
 use Rattle.gtb.specs.declared.Shape.{Shape}
 use Rattle.gtb.specs.Shape.{Lawful, wordLength}
-use Rattle.gtb.specs.Square.{lineOf, at, syndrome, Syndromes}
-use Rattle.gtb.proofs.Bounds.{bounds, positive}
-use Rattle.gtb.proofs.Lines.{line-lt}
-use Rattle.gtb.proofs.Rows.{syndrome-cong, syndrome-linear}
+use Rattle.gtb.specs.Square.{lineOf, at, Syndromes}
+use Rattle.gtb.proofs.Bounds.{bounds}
 use Rattle.correction.proofs.Tables.{shown, silent-by}
-use Rattle.decoder.specs.Decode.{located, alone, errorAt, restored, correctable}
-use Rattle.correction.specs.Error.{onCheck, checkOf}
+use Rattle.decoder.specs.Decode.{located, alone, errorAt, correctable}
+use Rattle.correction.specs.Error.{onCheck}
 use Rattle.decoder.specs.Steps.{judged, shares, aloneAmong, errorAmong, Listed, Measured, Found}
 use Rattle.correction.specs.Steps.{Within, Cancelled, Lists}
 use Rattle.parity.proofs.First.{first-cong}

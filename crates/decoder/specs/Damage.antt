@@ -1,13 +1,7 @@
 -- Errors, and what explains a received word (RULES 3).
 use mathlib.Core.Path.{_≡_}
-use mathlib.Core.Bool.{Bool, not}
 use mathlib.Core.List.{List}
 use Prim.Native.Nat.{ℕ, _-_, _<_, _≤_}
-use lib.Dec.{eqb}
-use lib.ListN.{length}
-use Rattle.parity.specs.Xor.{_⊕_}
-use Rattle.parity.specs.Count.{count}
-use Rattle.parity.specs.Lists.{tabulate}
 use Rattle.gtb.specs.declared.Shape.{Shape}
 use Rattle.gtb.specs.Shape.{wordLength}
 use Rattle.gtb.specs.Square.{lineOf, at, syndrome, Word, Codeword}

@@ -1,9 +1,8 @@
 -- What a lawful shape's numbers are.
 use mathlib.Core.Path.{_≡_}
 use mathlib.Core.Bool.{Bool, true, _&&_}
-use Prim.Native.Nat.{ℕ, _≤_, _<_}
+use Prim.Native.Nat.{_≤_, _<_}
 use native.Mathlib.Omega.{arith}
-use lib.Dec.{leb}
 use borrow.Author.Tests.{leb-true}
 use Rattle.parity.specs.Cyclic.{Order}
 use Rattle.parity.proofs.Tests.{and-left, and-right}

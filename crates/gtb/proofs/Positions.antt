@@ -1,7 +1,7 @@
 -- The information positions are exactly the positions whose column of the check matrix depends on lower ones (RULES 2).
 use mathlib.Core.Path.{_≡_, refl, sym, ap, ap₂, _∙_}
-use mathlib.Core.Bool.{Bool, true, false, not, cond}
-use mathlib.Core.Logic.{_↔_, ⊎-elim}
+use mathlib.Core.Bool.{Bool, true, false, cond}
+use mathlib.Core.Logic.{⊎-elim}
 use Prim.Native.Nat.{ℕ, zero, suc, _+_, _-_, _*_, _/_, _%_, _<_, _≤_}
 use native.Mathlib.Nat.{eq-zero-or-pos, le-div-iff-mul-le, le-refl}
 use native.Mathlib.Omega.{arith}
@@ -9,13 +9,13 @@ use lib.Arith.{digits-lt}
 use lib.Dec.{eqb, ltb, leb}
 use borrow.Author.Tests.{lt-ltb, le-ltb, eq-eqb, ne-eqb, leb-false}
 use Rattle.parity.specs.Xor.{_⊕_, xorSum, when}
-use Rattle.parity.specs.Count.{bit, count}
+use Rattle.parity.specs.Count.{bit}
 use Rattle.parity.proofs.Xors.{self, zero-r, eq-of-zero}
 use Rattle.parity.proofs.XorSums.{xs-suc, cong, none, split}
 use Rattle.parity.proofs.Tests.{either, and-both}
 use Rattle.parity.proofs.Sums.{bit-le, bit-true, bit-false}
 use Rattle.gtb.specs.declared.Shape.{Shape}
-use Rattle.gtb.specs.Shape.{Lawful, wordLength, infoLength}
+use Rattle.gtb.specs.Shape.{Lawful, wordLength}
 use Rattle.gtb.specs.Square.{lineOf, syndrome, Silent}
 use Rattle.gtb.specs.Positions.{column, Dependent, infoPosition, isInformation, InformationPositions}
 use Rattle.gtb.proofs.Bounds.{positive}

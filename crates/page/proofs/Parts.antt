@@ -1,12 +1,11 @@
 -- Parts of the symbols, as the code lends them, and the lists that the page writer makes on its way.
 use mathlib.Core.Path.{_≡_, ap, _∙_}
 use mathlib.Core.List.{List, [], _∷_, _++_, append-nil}
-use Prim.Native.Nat.{ℕ, suc, _+_, _-_, _<_, _≤_}
+use Prim.Native.Nat.{ℕ, _+_, _-_, _≤_}
 use native.Mathlib.Nat.{le-of-eq}
-use native.Mathlib.Numerals.{add-one}
 use native.Mathlib.Omega.{arith}
-use lib.ListN.{length, getD, take, drop, set, replicate, length-drop, length-set, drop-of-length-le}
-use lib.Seq.{drop-cons, set-at, take-suc, append-snoc, take-length, length-take-le, take-all, take-at}
+use lib.ListN.{length, take, drop, set, replicate, length-drop, length-set, drop-of-length-le}
+use lib.Seq.{take-all, take-at}
 use borrow.Rule.Slice.PartMut.{midOf, putMid, same-len-mid}
 use Rattle.gtb.specs.declared.Shape.{Shape}
 use Rattle.gtb.specs.Shape.{infoLength}

@@ -1,4 +1,4 @@
--- Demand 3 for reading clean damage to at most n - 1 digits (RULES, "Reading a damaged word").
+-- Demand 3 for reading clean damage to at most n - 1 digits (RULES 3).
 use mathlib.Core.Path.{_≡_, refl}
 use mathlib.Core.Bool.{Bool}
 use mathlib.Core.List.{List}

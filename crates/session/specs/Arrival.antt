@@ -1,4 +1,4 @@
--- An arrival (RULES, "The session"). What it brings is opened without the session; the session then decides.
+-- An arrival (RULES 5). What it brings is opened without the session; the session then decides.
 use mathlib.Core.Path.{_≡_}
 use mathlib.Core.Bool.{Bool, true, false, cond, _&&_}
 use mathlib.Core.List.{List, [], _∷_}
@@ -43,7 +43,7 @@ pub record Sound (way : Way) (s : Shape) : Type 0 where
       → (way .answer s (damaged v e) ≡ decoded.Corrected (weight s (at e))) × (way .word s (damaged v e) ≡ v)
   pub never : (w : List ℕ) → way .answer s w ≡ decoded.Refused Refusal.Overflow → ⊥
 
--- reading clean damage to at most n - 1 digits (RULES, "Reading a damaged word")
+-- reading clean damage to at most n - 1 digits (RULES 3)
 abbrev pub clean : Way
 clean = record { answer = decodeOf; word = restored; Allowed = λ s e. Unmasked s e × (weight s e ≤ s .n - 1) }
 

@@ -1,4 +1,4 @@
--- What must come of a list of arrivals: the claim of demand 3 (RULES, "The session").
+-- What must come of a list of arrivals: the claim of demand 3 (RULES 5; demand 3 is RULES 12).
 use mathlib.Core.Path.{_≡_}
 use mathlib.Core.Logic.{_↔_}
 use mathlib.Core.Bool.{Bool, true, false, _||_}

@@ -1,4 +1,4 @@
--- A recording, and the arrivals that fit it (RULES, "The session").
+-- A recording, and the arrivals that fit it (RULES 5).
 use mathlib.Core.Path.{_≡_}
 use mathlib.Core.Logic.{_⊎_}
 use mathlib.Core.Bool.{Bool, cond}

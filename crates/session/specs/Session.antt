@@ -1,4 +1,4 @@
--- The session, fresh and after a page (RULES, "The session").
+-- The session, fresh and after a page (RULES 5).
 use mathlib.Core.Bool.{Bool, true, false}
 use mathlib.Core.List.{List, [], _∷_}
 use mathlib.Core.Path.{_≡_}

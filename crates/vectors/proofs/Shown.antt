@@ -1,9 +1,8 @@
 -- The table holds: each line is computed from the definitions.
-use mathlib.Core.Path.{_≡_, refl, sym, _∙_}
-use mathlib.Core.Bool.{Bool, true, Bool·beq}
+use mathlib.Core.Path.{_≡_, refl}
+use mathlib.Core.Bool.{true, Bool·beq}
 use mathlib.Core.List.{List, [], _∷_}
-use Prim.Native.Nat.{ℕ, _<_}
-use lib.Dec.{eqb}
+use Prim.Native.Nat.{ℕ}
 use lib.ListN.{length}
 use Rattle.parity.specs.Xor.{_⊕_, xorSum, when}
 use Rattle.parity.specs.Count.{bit, sum, count, any, all, firstValue}
@@ -18,7 +17,7 @@ use Rattle.gtb.proofs.Words.{narrow-word, test-silent}
 use Rattle.correction.specs.Error.{damaged, mended}
 use Rattle.decoder.specs.Decode.{located, alone, errorAt, restored, correctable, decodeOf}
 use Rattle.page.specs.Page.{functions, zeros, pageOf, pageSymbols}
-use Rattle.vectors.specs.Bench.{among, Places, stored, received, Bench}
+use Rattle.vectors.specs.Bench.{among, Places, stored, Bench}
 
 -- the places are those of the closed form, by one computed test
 places : (s : Shape) → Lawful s → s .q ≡ 3 → (list : List ℕ) → all 9 (λ j. Bool·beq (among list j) (isInformation s j)) ≡ true → Places s list

@@ -1,7 +1,7 @@
 -- `decoder::correct::restore` meets its contract.
 use borrow.Author.Needs.{needs}
 use Rattle.decoder.specs.Decode.{restored}
-use Rattle.decoder.proofs.Answers.{placed, restores}
+use Rattle.decoder.proofs.Answers.{placed, takes-off}
 use Rattle.decoder.proofs.correct.restore.Statement.{statement}
 use Rattle.decoder.proofs.correct.restore.Tie as tie
 
@@ -13,7 +13,7 @@ same-length c = search needs
 
 returns : tie.Need-returns
 unfolding restored
-returns c = search (needs, restores)
+returns c = search (needs, takes-off)
 
 pub restore-spec : {M : Type 1} → statement M
 restore-spec = tie.close (tie.spec apply-requires same-length returns)
