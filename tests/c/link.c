@@ -1,5 +1,5 @@
 /*
- * Links the host pair from C and calls it on document 01's values. From the repository's root:
+ * Links the host pair from C and calls it on the rules' values. From the repository's root:
  *
  * cc -std=c99 -Wall -Wextra tests/c/link.c target/staticlib/libhost.a -o tests/target/link
  * tests/target/link

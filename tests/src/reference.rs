@@ -1,8 +1,8 @@
-//! A second implementation, written from document 01 alone, to compare the proved library with.
+//! A second implementation, written from the rules alone, to compare the proved library with.
 //!
 //! It goes by the definitions and takes no short cut that the library takes: information positions
 //! and the writer come from an elimination over the columns of the check matrix, and what the reader
-//! proposes is accepted only if it meets document 01's definition.
+//! proposes is accepted only if it meets the rules' definition.
 
 pub mod brute;
 pub mod elimination;

@@ -1,4 +1,4 @@
-//! Malformed text with the numbers that document 01 gives it, for a capture of shape (3, 2, 8).
+//! Malformed text with the numbers that the rules gives it, for a capture of shape (3, 2, 8).
 
 /// A page's word line.
 pub const GOOD: &str = "5 2 7 3 1 2 6 3 5";

@@ -1,4 +1,4 @@
-//! The reference against document 01's own statements, and its reader against trying everything.
+//! The reference against the rules' own statements, and its reader against trying everything.
 
 use crate::damage::{apply, make, unmasked, STYLES};
 use crate::random::Random;
@@ -25,7 +25,7 @@ pub fn group() -> Group {
     {
         group.test(format!("sampled words of ({q}, {n}, {b})"), move |random| sampled(Shape::new(q, n, b), random));
     }
-    group.test("document 01's capture", |_| example());
+    group.test("the rules' capture", |_| example());
     group
 }
 
@@ -126,6 +126,6 @@ fn sampled(shape: Shape, random: &mut Random) -> Verdict {
 fn example() -> Verdict {
     let input = "q n b\n3 2 8\nword\n5 2 7 3 1 2 6 3 5\n12 2 7 3 1 2 6 3 5\n1 0 0 0 1 0 0 0 0\n";
     let output = "outcome page fixed\ntaken 1 0\nagain 1 1\nrefused 4 0\nfunction calls\n3 1\n5 1\n";
-    require(tally(input.as_bytes()) == output.as_bytes(), "document 01's output")?;
+    require(tally(input.as_bytes()) == output.as_bytes(), "the rules' output")?;
     Ok(1)
 }

@@ -17,7 +17,7 @@ pub fn group(program: &Program) -> Group {
         let program = program.clone();
         group.test(name, move |random| body(&program, random));
     };
-    test("document 01's capture", |program, _| example(program));
+    test("the rules' capture", |program, _| example(program));
     test("line 1", |program, _| headings(program, &first_lines()));
     test("line 2", |program, _| headings(program, &second_lines()));
     test("line 3", |program, _| headings(program, &third_lines()));
@@ -69,7 +69,7 @@ pub fn compare(expected: &[u8], found: Result<Vec<u8>, String>) -> Option<String
     Some(format!("output line {} is {:?}, expected {:?}", same + 1, line(&found), line(&expected)))
 }
 
-/// An input whose output is known from document 01: reference and program must both give it.
+/// An input whose output is known from the rules: reference and program must both give it.
 fn expect_output(program: &Program, input: &[u8], output: &str) -> Result<(), String> {
     let wrong = compare(output.as_bytes(), Ok(tally(input))).map(|difference| format!("the reference: {difference}"));
     let wrong = wrong.or_else(|| compare(output.as_bytes(), program.run(input)));

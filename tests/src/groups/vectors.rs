@@ -1,4 +1,4 @@
-//! Document 01's bench values, as calls with what must come of them.
+//! The rules' bench values, as calls with what must come of them.
 
 use crate::call::{answer_of, difference, to_bytes, After, Call, Entry};
 use crate::reference::session::SESSION_LEN;

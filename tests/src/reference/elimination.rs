@@ -28,7 +28,7 @@ impl Bits {
     }
 }
 
-/// What document 01 calls check places and data places, for one (q, n).
+/// What the rules call parity and information positions, for one (q, n).
 pub struct Positions {
     /// The positions whose column is no sum of columns at lower positions, rising.
     pub parity: Vec<usize>,

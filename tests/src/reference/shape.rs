@@ -2,7 +2,7 @@
 
 pub const ORDERS: [u32; 10] = [3, 5, 7, 11, 13, 17, 19, 23, 29, 31];
 
-/// Document 01's "what is turned down"; the discriminant is the number.
+/// The rules' "what is turned down"; the discriminant is the number.
 #[derive(Clone, Copy, Debug, PartialEq, Eq)]
 pub enum Refusal {
     Shape = 1,
