@@ -3,7 +3,7 @@ use mathlib.Core.Path.{_≡_, refl}
 use Rattle.parity.specs.Xor.{_⊕_, xorSum, when}
 use Rattle.parity.specs.Count.{bit, sum, count, any, all, firstValue}
 use Rattle.parity.specs.Lists.{tabulate}
-use Rattle.gtb.specs.Shape.{orders, isOrder, lawful, slopeOf, scratchLength}
+use Rattle.gtb.specs.Shape.{orders, isOrder, lawful, slopeOf, scratchLength, regular, sloped, shapeRefusal, fitsSlope}
 use Rattle.gtb.specs.Square.{lineOf, narrow, syndrome, silentTest}
 use Rattle.correction.specs.Error.{mended}
 use Rattle.gtb.specs.Positions.{infoPosition, extractOf}
@@ -19,10 +19,10 @@ use Rattle.capture.specs.Feed.{start, feed, closing, outputOf}
 
 pub example : outputOf (ascii "q n b\n3 2 8\nword\n5 2 7 3 1 2 6 3 5\n12 2 7 3 1 2 6 3 5\n1 0 0 0 1 0 0 0 0\n")
     ≡ ascii "outcome page fixed\ntaken 1 0\nagain 1 1\nrefused 4 0\nfunction calls\n3 1\n5 1\n"
-unfolding outputOf closing feed start judgedOf arrived fault passed lineContent callsText callsFrom outcomeLine contentOf small valuesIn outcomeText countText outcomeName sameBytes spell decimal sessionAfter outcomeOf opened recorded overflows added countOf freshStatus freshOf marksOf pageOf zeros functions decodeOf correctable silentTest restored mended errorAt firstValue alone located extractOf infoPosition syndrome narrow lineOf slopeOf lawful isOrder orders scratchLength tabulate all any count sum bit when xorSum _⊕_
+unfolding outputOf closing feed start judgedOf arrived fault passed lineContent callsText callsFrom outcomeLine contentOf small valuesIn outcomeText countText outcomeName sameBytes spell decimal sessionAfter outcomeOf opened recorded overflows added countOf freshStatus freshOf marksOf pageOf zeros functions decodeOf correctable silentTest restored mended errorAt firstValue alone located extractOf infoPosition syndrome narrow lineOf slopeOf lawful regular sloped fitsSlope isOrder orders scratchLength tabulate all any count sum bit when xorSum _⊕_
 example = refl
 
 -- one fault alone: a shape outside its lists, before the third line is looked at
 pub fault-example : outputOf (ascii "q n b\n3 4 8\nwords\n") ≡ ascii "outcome page fixed\nrefused 1 0\n"
-unfolding outputOf closing feed start judgedOf fault passed lineContent outcomeLine contentOf small valuesIn outcomeText outcomeName sameBytes spell decimal freshStatus lawful isOrder orders all any
+unfolding outputOf closing feed start judgedOf fault passed lineContent outcomeLine contentOf small valuesIn outcomeText outcomeName sameBytes spell decimal freshStatus lawful regular shapeRefusal isOrder orders all any
 fault-example = refl

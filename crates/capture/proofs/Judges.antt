@@ -15,7 +15,7 @@ use Rattle.gtb.specs.declared.Shape.{Shape}
 use Rattle.gtb.specs.declared.Refusal.{Refusal}
 use Rattle.gtb.specs.declared.Status.{Status}
 use Rattle.gtb.specs.declared.Status.the-variants as status
-use Rattle.gtb.specs.Shape.{lawful, wordLength, scratchLength, shapeOf}
+use Rattle.gtb.specs.Shape.{shapeRefusal, lawful, wordLength, scratchLength, standard}
 use Rattle.gtb.specs.Answer as answer
 use Rattle.gtb.proofs.Sizes.{sizes}
 use Rattle.lines.specs.Text.{sameBytes, namesShape, namesWord}
@@ -92,7 +92,7 @@ module _ (σ : Session) {line stored : List ℕ} {count : ℕ} (h : Stored line 
   shaped-other ne e = rw (says, ne-eqb (length (h .values)) 3 (λ z. ne (sym (h .counted) ∙ z))) e
 
   pub shaped-three : {r : Judged} → count ≡ 3
-      → r ≡ begun σ (shapeOf (getD stored 0 0) (getD stored 1 0) (getD stored 2 0)) (freshStatus (shapeOf (getD stored 0 0) (getD stored 1 0) (getD stored 2 0)))
+      → r ≡ begun σ (standard (getD stored 0 0) (getD stored 1 0) (getD stored 2 0)) (freshStatus (standard (getD stored 0 0) (getD stored 1 0) (getD stored 2 0)))
       → r ≡ shaped σ (contentOf line)
   shaped-three three e =
       rw (says, eq-eqb (length (h .values)) 3 (h .counted ∙ three), ← h .kept 0 (omega arith) (omega arith), ← h .kept 1 (omega arith) (omega arith), ← h .kept 2 (omega arith) (omega arith)) e
@@ -111,7 +111,7 @@ opened-lawful : (s : Shape) (word scratch : List ℕ) → lawful s ≡ true
 unfolding opened
 opened-lawful s word scratch t = rw t
 
-opened-unlawful : (s : Shape) (word scratch : List ℕ) → lawful s ≡ false → opened clean s word scratch ≡ Rattle.session.specs.Arrival.Bad Refusal.Shape
+opened-unlawful : (s : Shape) (word scratch : List ℕ) → lawful s ≡ false → opened clean s word scratch ≡ Rattle.session.specs.Arrival.Bad (shapeRefusal s)
 unfolding opened
 opened-unlawful s word scratch f = rw f
 

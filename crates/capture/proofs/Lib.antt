@@ -4,3 +4,4 @@ pub mod Feeds
 pub mod Frames
 pub mod Examples
 pub mod Whole
+pub mod Standards

@@ -8,7 +8,7 @@ use Rattle.gtb.specs.declared.Refusal.{Refusal}
 use Rattle.lines.specs.Text.{newline, namesOutcome}
 use Rattle.session.specs.declared.Session.{Session}
 use Rattle.session.specs.Session.{freshOf}
-use Rattle.gtb.specs.Shape.{shapeOf}
+use Rattle.gtb.specs.Shape.{standard}
 use Rattle.capture.specs.declared.Phase.{Phase}
 use Rattle.capture.specs.declared.Phase.the-variants.{ShapeNames, ShapeValues, WordNames, Words, Ended}
 use Rattle.capture.specs.declared.Tally.{Tally}
@@ -17,7 +17,7 @@ use Rattle.capture.specs.Judge.{judgedOf}
 
 -- before the first line; the session is of no use until line 2 has come
 unfoldable pub start : Tally
-start = record { phase = ShapeNames; session = freshOf (shapeOf 0 0 0) }
+start = record { phase = ShapeNames; session = freshOf (standard 0 0 0) }
 
 -- a fault ends the program
 abbrev pub isEnded : Phase → Bool

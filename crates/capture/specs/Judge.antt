@@ -8,7 +8,7 @@ use Rattle.gtb.specs.declared.Shape.{Shape}
 use Rattle.gtb.specs.declared.Refusal.{Refusal}
 use Rattle.gtb.specs.declared.Status.{Status}
 use Rattle.gtb.specs.declared.Status.the-variants as status
-use Rattle.gtb.specs.Shape.{scratchLength, shapeOf}
+use Rattle.gtb.specs.Shape.{scratchLength, standard}
 use Rattle.lines.specs.Text.{sameBytes, namesShape, namesWord}
 use Rattle.lines.specs.Content.{Content, Spelled, Unreadable, contentOf}
 use Rattle.session.specs.declared.Session.{Session}
@@ -44,7 +44,7 @@ begun σ s status.Done = passed WordNames (freshOf s)
 begun σ s (status.Refused e) = fault σ e
 
 abbrev pub shapeIn : List ℕ → Shape
-shapeIn xs = shapeOf (getD xs 0 0) (getD xs 1 0) (getD xs 2 0)
+shapeIn xs = standard (getD xs 0 0) (getD xs 1 0) (getD xs 2 0)
 
 abbrev pub shaped : Session → Content → Judged
 shaped σ (Spelled xs) = cond (eqb (length xs) 3) (begun σ (shapeIn xs) (freshStatus (shapeIn xs))) (fault σ Refusal.Syntax)

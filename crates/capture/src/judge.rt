@@ -78,6 +78,7 @@ fn take_shape(session: Session, line: &[u8]) -> Judged
         q: values[0],
         n: values[1],
         b: values[2],
+        slopes: gtb::STANDARD,
     };
     start_session(session, shape)
 }

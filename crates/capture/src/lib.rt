@@ -57,7 +57,12 @@ pub fn limit() -> usize
 pub fn begin() -> Reader
     ensures { λ r. ⌜ (r .tally ≡ start) × (r .held ≡ 0) ⌝ }
 {
-    let fresh = Session::fresh(Shape { q: 0, n: 0, b: 0 });
+    let fresh = Session::fresh(Shape {
+        q: 0,
+        n: 0,
+        b: 0,
+        slopes: gtb::STANDARD,
+    });
     let session = fresh.session;
     let tally = Tally {
         phase: Phase::ShapeNames,

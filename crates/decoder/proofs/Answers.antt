@@ -7,7 +7,7 @@ use lib.Dec.{eqb}
 use lib.ListN.{length}
 use Rattle.gtb.specs.declared.Shape.{Shape}
 use Rattle.gtb.specs.declared.Refusal.{Refusal}
-use Rattle.gtb.specs.Shape.{lawful, wordLength}
+use Rattle.gtb.specs.Shape.{lawful, shapeRefusal, wordLength}
 use Rattle.gtb.specs.Square.{at, narrow}
 use Rattle.correction.specs.declared.Decoded.{Decoded}
 use Rattle.correction.specs.declared.Decoded.the-variants.{Corrected, Refused}
@@ -40,9 +40,9 @@ decoding {s} {w} {w′} {r} answer word =
     subst₂ (λ (x : List ℕ) (y : Decoded). Decoding s w x y) (sym (word ∙ ap (decodedWord w (restored s w)) answer)) (sym answer) (decode-meets s w)
 
 module _ {s : Shape} {w : List ℕ} where
-  pub refuses-shape : lawful s ≡ false → Decoding s w w (Refused Refusal.Shape)
+  pub refuses-shape : {e : Refusal} → lawful s ≡ false → e ≡ shapeRefusal s → Decoding s w w (Refused e)
   unfolding decodeOf
-  refuses-shape h = decoding (rw h) refl
+  refuses-shape h is = decoding (rw h (ap Refused is)) refl
 
   pub refuses-length : lawful s ≡ true → eqb (length w) (wordLength s) ≡ false → Decoding s w w (Refused Refusal.Length)
   unfolding decodeOf

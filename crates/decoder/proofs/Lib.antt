@@ -6,3 +6,5 @@ pub mod Reading
 pub mod Answers
 pub mod Clean
 pub mod Meaning
+pub mod Alikes
+pub mod Refusals

@@ -14,7 +14,7 @@ use Rattle.parity.proofs.Tests.{either, and-left, and-right, not-of-true, not-o
 use Rattle.parity.proofs.Sums.{count-cong}
 use Rattle.gtb.specs.declared.Shape.{Shape}
 use Rattle.gtb.specs.declared.Refusal.{Refusal}
-use Rattle.gtb.specs.Shape.{lawful, Lawful, wordLength}
+use Rattle.gtb.specs.Shape.{lawful, shapeRefusal, Lawful, wordLength}
 use Rattle.gtb.specs.Square.{lineOf, at, narrow, syndrome, Word, Silent}
 use Rattle.gtb.proofs.Bounds.{bounds}
 use Rattle.gtb.proofs.Lines.{line-lt}
@@ -25,7 +25,7 @@ use Rattle.decoder.specs.Damage.{Unmasked, Explains}
 use Rattle.correction.specs.Error.{onCheck, mended}
 use Rattle.decoder.specs.Decode.{located, errorAt, restored, correctable, decodeOf, Decoding}
 use Rattle.correction.specs.Answer.{decodedWord}
-use Rattle.gtb.proofs.Answers.{unless-passed}
+use Rattle.gtb.proofs.Answers.{unless-passed, shape-refusal-both}
 use Rattle.correction.proofs.Errors.{damaged-at, damaged-word, damaged-places, errorWord, error-at, error-weight, put-back, same-syndrome, error-word, mended-word}
 use Rattle.decoder.proofs.Clean.{Received, first-private, error-located, error-elsewhere, located-count, clean-restored, clean-correctable}
 
@@ -157,7 +157,7 @@ corrected-not e k h = let z : _≡_ {A = ℕ} 0 1 = cc in omega arith
 accepted-explains : (s : Shape) (w : List ℕ) (k : ℕ) → decodeOf s w ≡ Corrected k → Explains s w (restored s w) k
 unfolding decodeOf
 accepted-explains s w k h =
-    let (law, h2) = unless-passed (lawful s) _ _ (corrected-not Refusal.Shape k) h in
+    let (law, h2) = unless-passed (lawful s) _ _ (corrected-not (shapeRefusal s) k) h in
     let (size, h3) = unless-passed (eqb (length w) (wordLength s)) _ _ (corrected-not Refusal.Length k) h2 in
     let (slim, h4) = unless-passed (narrow (s .b) w) _ _ (corrected-not Refusal.Width k) h3 in
     let (ok, last) = unless-passed (correctable s w) _ _ (corrected-not Refusal.Uncorrectable k) h4 in
@@ -169,7 +169,8 @@ uncorrectable-lawful : (s : Shape) (w : List ℕ) → decodeOf s w ≡ Refused R
 unfolding decodeOf
 uncorrectable-lawful s w h =
     ⊎-elim (λ (law : lawful s ≡ true). law)
-    (λ (no-law : lawful s ≡ false). let z : _≡_ {A = ℕ} 0 1 = cc (rw no-law at h) in absurd (omega arith))
+    (λ (no-law : lawful s ≡ false).
+    absurd (shape-refusal-both (λ e. Refused e ≡ Refused Refusal.Uncorrectable → ⊥) (λ r. let z : _≡_ {A = ℕ} 0 1 = cc in omega arith) (λ r. let z : _≡_ {A = ℕ} 0 1 = cc in omega arith) s (rw no-law at h)))
     (either (lawful s))
 
 -- for every shape and word: the answer by equation, and what it means

@@ -9,7 +9,7 @@ use Rattle.parity.specs.Xor.{when}
 use Rattle.parity.specs.Count.{count, any, all, firstValue}
 use Rattle.gtb.specs.declared.Shape.{Shape}
 use Rattle.gtb.specs.declared.Refusal.{Refusal}
-use Rattle.gtb.specs.Shape.{lawful, wordLength}
+use Rattle.gtb.specs.Shape.{lawful, shapeRefusal, wordLength}
 use Rattle.gtb.specs.Square.{lineOf, at, narrow, silentTest}
 use Rattle.gtb.specs.Answer.{unless}
 use Rattle.correction.specs.declared.Decoded.{Decoded}
@@ -39,10 +39,10 @@ unfoldable pub correctable : Shape → List ℕ → Bool
 correctable s w =
     leb (count (wordLength s) (located s (at w))) (s .n - 1) && silentTest s (at (mended s w (errorAt s (at w))))
 
--- tests 1, 2, 3, 4
+-- tests 1, 18, 2, 3, 4
 unfoldable pub decodeOf : Shape → List ℕ → Decoded
 decodeOf s w =
-    unless (lawful s) (Refused Refusal.Shape)
+    unless (lawful s) (Refused (shapeRefusal s))
     (unless (eqb (length w) (wordLength s)) (Refused Refusal.Length)
     (unless (narrow (s .b) w) (Refused Refusal.Width)
     (unless (correctable s w) (Refused Refusal.Uncorrectable) (Corrected (count (wordLength s) (located s (at w)))))))

@@ -8,12 +8,12 @@ use gtb::Refusal;
 use gtb::Shape;
 ghost use Rattle.decoder.specs.Decode.{Decoding};
 
-// Reading: tests 1, 2, 3, then the work.
+// Reading: tests 1, 18, 2, 3, then the work.
 pub fn decode(shape: Shape, word: &mut [u32]) -> Decoded
     ensures { λ r. ⌜ Decoding shape (now (word .entry)) (now (word .exit)) r ⌝ }
 {
     if !gtb::is_lawful(shape) {
-        return Decoded::Refused(Refusal::Shape);
+        return Decoded::Refused(gtb::shape_refusal(shape));
     }
     let q = shape.q as usize;
     if word.len() != q * q {

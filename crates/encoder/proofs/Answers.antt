@@ -11,7 +11,7 @@ use Rattle.gtb.specs.declared.Shape.{Shape}
 use Rattle.gtb.specs.declared.Refusal.{Refusal}
 use Rattle.gtb.specs.declared.Status.{Status}
 use Rattle.gtb.specs.declared.Status.the-variants.{Done, Refused}
-use Rattle.gtb.specs.Shape.{lawful, Lawful, wordLength, infoLength, scratchLength}
+use Rattle.gtb.specs.Shape.{lawful, shapeRefusal, Lawful, wordLength, infoLength, scratchLength}
 use Rattle.gtb.specs.Square.{narrow}
 use Rattle.gtb.specs.Positions.{extractOf, Encodes}
 use Rattle.gtb.specs.Answer.{statusNumber, scratchAfter}
@@ -24,7 +24,7 @@ abbrev pub sized : Shape → List ℕ → List ℕ → List ℕ → Bool
 sized s symbols scratch word = eqb (length symbols) (infoLength s) && eqb (length scratch) (scratchLength s) && eqb (length word) (wordLength s)
 
 module _ (s : Shape) (symbols scratch word given : List ℕ) where
-  pub status-shape : lawful s ≡ false → statusOf s symbols scratch word given ≡ Refused Refusal.Shape
+  pub status-shape : lawful s ≡ false → statusOf s symbols scratch word given ≡ Refused (shapeRefusal s)
   unfolding statusOf
   status-shape h = rw h
 
@@ -58,7 +58,7 @@ pub record Passed (s : Shape) (symbols word given : List ℕ) : Type 0 where
 pub passed : (s : Shape) (symbols scratch word given scratch′ : List ℕ) (r : Status) → Tested s symbols scratch word given scratch′ r → r ≡ Done → Passed s symbols word given
 unfolding statusOf
 passed s symbols scratch word given scratch′ r t d =
-    let (shape, rest) = unless-done (lawful s) Refusal.Shape _ (sym (t .answer) ∙ d) in
+    let (shape, rest) = unless-done (lawful s) (shapeRefusal s) _ (sym (t .answer) ∙ d) in
     let (sizes, last) = unless-done (sized s symbols scratch word) Refusal.Length _ rest in
     let (width, end) = unless-done (narrow (s .b) given) Refusal.Width Done last in
     record {

@@ -10,3 +10,4 @@ pub mod Answers
 pub mod Places
 pub mod Upper
 pub mod Codewords
+pub mod Alikes

@@ -9,15 +9,15 @@ use Rattle.gtb.specs.declared.Shape.{Shape}
 use Rattle.gtb.specs.declared.Refusal.{Refusal}
 use Rattle.gtb.specs.declared.Status.{Status}
 use Rattle.gtb.specs.declared.Status.the-variants.{Done, Refused}
-use Rattle.gtb.specs.Shape.{lawful, wordLength, infoLength, scratchLength}
+use Rattle.gtb.specs.Shape.{lawful, shapeRefusal, wordLength, infoLength, scratchLength}
 use Rattle.gtb.specs.Square.{narrow}
 use Rattle.gtb.specs.Positions.{extractOf, Encodes}
 use Rattle.gtb.specs.Answer.{statusNumber, unless, scratchAfter}
 
--- both entries test 1, 2, 3; the digits that 3 looks at are those that come in
+-- both entries test 1, 18, 2, 3; the digits that 3 looks at are those that come in
 unfoldable pub statusOf : Shape → List ℕ → List ℕ → List ℕ → List ℕ → Status
 statusOf s symbols scratch word given =
-    unless (lawful s) (Refused Refusal.Shape)
+    unless (lawful s) (Refused (shapeRefusal s))
     (unless (eqb (length symbols) (infoLength s) && eqb (length scratch) (scratchLength s) && eqb (length word) (wordLength s)) (Refused Refusal.Length)
     (unless (narrow (s .b) given) (Refused Refusal.Width) Done))
 

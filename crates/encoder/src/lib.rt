@@ -37,7 +37,7 @@ fn test(shape: Shape, symbols: &[u32], scratch: &mut [u32], word: &[u32], given:
     ensures { λ r. ⌜ Tested shape (now (symbols .entry)) (now (scratch .entry)) (now (word .entry)) (now (given .entry)) (now (scratch .exit)) r ⌝ }
 {
     if !gtb::is_lawful(shape) {
-        return Status::Refused(Refusal::Shape);
+        return Status::Refused(gtb::shape_refusal(shape));
     }
     if !sizes_match(shape, symbols.len(), scratch.len(), word.len()) {
         return Status::Refused(Refusal::Length);

@@ -5,12 +5,15 @@ use mathlib.Core.List.{List}
 use mathlib.Core.Logic.{⊎-elim}
 use Prim.Native.Nat.{ℕ, _≤_}
 use native.Mathlib.Omega.{arith}
-use lib.Dec.{lit≤}
+use lib.Dec.{eqb, lit≤}
+use borrow.Author.Tests.{eqb-false}
 use lib.ListN.{length, length-replicate}
 use Rattle.parity.proofs.Tests.{either}
+use Rattle.gtb.specs.declared.Shape.{Shape}
 use Rattle.gtb.specs.declared.Refusal.{Refusal}
 use Rattle.gtb.specs.declared.Status.{Status}
 use Rattle.gtb.specs.declared.Status.the-variants.{Done, Refused}
+use Rattle.gtb.specs.Shape.{regular, lawful, shapeRefusal}
 use Rattle.gtb.specs.Answer.{refusalNumber, Answered, unless, isEarly, scratchAfter}
 
 -- a refusal names one number only, and is not Done
@@ -33,15 +36,15 @@ unless-passed true refusal next ne h = (refl, h)
 unless-passed false refusal next ne h = absurd (ne h)
 
 -- an answer that neither gives
-pub unless-never : {A : Type 0} (t : Bool) (refusal next : A) {r : A} → (refusal ≡ r → ⊥) → (next ≡ r → ⊥) → unless t refusal next ≡ r → ⊥
+pub unless-never : {A : Type 0} (t : Bool) (refusal next : A) {r : A} → (t ≡ false → refusal ≡ r → ⊥) → (next ≡ r → ⊥) → unless t refusal next ≡ r → ⊥
 unless-never true refusal next ne last h = last h
-unless-never false refusal next ne last h = ne h
+unless-never false refusal next ne last h = ne refl h
 
 pub unless-done : (t : Bool) (e : Refusal) (next : Status) → unless t (Refused e) next ≡ Done → (t ≡ true) × (next ≡ Done)
 unless-done t e next = unless-passed t (Refused e) next (never-done e)
 
--- the greatest number
-pub refusal-small : (e : Refusal) → refusalNumber e ≤ 10
+-- no number is above 19
+pub refusal-small : (e : Refusal) → refusalNumber e ≤ 19
 refusal-small Refusal.Shape = lit≤ tt
 refusal-small Refusal.Length = lit≤ tt
 refusal-small Refusal.Width = lit≤ tt
@@ -52,6 +55,7 @@ refusal-small Refusal.Function = lit≤ tt
 refusal-small Refusal.Tail = lit≤ tt
 refusal-small Refusal.Overflow = lit≤ tt
 refusal-small Refusal.Syntax = lit≤ tt
+refusal-small Refusal.Slope = lit≤ tt
 
 -- a refusal leaves a scratch of the same length
 pub scratch-size : (e : Refusal) (scratch : List ℕ) → length (scratchAfter e scratch) ≡ length scratch
@@ -60,3 +64,42 @@ scratch-size e scratch =
     ⊎-elim (λ (early : isEarly e ≡ true). rw early)
     (λ (late : isEarly e ≡ false). rw late (length-replicate (length scratch) 0))
     (either (isEarly e))
+
+-- ---- a shape is turned down by 1 or by 18
+pub shape-refusal-both : (P : Refusal → Type 0) → P Refusal.Shape → P Refusal.Slope → (s : Shape) → P (shapeRefusal s)
+unfolding shapeRefusal
+shape-refusal-both P shape slope s =
+    ⊎-elim (λ (good : regular s ≡ true). rw good slope) (λ (bad : regular s ≡ false). rw bad shape) (either (regular s))
+
+-- either leaves the scratch as it was
+pub shape-scratch : (s : Shape) (scratch : List ℕ) → scratch ≡ scratchAfter (shapeRefusal s) scratch
+unfolding scratchAfter
+shape-scratch s scratch = shape-refusal-both (λ e. scratch ≡ scratchAfter e scratch) refl refl s
+
+-- refusals with different numbers are different
+pub other-refusal : (e e′ : Refusal) → eqb (refusalNumber e) (refusalNumber e′) ≡ false → e ≡ e′ → ⊥
+other-refusal e e′ differ h = eqb-false (refusalNumber e) (refusalNumber e′) differ (ap refusalNumber h)
+
+-- ---- a refusal that none of the tests 1, 18 and 2 to 8 gives
+pub record Foreign (s : Shape) (e : Refusal) : Type 0 where
+  pub shape : lawful s ≡ false → shapeRefusal s ≡ e → ⊥
+  pub length : Refusal.Length ≡ e → ⊥
+  pub width : Refusal.Width ≡ e → ⊥
+  pub damage : Refusal.Uncorrectable ≡ e → ⊥
+  pub page : Refusal.Page ≡ e → ⊥
+  pub count : Refusal.Count ≡ e → ⊥
+  pub function : Refusal.Function ≡ e → ⊥
+  pub tail : Refusal.Tail ≡ e → ⊥
+
+-- 9 is one
+pub nine-foreign : (s : Shape) → Foreign s Refusal.Overflow
+nine-foreign s = record {
+  shape = λ no. shape-refusal-both (λ e. e ≡ Refusal.Overflow → ⊥) (other-refusal _ _ refl) (other-refusal _ _ refl) s;
+  length = other-refusal _ _ refl;
+  width = other-refusal _ _ refl;
+  damage = other-refusal _ _ refl;
+  page = other-refusal _ _ refl;
+  count = other-refusal _ _ refl;
+  function = other-refusal _ _ refl;
+  tail = other-refusal _ _ refl;
+}

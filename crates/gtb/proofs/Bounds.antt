@@ -3,11 +3,12 @@ use mathlib.Core.Path.{_≡_}
 use mathlib.Core.Bool.{Bool, true, _&&_}
 use Prim.Native.Nat.{_≤_, _<_}
 use native.Mathlib.Omega.{arith}
+use lib.Dec.{leb}
 use borrow.Author.Tests.{leb-true}
 use Rattle.parity.specs.Cyclic.{Order}
 use Rattle.parity.proofs.Tests.{and-left, and-right}
 use Rattle.gtb.specs.declared.Shape.{Shape}
-use Rattle.gtb.specs.Shape.{lawful, Lawful}
+use Rattle.gtb.specs.Shape.{isOrder, regular, sloped, lawful, Lawful}
 use Rattle.gtb.proofs.Orders.{order-rule}
 
 -- order, directions and width of a lawful shape
@@ -25,10 +26,24 @@ pub record Bounds (s : Shape) : Type 0 where
 and-parts : (a b : Bool) → (a && b) ≡ true → (a ≡ true) × (b ≡ true)
 and-parts a b h = (and-left a b h, and-right a b h)
 
+-- the directions that test 1 lets pass
+pub regular-directions : (s : Shape) → regular s ≡ true → (2 ≤ s .n) × (s .n ≤ 8)
+unfolding regular
+regular-directions s h =
+    let (upto-n8, b1) = and-parts _ _ (and-left _ _ h) in
+    let (upto-nq, n8) = and-parts _ _ upto-n8 in
+    (leb-true 2 (s .n) (and-right (isOrder (s .q)) _ (and-left _ _ upto-nq)), leb-true (s .n) 8 n8)
+
+pub regular-order : (s : Shape) → regular s ≡ true → s .n ≤ s .q
+unfolding regular
+regular-order s h =
+    let (upto-nq, n8) = and-parts _ _ (and-left _ _ (and-left _ _ h)) in
+    leb-true (s .n) (s .q) (and-right (isOrder (s .q) && leb 2 (s .n)) _ upto-nq)
+
 pub bounds : (s : Shape) → Lawful s → Bounds s
-unfolding lawful
+unfolding lawful regular
 bounds s h =
-    let (upto-b1, b32) = and-parts _ _ h in
+    let (upto-b1, b32) = and-parts _ _ (and-left _ (sloped s) h) in
     let (upto-n8, b1) = and-parts _ _ upto-b1 in
     let (upto-nq, n8) = and-parts _ _ upto-n8 in
     let (upto-n2, nq) = and-parts _ _ upto-nq in

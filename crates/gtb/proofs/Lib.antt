@@ -6,6 +6,8 @@ pub mod Lines
 pub mod Rows
 pub mod Rounds
 pub mod Words
+pub mod Alikes
+pub mod Standard
 pub mod Answers
 pub mod Sweeps
 pub mod Copies

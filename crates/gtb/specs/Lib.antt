@@ -1,4 +1,5 @@
 pub mod Shape
+pub mod Alike
 pub mod Square
 pub mod Positions
 pub mod Answer

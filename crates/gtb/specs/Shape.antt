@@ -1,16 +1,21 @@
--- Shapes: order q, directions n, width b (RULES 1).
-use mathlib.Core.Bool.{Bool, true, not, _&&_}
+-- Shapes: order q, directions n, width b and slopes (RULES 1).
+use mathlib.Core.Bool.{Bool, true, not, cond, _&&_}
 use mathlib.Core.List.{List, [], _∷_}
 use mathlib.Core.Path.{_≡_}
 use Prim.Native.Nat.{ℕ, _+_, _-_, _*_, _/_, _%_}
-use lib.Dec.{leb, eqb}
+use lib.Dec.{leb, ltb, eqb}
 use lib.ListN.{getD}
 use Rattle.parity.specs.Count.{any, all}
 use Rattle.gtb.specs.declared.Shape.{Shape}
+use Rattle.gtb.specs.declared.Refusal.{Refusal}
 
--- the shape of three numbers
-abbrev pub shapeOf : ℕ → ℕ → ℕ → Shape
-shapeOf q n b = record { q = q; n = n; b = b }
+-- the slopes 0, 1, 2, ..
+abbrev pub standardSlopes : List ℕ
+standardSlopes = 0 ∷ 1 ∷ 2 ∷ 3 ∷ 4 ∷ 5 ∷ 6 ∷ []
+
+-- the shape of three numbers: its slopes are 0 to n - 2
+abbrev pub standard : ℕ → ℕ → ℕ → Shape
+standard q n b = record { q = q; n = n; b = b; slopes = standardSlopes }
 
 -- the ten orders
 unfoldable pub orders : List ℕ
@@ -24,9 +29,24 @@ isOrder q = any 10 (λ k. eqb (getD orders k 0) q)
 unfoldable pub oddPrime : ℕ → Bool
 oddPrime q = eqb (q % 2) 1 && leb 3 q && all (q - 2) (λ d. not (eqb (q % (d + 2)) 0))
 
--- q is an order, n goes from 2 to the smaller of q and 8, b from 1 to 32
+-- test 1: q is an order, n goes from 2 to the smaller of q and 8, b from 1 to 32
+unfoldable pub regular : Shape → Bool
+regular s = isOrder (s .q) && leb 2 (s .n) && leb (s .n) (s .q) && leb (s .n) 8 && leb 1 (s .b) && leb (s .b) 32
+
+-- the slope at place t of the list is below q and stands at no place before t
+unfoldable pub fitsSlope : ℕ → List ℕ → ℕ → Bool
+fitsSlope q slopes t = ltb (getD slopes t 0) q && all t (λ u. not (eqb (getD slopes u 0) (getD slopes t 0)))
+
+-- test 18: so it is with the first n - 1; the others are not looked at
+unfoldable pub sloped : Shape → Bool
+sloped s = all (s .n - 1) (fitsSlope (s .q) (s .slopes))
+
 unfoldable pub lawful : Shape → Bool
-lawful s = isOrder (s .q) && leb 2 (s .n) && leb (s .n) (s .q) && leb (s .n) 8 && leb 1 (s .b) && leb (s .b) 32
+lawful s = regular s && sloped s
+
+-- which of the two tests turns a shape down
+unfoldable pub shapeRefusal : Shape → Refusal
+shapeRefusal s = cond (regular s) Refusal.Slope Refusal.Shape
 
 abbrev pub Lawful : Shape → Type 0
 Lawful s = lawful s ≡ true
@@ -43,6 +63,6 @@ infoLength s = (s .q - 1) * (s .q + 1 - s .n)
 unfoldable pub scratchLength : Shape → ℕ
 scratchLength s = s .n * s .q * ((s .q * s .q + 31) / 32)
 
--- the slope of direction t, from 1 on
+-- the slope of direction t, from 1 on: number t of the list
 unfoldable pub slopeOf : Shape → ℕ → ℕ
-slopeOf s t = t - 1
+slopeOf s t = getD (s .slopes) (t - 1) 0

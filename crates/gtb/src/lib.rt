@@ -4,18 +4,21 @@ pub mod size;
 pub mod syndrome;
 
 ghost use mathlib.Core.Path.{_≡_};
+ghost use mathlib.Core.Bool.{true};
 ghost use mathlib.Core.List.{_++_};
 ghost use Prim.Native.Nat.{_+_, _%_, _≤_, _<_};
 ghost use lib.ListN.{length, drop, replicate};
 ghost use Rattle.parity.specs.Xor.{xorSum};
-ghost use Rattle.gtb.specs.Shape.{slopeOf, isOrder, lawful};
+ghost use Rattle.gtb.specs.Shape.{slopeOf, isOrder, regular, fitsSlope, sloped, lawful, shapeRefusal};
 ghost use Rattle.gtb.specs.Square.{at, narrow};
 
-// (q, n, b): order, directions and width in bits. A caller's shape may hold any numbers.
+// (q, n, b): order, directions and width in bits; then the slopes of the directions from 1 on, of which the first n - 1 count.
+// A caller's shape may hold any numbers.
 pub struct Shape {
     pub q: u32,
     pub n: u32,
     pub b: u32,
+    pub slopes: [u32; 7],
 }
 
 // What is turned down, with the trade word of each; specs/Answer.antt has the numbers.
@@ -30,6 +33,7 @@ pub enum Refusal {
     Tail, // tail
     Overflow, // worn
     Syntax, // text
+    Slope, // slope
 }
 
 // The answer of an entry that carries no value.
@@ -38,11 +42,16 @@ pub enum Status {
     Refused(Refusal),
 }
 
+// The slopes 0, 1, 2, ..
+pub const STANDARD: [u32; 7] = [0, 1, 2, 3, 4, 5, 6];
+
 // The slope of direction t, from 1 on.
 pub fn slope(shape: Shape, t: usize) -> usize
+    requires { ⌜ (1 ≤ t) × (t < 8) ⌝ }
     ensures { λ r. ⌜ r ≡ slopeOf shape t ⌝ }
 {
-    if t == 0 { 0 } else { t - 1 }
+    let at = t - 1;
+    shape.slopes[at] as usize
 }
 
 // The orders, as specs/Shape.antt has them.
@@ -61,9 +70,9 @@ fn is_order(q: u32) -> bool
     false
 }
 
-// The tests on a caller's shape.
-pub fn is_lawful(shape: Shape) -> bool
-    ensures { λ r. ⌜ r ≡ lawful shape ⌝ }
+// Test 1 on a caller's shape.
+fn is_regular(shape: Shape) -> bool
+    ensures { λ r. ⌜ r ≡ regular shape ⌝ }
 {
     is_order(shape.q)
         && 2 <= shape.n
@@ -71,6 +80,60 @@ pub fn is_lawful(shape: Shape) -> bool
         && shape.n <= 8
         && 1 <= shape.b
         && shape.b <= 32
+}
+
+// The slope at place t is below q and stands at no place before it.
+fn fits_slope(slopes: &[u32; 7], q: u32, t: usize) -> bool
+    requires { ⌜ t < 7 ⌝ }
+    ensures { λ r. ⌜ r ≡ fitsSlope q (now (slopes .entry)) t ⌝ }
+{
+    let slope = slopes[t];
+    if q <= slope {
+        return false;
+    }
+    for u in 0..t {
+        if slopes[u] == slope {
+            return false;
+        }
+    }
+    true
+}
+
+// Test 18, past test 1.
+fn is_sloped(shape: Shape) -> bool
+    requires { ⌜ regular shape ≡ true ⌝ }
+    ensures { λ r. ⌜ r ≡ sloped shape ⌝ }
+{
+    let slopes = shape.slopes;
+    let q = shape.q;
+    let n = shape.n as usize;
+    let last = n - 1;
+    for t in 0..last {
+        if !fits_slope(&slopes, q, t) {
+            return false;
+        }
+    }
+    true
+}
+
+// Both tests.
+pub fn is_lawful(shape: Shape) -> bool
+    ensures { λ r. ⌜ r ≡ lawful shape ⌝ }
+{
+    if !is_regular(shape) {
+        return false;
+    }
+    is_sloped(shape)
+}
+
+// Which of them turns a shape down.
+pub fn shape_refusal(shape: Shape) -> Refusal
+    ensures { λ r. ⌜ r ≡ shapeRefusal shape ⌝ }
+{
+    if is_regular(shape) {
+        return Refusal::Slope;
+    }
+    Refusal::Shape
 }
 
 // Every symbol is below 2^b. The loop has no early exit, so that it is compiled for several symbols at once.

@@ -15,7 +15,8 @@ use Rattle.gtb.specs.declared.Status.{Status}
 use Rattle.gtb.specs.declared.Status.the-variants.{Done}
 use Rattle.gtb.specs.declared.Status.the-variants as status
 use Rattle.gtb.specs.Shape.{lawful}
-use Rattle.gtb.specs.Answer.{unless, refusalNumber}
+use Rattle.gtb.specs.Answer.{unless, refusalNumber, statusNumber}
+use Rattle.page.specs.Page.{readNumber, pageOf}
 use Rattle.session.specs.declared.Session.{Session}
 use Rattle.session.specs.declared.Counted.the-variants as counted
 use Rattle.session.specs.declared.Outcome.{Outcome}
@@ -25,8 +26,26 @@ use Rattle.session.specs.Session.{freshOf, freshStatus, countedOf}
 use Rattle.session.specs.Arrival.{clean, outcomeValues}
 use Rattle.session.specs.Arrival as arrival
 use Rattle.session.proofs.Outcome.{the-type}
-use Rattle.harness.specs.Crossing.{sessionOf, valuesOf}
-use Rattle.harness.specs.Entries.{beginningOf, FreshCrossing, countedIn, sessionIn, ArriveCrossing}
+use Rattle.harness.specs.Crossing.{shapeIn, sessionOf, valuesOf}
+use Rattle.harness.specs.Entries.{Shaped, pageCrossing, beginningOf, FreshCrossing, countedIn, sessionIn, ArriveCrossing}
+
+-- ---- a shape of ten values, or not
+module _ {shape : List ℕ} {Promise : Shape → Type 0} {Untouched : Type 0} {r : ℕ} where
+  pub shaped : {s : Shape} → length shape ≡ 10 → s ≡ shapeIn shape → Promise s → Shaped shape Promise Untouched r
+  shaped size is promise = record { right = λ _. rw (← is) promise; wrong = λ other. absurd (other size) }
+
+  pub unshaped : (length shape ≡ 10 → ⊥) → r ≡ 2 ^ 31 + refusalNumber Refusal.Length → Untouched → Shaped shape Promise Untouched r
+  unshaped other is left = record { right = λ size. absurd (other size); wrong = λ _. (is, left) }
+
+-- ---- the page reader
+module _ (shape symbols : List ℕ) where
+  pub page-wrong : (length shape ≡ 10 → ⊥) → pageCrossing shape symbols ≡ statusNumber (status.Refused Refusal.Length)
+  unfolding pageCrossing
+  page-wrong l = rw (ne-eqb _ _ l)
+
+  pub page-right : length shape ≡ 10 → pageCrossing shape symbols ≡ readNumber (pageOf (shapeIn shape) symbols)
+  unfolding pageCrossing
+  page-right l = rw (eq-eqb _ _ l)
 
 -- ---- a fresh session
 refuses : (t : Bool) (e′ e : Refusal) (next : Status) → unless t (status.Refused e′) Done ≡ status.Refused e → unless t (status.Refused e′) next ≡ status.Refused e
@@ -46,11 +65,11 @@ module _ (s : Shape) (session : List ℕ) where
   unfolding beginningOf freshStatus
   fresh-shape h = fresh-refused (refuses (lawful s) _ _ _ h)
 
-  pub fresh-length : {r : ℕ} → freshStatus s ≡ Done → (length session ≡ 1283 → ⊥) → r ≡ 2 ^ 31 + refusalNumber Refusal.Length → FreshCrossing s session session r
+  pub fresh-length : {r : ℕ} → freshStatus s ≡ Done → (length session ≡ 1290 → ⊥) → r ≡ 2 ^ 31 + refusalNumber Refusal.Length → FreshCrossing s session session r
   unfolding beginningOf freshStatus
   fresh-length h l = fresh-refused {e = Refusal.Length} (passes (lawful s) _ _ h ∙ rw (ne-eqb _ _ l))
 
-  pub fresh-done : {σ : Session} {session′ : List ℕ} → freshStatus s ≡ Done → length session ≡ 1283 → σ ≡ freshOf s → session′ ≡ valuesOf σ → FreshCrossing s session session′ 0
+  pub fresh-done : {σ : Session} {session′ : List ℕ} → freshStatus s ≡ Done → length session ≡ 1290 → σ ≡ freshOf s → session′ ≡ valuesOf σ → FreshCrossing s session session′ 0
   unfolding beginningOf freshStatus
   fresh-done h l f v =
       let done : beginningOf s session ≡ Done = passes (lawful s) _ _ h ∙ rw (eq-eqb _ _ l) in
@@ -58,11 +77,11 @@ module _ (s : Shape) (session : List ℕ) where
 
 -- ---- a count query
 module _ (session : List ℕ) (f : ℕ) where
-  pub count-length : (length session ≡ 1283 → ⊥) → countedIn session f ≡ counted.Refused Refusal.Length
+  pub count-length : (length session ≡ 1290 → ⊥) → countedIn session f ≡ counted.Refused Refusal.Length
   unfolding countedIn
   count-length l = rw (ne-eqb _ _ l)
 
-  pub count-past : length session ≡ 1283 → countedIn session f ≡ countedOf (sessionOf session) f
+  pub count-past : length session ≡ 1290 → countedIn session f ≡ countedOf (sessionOf session) f
   unfolding countedIn
   count-past l = rw (eq-eqb _ _ l)
 
@@ -78,14 +97,14 @@ as-it-was session σ (Again p k) h = refl
 as-it-was session σ (Refused e) h = refl
 
 module _ (session word scratch outcome : List ℕ) where
-  pub arrive-wrong : {r : ℕ} → ((length session ≡ 1283) × (length outcome ≡ 3) → ⊥) → r ≡ 2 ^ 31 + refusalNumber Refusal.Length
+  pub arrive-wrong : {r : ℕ} → ((length session ≡ 1290) × (length outcome ≡ 3) → ⊥) → r ≡ 2 ^ 31 + refusalNumber Refusal.Length
       → ArriveCrossing session word scratch outcome session word scratch outcome r
   arrive-wrong h is = record {
     right = λ l m. absurd (h (l, m));
     wrong = λ _. record { sessionLeft = refl; wordLeft = refl; scratchLeft = refl; outcomeLeft = refl; answer = is };
   }
 
-  pub arrive-right : {σ : Session} {session′ word′ scratch′ outcome′ : List ℕ} (a : Arrived) → length session ≡ 1283 → length outcome ≡ 3
+  pub arrive-right : {σ : Session} {session′ word′ scratch′ outcome′ : List ℕ} (a : Arrived) → length session ≡ 1290 → length outcome ≡ 3
       → σ ≡ sessionOf session → arrival.Arriving clean σ word scratch word′ scratch′ a
       → session′ ≡ sessionIn session (a .session) (a .outcome) → outcome′ ≡ outcomeValues (a .outcome)
       → ArriveCrossing session word scratch outcome session′ word′ scratch′ outcome′ 0

@@ -5,16 +5,18 @@ use mathlib.Core.List.{List, [], _∷_, _++_, map, append-nil, append-assoc}
 use Prim.Native.Nat.{ℕ, _+_, _-_, _<_}
 use native.Mathlib.Numerals.{add-one}
 use native.Mathlib.Omega.{arith}
-use lib.ListN.{length, getD, take, drop, set, length-append, length-drop}
+use lib.ListN.{length, getD, take, drop, set, length-map, length-set, length-append, length-drop}
 use lib.Seq.{drop-cons, drop-length, take-suc-set, take-length, append-snoc, take-at}
-use mir.Val.{boolByte}
+use mir.Val.{Val, boolByte}
+use denote.Shadow.{shadow}
+use denote.Struct.Field.{u32-field, array-field}
 use borrow.Rule.Slice.PartMut.{midOf, putMid, same-len-mid, mid-len}
 use Rattle.parity.specs.Count.{bit}
 use Rattle.page.proofs.Parts.{rest-part, put-rest}
 use Rattle.session.specs.declared.Session.{Session}
 use Rattle.session.proofs.Arrive.{whole-copy}
-use Rattle.gtb.specs.Shape.{shapeOf}
-use Rattle.harness.specs.Crossing.{isYes, sessionOf, valuesOf}
+use Rattle.gtb.specs.declared.Shape.{Shape}
+use Rattle.harness.specs.Crossing.{shapeIn, shapeValues, isYes, sessionOf, valuesOf}
 
 -- yes as a number, as the cast gives it
 pub bit-byte : (b : Bool) → boolByte b ≡ bit b
@@ -30,43 +32,70 @@ module _ {A B : Type 0} (f : A → B) (from : List A) (to : List B) (i : ℕ) (e
   pub all-crossed : i ≡ length from → i ≡ length to → to ≡ map f from
   all-crossed l m = sym (ap (λ k. take k to) m ∙ take-length to) ∙ sym (rw (l, drop-length, append-nil)) ∙ e
 
--- three stores into three values
-pub three : (values : List ℕ) (a b c : ℕ) → length values ≡ 3 → set (set (set values 0 a) 1 b) 2 c ≡ a ∷ b ∷ c ∷ []
-three [] a b c h = absurd (omega arith)
-three (x ∷ []) a b c h = absurd (omega arith)
-three (x ∷ y ∷ []) a b c h = absurd (omega arith)
-three (x ∷ y ∷ z ∷ []) a b c h = refl
-three (x ∷ y ∷ z ∷ w ∷ rest) a b c h = absurd (omega arith)
+-- ---- a shape
+pub shape-loaded : (v : List ℕ) {slopes : List ℕ} → slopes ≡ midOf 3 (length v - 3) v
+    → _≡_ {A = Shape} (record { q = getD v 0 0; n = getD v 1 0; b = getD v 2 0; slopes = slopes }) (shapeIn v)
+unfolding shapeIn
+shape-loaded v e = rw (e, rest-part 3 v)
 
+-- what owning a field of seven u32 tells
+pub slopes-size : (xs : List ℕ) (vs : List Val) → shadow (array-field u32-field 7 .row .own (array-field u32-field 7 .into xs) vs) → length xs ≡ 7
+slopes-size xs vs h = sym (length-map xs (u32-field .into)) ∙ h .1 .0 .1
+
+-- three stores, and the slopes after them
+abbrev pub headed : List ℕ → Shape → List ℕ
+headed v s = set (set (set v 0 (s .q)) 1 (s .n)) 2 (s .b)
+
+headed-front : (v : List ℕ) (s : Shape) → length v ≡ 10 → take 3 (headed v s) ≡ s .q ∷ s .n ∷ s .b ∷ []
+headed-front [] s h = absurd (omega arith)
+headed-front (x ∷ []) s h = absurd (omega arith)
+headed-front (x ∷ y ∷ []) s h = absurd (omega arith)
+headed-front (x ∷ y ∷ z ∷ rest) s h = refl
+
+module _ (v : List ℕ) (s : Shape) where
+  pub headed-size : length (headed v s) ≡ length v
+  headed-size = simp length-set
+
+  pub slopes-room : length v ≡ 10 → length (midOf 3 (length (headed v s) - 3) (headed v s)) ≡ 7
+  slopes-room size = rw (rest-part 3 (headed v s)) (length-drop 3 (headed v s) ∙ omega (arith, headed-size))
+
+  pub shape-stored : {part : List ℕ} → length v ≡ 10 → length (s .slopes) ≡ 7
+      → part ≡ s .slopes ++ drop (length (s .slopes)) (midOf 3 (length (headed v s) - 3) (headed v s)) → putMid 3 (length (headed v s) - 3) (headed v s) part ≡ shapeValues s
+  unfolding shapeValues
+  shape-stored {part} size seven p =
+      let filled : part ≡ s .slopes = p ∙ whole-copy (s .slopes) _ (seven ∙ sym (slopes-room size)) in
+      put-rest 3 (headed v s) part ∙ rw (headed-front v s size, filled)
+
+-- ---- a session
 -- the session, from its parts as the code lends them
-pub loaded : (v : List ℕ) {taken : List Bool} {calls : List ℕ} → taken ≡ map isYes (midOf 3 1024 v) → calls ≡ midOf 1027 (length v - 1027) v →
-    _≡_ {A = Session} (record { shape = shapeOf (getD v 0 0) (getD v 1 0) (getD v 2 0); taken = taken; calls = calls }) (sessionOf v)
+pub loaded : (v : List ℕ) {shape : Shape} {taken : List Bool} {calls : List ℕ} → shape ≡ shapeIn (take 10 v) → taken ≡ map isYes (midOf 10 1024 v)
+    → calls ≡ midOf 1034 (length v - 1034) v → _≡_ {A = Session} (record { shape = shape; taken = taken; calls = calls }) (sessionOf v)
 unfolding sessionOf
-loaded v t c = rw (t, c, rest-part 1027 v)
+loaded v s t c = rw (s, t, c, rest-part 1034 v)
 
 -- the values, once the shape and the marks are stored
 abbrev pub begun : List ℕ → List ℕ → List ℕ → List ℕ
-begun v head marks = putMid 3 1024 (head ++ drop 3 v) marks
+begun v head marks = putMid 10 1024 (head ++ drop 10 v) marks
 
-module _ (v head marks : List ℕ) (size : length v ≡ 1283) (three : length head ≡ 3) (kept : length marks ≡ length (midOf 3 1024 (head ++ drop 3 v))) where
-  whole : length (head ++ drop 3 v) ≡ 1283
+module _ (v head marks : List ℕ) (size : length v ≡ 1290) (ten : length head ≡ 10) (kept : length marks ≡ length (midOf 10 1024 (head ++ drop 10 v))) where
+  whole : length (head ++ drop 10 v) ≡ 1290
   whole = simp (length-append, length-drop) (omega arith)
 
-  front : take 1027 (begun v head marks) ≡ head ++ marks
+  front : take 1034 (begun v head marks) ≡ head ++ marks
   front =
-      let few : length marks ≡ 1024 = kept ∙ mid-len 3 1027 (head ++ drop 3 v) (omega (arith, whole)) in
-      rw (take-at head (drop 3 v) 3 three, ← append-assoc) (take-at (head ++ marks) _ 1027 (simp length-append (omega arith)))
+      let few : length marks ≡ 1024 = kept ∙ mid-len 10 1034 (head ++ drop 10 v) (omega (arith, whole)) in
+      rw (take-at head (drop 10 v) 10 ten, ← append-assoc) (take-at (head ++ marks) _ 1034 (simp length-append (omega arith)))
 
   -- the counts fill what is left
-  pub counts-room : length (midOf 1027 (length (begun v head marks) - 1027) (begun v head marks)) ≡ 256
+  pub counts-room : length (midOf 1034 (length (begun v head marks) - 1034) (begun v head marks)) ≡ 256
   counts-room =
-      let all : length (begun v head marks) ≡ 1283 = same-len-mid 3 1024 (head ++ drop 3 v) marks kept ∙ whole in
-      rw (rest-part 1027 (begun v head marks)) (length-drop 1027 (begun v head marks) ∙ omega arith)
+      let all : length (begun v head marks) ≡ 1290 = same-len-mid 10 1024 (head ++ drop 10 v) marks kept ∙ whole in
+      rw (rest-part 1034 (begun v head marks)) (length-drop 1034 (begun v head marks) ∙ omega arith)
 
-  pub stored : (σ : Session) {part : List ℕ} → head ≡ σ .shape .q ∷ σ .shape .n ∷ σ .shape .b ∷ [] → marks ≡ map bit (σ .taken) → length (σ .calls) ≡ 256 →
-      part ≡ σ .calls ++ drop (length (σ .calls)) (midOf 1027 (length (begun v head marks) - 1027) (begun v head marks)) →
-      putMid 1027 (length (begun v head marks) - 1027) (begun v head marks) part ≡ valuesOf σ
+  pub stored : (σ : Session) {part : List ℕ} → head ≡ shapeValues (σ .shape) → marks ≡ map bit (σ .taken) → length (σ .calls) ≡ 256 →
+      part ≡ σ .calls ++ drop (length (σ .calls)) (midOf 1034 (length (begun v head marks) - 1034) (begun v head marks)) →
+      putMid 1034 (length (begun v head marks) - 1034) (begun v head marks) part ≡ valuesOf σ
   unfolding valuesOf
   stored σ {part} h m few p =
       let filled : part ≡ σ .calls = p ∙ whole-copy (σ .calls) _ (few ∙ sym counts-room) in
-      put-rest 1027 (begun v head marks) part ∙ rw (front, filled, append-assoc, h, m)
+      put-rest 1034 (begun v head marks) part ∙ rw (front, filled, append-assoc, h, m)

@@ -1,5 +1,6 @@
 -- What the entries answer and leave once numbers and u32 slices stand for shapes, answers and sessions.
 use mathlib.Core.Path.{_≡_}
+use mathlib.Core.Bool.{cond}
 use mathlib.Core.List.{List, _++_}
 use Prim.Native.Nat.{ℕ}
 use lib.Dec.{eqb}
@@ -9,9 +10,9 @@ use Rattle.gtb.specs.declared.Refusal.{Refusal}
 use Rattle.gtb.specs.declared.Status.{Status}
 use Rattle.gtb.specs.declared.Status.the-variants.{Done}
 use Rattle.gtb.specs.declared.Status.the-variants as status
-use Rattle.gtb.specs.Shape.{lawful}
+use Rattle.gtb.specs.Shape.{lawful, shapeRefusal}
 use Rattle.gtb.specs.Answer.{statusNumber, unless}
-use Rattle.page.specs.Page.{marksOf}
+use Rattle.page.specs.Page.{readNumber, pageOf, marksOf}
 use Rattle.session.specs.declared.Session.{Session}
 use Rattle.session.specs.declared.Counted.{Counted}
 use Rattle.session.specs.declared.Counted.the-variants as counted
@@ -20,7 +21,7 @@ use Rattle.session.specs.declared.Outcome.the-variants.{Taken, Again, Refused}
 use Rattle.session.specs.declared.Arrived.{Arrived}
 use Rattle.session.specs.Session.{freshOf, countedOf}
 use Rattle.session.specs.Arrival.{clean, outcomeValues, Arriving}
-use Rattle.harness.specs.Crossing.{sessionOf, valuesOf}
+use Rattle.harness.specs.Crossing.{shapeIn, sessionOf, valuesOf}
 
 -- an answer with what its entry promises crosses as its number
 pub record Crosses {A : Type 0} (number : A → ℕ) (Promise : A → Type 0) (r : ℕ) : Type 0 where
@@ -28,14 +29,23 @@ pub record Crosses {A : Type 0} (number : A → ℕ) (Promise : A → Type 0) (r
   pub holds : Promise answer
   pub crossed : r ≡ number answer
 
+-- an entry that takes a shape: the shape has ten values, or the call is turned down by 2 and leaves everything as lent
+pub record Shaped (shape : List ℕ) (Promise : Shape → Type 0) (Untouched : Type 0) (r : ℕ) : Type 0 where
+  pub right : length shape ≡ 10 → Promise (shapeIn shape)
+  pub wrong : (length shape ≡ 10 → ⊥) → (r ≡ statusNumber (status.Refused Refusal.Length)) × Untouched
+
+-- the page reader
+unfoldable pub pageCrossing : List ℕ → List ℕ → ℕ
+pageCrossing shape symbols = cond (eqb (length shape) 10) (readNumber (pageOf (shapeIn shape) symbols)) (statusNumber (status.Refused Refusal.Length))
+
 -- the marks are copied to the front of a list as long as the symbols; one of another length is turned down
 pub record MarksCrossing (s : Shape) (symbols marks marks′ : List ℕ) (r : ℕ) : Type 0 where
   pub right : length marks ≡ length symbols → (r ≡ length (marksOf s symbols)) × (marks′ ≡ marksOf s symbols ++ drop (length (marksOf s symbols)) marks)
   pub wrong : (length marks ≡ length symbols → ⊥) → (r ≡ statusNumber (status.Refused Refusal.Length)) × (marks′ ≡ marks)
 
--- a fresh session tests 1, then the length of the slice
+-- a fresh session tests 1 and 18, then the length of the slice
 unfoldable pub beginningOf : Shape → List ℕ → Status
-beginningOf s session = unless (lawful s) (status.Refused Refusal.Shape) (unless (eqb (length session) 1283) (status.Refused Refusal.Length) Done)
+beginningOf s session = unless (lawful s) (status.Refused (shapeRefusal s)) (unless (eqb (length session) 1290) (status.Refused Refusal.Length) Done)
 
 -- a refusal leaves the slice as it was
 abbrev pub freshIn : Shape → List ℕ → Status → List ℕ
@@ -48,7 +58,7 @@ pub record FreshCrossing (s : Shape) (session session′ : List ℕ) (r : ℕ) :
 
 -- a count query tests the length of the slice first
 unfoldable pub countedIn : List ℕ → ℕ → Counted
-countedIn session f = unless (eqb (length session) 1283) (counted.Refused Refusal.Length) (countedOf (sessionOf session) f)
+countedIn session f = unless (eqb (length session) 1290) (counted.Refused Refusal.Length) (countedOf (sessionOf session) f)
 
 -- a session is written only after a page was taken
 abbrev pub sessionIn : List ℕ → Session → Outcome → List ℕ
@@ -73,5 +83,5 @@ pub record Untouched (session word scratch outcome session′ word′ scratch′
   pub answer : r ≡ statusNumber (status.Refused Refusal.Length)
 
 pub record ArriveCrossing (session word scratch outcome session′ word′ scratch′ outcome′ : List ℕ) (r : ℕ) : Type 0 where
-  pub right : length session ≡ 1283 → length outcome ≡ 3 → Arrives session word scratch session′ word′ scratch′ outcome′ r
-  pub wrong : ((length session ≡ 1283) × (length outcome ≡ 3) → ⊥) → Untouched session word scratch outcome session′ word′ scratch′ outcome′ r
+  pub right : length session ≡ 1290 → length outcome ≡ 3 → Arrives session word scratch session′ word′ scratch′ outcome′ r
+  pub wrong : ((length session ≡ 1290) × (length outcome ≡ 3) → ⊥) → Untouched session word scratch outcome session′ word′ scratch′ outcome′ r

@@ -1,16 +1,46 @@
-// A session as 3 + 1024 + 256 values and an outcome as three.
+// A shape as ten values, a session as 10 + 1024 + 256, and an outcome as three.
 use gtb::Shape;
 use session::Outcome;
 use session::Session;
 ghost use mathlib.Core.Path.{_≡_};
-ghost use mathlib.Core.List.{[], _∷_, map};
+ghost use mathlib.Core.List.{map};
 ghost use lib.ListN.{length};
 ghost use Rattle.parity.specs.Count.{bit};
 ghost use Rattle.session.specs.Arrival.{outcomeValues};
-ghost use Rattle.harness.specs.Crossing.{isYes, sessionOf, valuesOf};
+ghost use Rattle.harness.specs.Crossing.{shapeIn, shapeValues, isYes, sessionOf, valuesOf};
+
+// How many values a shape crosses as.
+pub const SHAPE: usize = 10;
 
 // How many values a session crosses as.
-pub const LENGTH: usize = 1283;
+pub const LENGTH: usize = 1290;
+
+// The shape in the values.
+pub fn load_shape(values: &[u32]) -> Shape
+    requires { ⌜ length (now values) ≡ 10 ⌝ }
+    ensures { λ r. ⌜ r ≡ shapeIn (now (values .entry)) ⌝ }
+{
+    let mut slopes = [0u32; 7];
+    gtb::copy(&values[3..], &mut slopes);
+    Shape {
+        q: values[0],
+        n: values[1],
+        b: values[2],
+        slopes,
+    }
+}
+
+// The values of the shape.
+fn store_shape(shape: Shape, values: &mut [u32])
+    requires { ⌜ length (now values) ≡ 10 ⌝ }
+    ensures { λ _. ⌜ now (values .exit) ≡ shapeValues shape ⌝ }
+{
+    let slopes = shape.slopes;
+    values[0] = shape.q;
+    values[1] = shape.n;
+    values[2] = shape.b;
+    gtb::copy(&slopes, &mut values[3..]);
+}
 
 // A page mark is no where its value is 0.
 fn load_taken(values: &[u32]) -> [bool; 1024]
@@ -35,18 +65,13 @@ fn load_calls(values: &[u32]) -> [u32; 256]
 
 // The session in the values.
 pub fn load(values: &[u32]) -> Session
-    requires { ⌜ length (now values) ≡ 1283 ⌝ }
+    requires { ⌜ length (now values) ≡ 1290 ⌝ }
     ensures { λ r. ⌜ r ≡ sessionOf (now (values .entry)) ⌝ }
 {
-    let shape = Shape {
-        q: values[0],
-        n: values[1],
-        b: values[2],
-    };
     Session {
-        shape,
-        taken: load_taken(&values[3..1027]),
-        calls: load_calls(&values[1027..]),
+        shape: load_shape(&values[..10]),
+        taken: load_taken(&values[10..1034]),
+        calls: load_calls(&values[1034..]),
     }
 }
 
@@ -60,26 +85,17 @@ fn store_taken(taken: [bool; 1024], values: &mut [u32])
     }
 }
 
-fn put_three(values: &mut [u32], a: u32, b: u32, c: u32)
-    requires { ⌜ length (now values) ≡ 3 ⌝ }
-    ensures { λ _. ⌜ now (values .exit) ≡ a ∷ b ∷ c ∷ [] ⌝ }
-{
-    values[0] = a;
-    values[1] = b;
-    values[2] = c;
-}
-
 // The values of the session.
 pub fn store(session: Session, values: &mut [u32])
-    requires { ⌜ length (now values) ≡ 1283 ⌝ }
+    requires { ⌜ length (now values) ≡ 1290 ⌝ }
     ensures { λ _. ⌜ now (values .exit) ≡ valuesOf session ⌝ }
 {
     let shape = session.shape;
     let taken = session.taken;
     let calls = session.calls;
-    put_three(&mut values[..3], shape.q, shape.n, shape.b);
-    store_taken(taken, &mut values[3..1027]);
-    gtb::copy(&calls, &mut values[1027..]);
+    store_shape(shape, &mut values[..10]);
+    store_taken(taken, &mut values[10..1034]);
+    gtb::copy(&calls, &mut values[1034..]);
 }
 
 // The three values of an outcome.

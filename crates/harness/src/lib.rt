@@ -1,12 +1,13 @@
-// Every entry over numbers and slices of u32, so that a program in another language can try it.
+// Every entry over numbers and slices of u32, so that a program in another language can try it. A shape of other than ten values is 2.
 mod crossing;
 
 use crate::crossing::LENGTH;
+use crate::crossing::SHAPE;
 use crate::crossing::load;
+use crate::crossing::load_shape;
 use crate::crossing::put_outcome;
 use crate::crossing::store;
 use gtb::Refusal;
-use gtb::Shape;
 use gtb::Status;
 use session::Counted;
 use session::Outcome;
@@ -16,86 +17,100 @@ ghost use Rattle.gtb.specs.Answer.{statusNumber};
 ghost use Rattle.encoder.specs.Contract.{Encoding, Extraction};
 ghost use Rattle.decoder.specs.Decode.{Decoding};
 ghost use Rattle.correction.specs.Answer.{decodedNumber};
-ghost use Rattle.page.specs.Page.{Writing, readNumber, pageOf};
+ghost use Rattle.page.specs.Page.{Writing};
 ghost use Rattle.session.specs.Session.{countedNumber};
-ghost use Rattle.gtb.specs.Shape.{shapeOf};
-ghost use Rattle.harness.specs.Entries.{Crosses, MarksCrossing, FreshCrossing, countedIn, ArriveCrossing};
+ghost use Rattle.harness.specs.Entries.{Crosses, Shaped, pageCrossing, MarksCrossing, FreshCrossing, countedIn, ArriveCrossing};
 
 #[no_mangle]
 pub extern "C" fn harness_encode(
-    q: u32,
-    n: u32,
-    b: u32,
+    shape: &[u32],
     symbols: &[u32],
     scratch: &mut [u32],
     word: &mut [u32],
 ) -> u32
-    ensures { λ r. ⌜ Crosses statusNumber (Encoding (shapeOf q n b) (now (symbols .entry)) (now (scratch .entry)) (now (word .entry)) (now (scratch .exit)) (now (word .exit))) r ⌝ }
+    ensures { λ r. ⌜ Shaped (now (shape .entry)) (λ s. Crosses statusNumber (Encoding s (now (symbols .entry)) (now (scratch .entry)) (now (word .entry)) (now (scratch .exit)) (now (word .exit))) r) ((now (scratch .exit) ≡ now (scratch .entry)) × (now (word .exit) ≡ now (word .entry))) r ⌝ }
 {
-    gtb::number::status(encoder::encode(Shape { q, n, b }, symbols, scratch, word))
+    if shape.len() != SHAPE {
+        return gtb::number::refused(Refusal::Length);
+    }
+    gtb::number::status(encoder::encode(load_shape(shape), symbols, scratch, word))
 }
 
 #[no_mangle]
 pub extern "C" fn harness_extract(
-    q: u32,
-    n: u32,
-    b: u32,
+    shape: &[u32],
     word: &[u32],
     scratch: &mut [u32],
     symbols: &mut [u32],
 ) -> u32
-    ensures { λ r. ⌜ Crosses statusNumber (Extraction (shapeOf q n b) (now (word .entry)) (now (scratch .entry)) (now (symbols .entry)) (now (scratch .exit)) (now (symbols .exit))) r ⌝ }
+    ensures { λ r. ⌜ Shaped (now (shape .entry)) (λ s. Crosses statusNumber (Extraction s (now (word .entry)) (now (scratch .entry)) (now (symbols .entry)) (now (scratch .exit)) (now (symbols .exit))) r) ((now (scratch .exit) ≡ now (scratch .entry)) × (now (symbols .exit) ≡ now (symbols .entry))) r ⌝ }
 {
-    gtb::number::status(encoder::extract(Shape { q, n, b }, word, scratch, symbols))
+    if shape.len() != SHAPE {
+        return gtb::number::refused(Refusal::Length);
+    }
+    gtb::number::status(encoder::extract(load_shape(shape), word, scratch, symbols))
 }
 
 #[no_mangle]
-pub extern "C" fn harness_decode(q: u32, n: u32, b: u32, word: &mut [u32]) -> u32
-    ensures { λ r. ⌜ Crosses decodedNumber (Decoding (shapeOf q n b) (now (word .entry)) (now (word .exit))) r ⌝ }
+pub extern "C" fn harness_decode(shape: &[u32], word: &mut [u32]) -> u32
+    ensures { λ r. ⌜ Shaped (now (shape .entry)) (λ s. Crosses decodedNumber (Decoding s (now (word .entry)) (now (word .exit))) r) (now (word .exit) ≡ now (word .entry)) r ⌝ }
 {
-    correction::number::decoded(decoder::decode(Shape { q, n, b }, word))
+    if shape.len() != SHAPE {
+        return gtb::number::refused(Refusal::Length);
+    }
+    correction::number::decoded(decoder::decode(load_shape(shape), word))
 }
 
 #[no_mangle]
-pub extern "C" fn harness_read_page(q: u32, n: u32, b: u32, symbols: &[u32]) -> u32
-    ensures { λ r. ⌜ r ≡ readNumber (pageOf (shapeOf q n b) (now (symbols .entry))) ⌝ }
+pub extern "C" fn harness_read_page(shape: &[u32], symbols: &[u32]) -> u32
+    ensures { λ r. ⌜ r ≡ pageCrossing (now (shape .entry)) (now (symbols .entry)) ⌝ }
 {
-    page::number::read(page::read_page(Shape { q, n, b }, symbols))
+    if shape.len() != SHAPE {
+        return gtb::number::refused(Refusal::Length);
+    }
+    page::number::read(page::read_page(load_shape(shape), symbols))
 }
 
 // The marks, copied to the front of a list as long as the symbols, and how many they are.
 #[no_mangle]
-pub extern "C" fn harness_marks(q: u32, n: u32, b: u32, symbols: &[u32], marks: &mut [u32]) -> u32
-    ensures { λ r. ⌜ MarksCrossing (shapeOf q n b) (now (symbols .entry)) (now (marks .entry)) (now (marks .exit)) r ⌝ }
+pub extern "C" fn harness_marks(shape: &[u32], symbols: &[u32], marks: &mut [u32]) -> u32
+    ensures { λ r. ⌜ Shaped (now (shape .entry)) (λ s. MarksCrossing s (now (symbols .entry)) (now (marks .entry)) (now (marks .exit)) r) (now (marks .exit) ≡ now (marks .entry)) r ⌝ }
 {
+    if shape.len() != SHAPE {
+        return gtb::number::refused(Refusal::Length);
+    }
     if marks.len() != symbols.len() {
         return gtb::number::refused(Refusal::Length);
     }
-    let part = page::marks(Shape { q, n, b }, symbols);
+    let part = page::marks(load_shape(shape), symbols);
     gtb::copy(part, marks);
     part.len() as u32
 }
 
 #[no_mangle]
 pub extern "C" fn harness_write_page(
-    q: u32,
-    n: u32,
-    b: u32,
+    shape: &[u32],
     page: u32,
     marks: &[u32],
     symbols: &mut [u32],
 ) -> u32
-    ensures { λ r. ⌜ Crosses statusNumber (Writing (shapeOf q n b) page (now (marks .entry)) (now (symbols .entry)) (now (symbols .exit))) r ⌝ }
+    ensures { λ r. ⌜ Shaped (now (shape .entry)) (λ s. Crosses statusNumber (Writing s page (now (marks .entry)) (now (symbols .entry)) (now (symbols .exit))) r) (now (symbols .exit) ≡ now (symbols .entry)) r ⌝ }
 {
-    gtb::number::status(page::write_page(Shape { q, n, b }, page, marks, symbols))
+    if shape.len() != SHAPE {
+        return gtb::number::refused(Refusal::Length);
+    }
+    gtb::number::status(page::write_page(load_shape(shape), page, marks, symbols))
 }
 
-// Tests 1, then the length.
+// Tests 1 and 18, then the length.
 #[no_mangle]
-pub extern "C" fn harness_fresh(q: u32, n: u32, b: u32, session: &mut [u32]) -> u32
-    ensures { λ r. ⌜ FreshCrossing (shapeOf q n b) (now (session .entry)) (now (session .exit)) r ⌝ }
+pub extern "C" fn harness_fresh(shape: &[u32], session: &mut [u32]) -> u32
+    ensures { λ r. ⌜ Shaped (now (shape .entry)) (λ s. FreshCrossing s (now (session .entry)) (now (session .exit)) r) (now (session .exit) ≡ now (session .entry)) r ⌝ }
 {
-    let fresh = Session::fresh(Shape { q, n, b });
+    if shape.len() != SHAPE {
+        return gtb::number::refused(Refusal::Length);
+    }
+    let fresh = Session::fresh(load_shape(shape));
     let status = fresh.status;
     if let Status::Refused(e) = status {
         return gtb::number::refused(e);

@@ -1,3 +1,4 @@
 pub mod Bytes
 pub mod Steps
 pub mod Words
+pub mod Standards

@@ -7,7 +7,7 @@ use lib.ListN.{length}
 use borrow.Author.Tests.{eq-eqb, ne-eqb}
 use Rattle.gtb.specs.declared.Shape.{Shape}
 use Rattle.gtb.specs.declared.Refusal.{Refusal}
-use Rattle.gtb.specs.Shape.{lawful, Lawful, wordLength, infoLength}
+use Rattle.gtb.specs.Shape.{shapeRefusal, lawful, Lawful, wordLength, infoLength}
 use Rattle.gtb.specs.Answer.{refusalNumber}
 use Rattle.correction.specs.declared.Decoded.{Decoded}
 use Rattle.correction.specs.declared.Decoded.the-variants.{Corrected, Refused}
@@ -19,12 +19,12 @@ use Rattle.host.specs.Bytes.{symbolsOf, bytesOf}
 use Rattle.host.specs.Exported.{wordOf, bytesAfter, pageIn, ReadingWord}
 
 module _ (s : Shape) (bytes : List ℕ) where
-  -- test 1
-  pub word-shape : lawful s ≡ false → wordOf s bytes ≡ Refused Refusal.Shape
+  -- tests 1 and 18
+  pub word-shape : lawful s ≡ false → wordOf s bytes ≡ Refused (shapeRefusal s)
   unfolding wordOf
   word-shape h = rw h
 
-  pub page-shape : lawful s ≡ false → pageIn s bytes ≡ page.Refused Refusal.Shape
+  pub page-shape : lawful s ≡ false → pageIn s bytes ≡ page.Refused (shapeRefusal s)
   unfolding pageIn
   page-shape h = rw h
 

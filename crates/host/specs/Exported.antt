@@ -6,7 +6,7 @@ use lib.Dec.{eqb}
 use lib.ListN.{length}
 use Rattle.gtb.specs.declared.Shape.{Shape}
 use Rattle.gtb.specs.declared.Refusal.{Refusal}
-use Rattle.gtb.specs.Shape.{lawful, wordLength, infoLength}
+use Rattle.gtb.specs.Shape.{lawful, shapeRefusal, wordLength, infoLength}
 use Rattle.correction.specs.declared.Decoded.{Decoded}
 use Rattle.correction.specs.declared.Decoded.the-variants.{Corrected, Refused}
 use Rattle.decoder.specs.Decode.{decodeOf, restored}
@@ -20,7 +20,7 @@ use Rattle.host.specs.Bytes.{symbolsOf, bytesOf}
 -- word reading over bytes
 unfoldable pub wordOf : Shape → List ℕ → Decoded
 wordOf s bytes =
-    unless (lawful s) (Refused Refusal.Shape)
+    unless (lawful s) (Refused (shapeRefusal s))
     (unless (eqb (length bytes) (4 * wordLength s)) (Refused Refusal.Length) (decodeOf s (symbolsOf bytes)))
 
 -- the stored word as bytes, or the bytes as they came
@@ -35,5 +35,5 @@ pub record ReadingWord (s : Shape) (bytes bytes′ : List ℕ) (r : ℕ) : Type 
 -- page reading over bytes
 unfoldable pub pageIn : Shape → List ℕ → PageRead
 pageIn s bytes =
-    unless (lawful s) (page.Refused Refusal.Shape)
+    unless (lawful s) (page.Refused (shapeRefusal s))
     (unless (eqb (length bytes) (4 * infoLength s)) (page.Refused Refusal.Length) (pageOf s (symbolsOf bytes)))

@@ -7,7 +7,7 @@ use gtb::size::word_length;
 ghost use mathlib.Core.Path.{_≡_};
 ghost use Prim.Native.Nat.{_+_, _*_, _≤_};
 ghost use lib.ListN.{length};
-ghost use Rattle.gtb.specs.Shape.{Lawful, wordLength, infoLength, shapeOf};
+ghost use Rattle.gtb.specs.Shape.{Lawful, wordLength, infoLength, standard};
 ghost use Rattle.page.specs.Page.{readNumber};
 ghost use Rattle.host.specs.Bytes.{symbolsOf, bytesOf, symbolAt, withSymbol};
 ghost use Rattle.host.specs.Exported.{pageIn, ReadingWord};
@@ -70,11 +70,16 @@ fn read_word(shape: Shape, bytes: &mut [u8], symbols: &mut [u32]) -> u32
 // Word reading: digits changed, or 2^31 plus the number of the refusal.
 #[no_mangle]
 pub extern "C" fn shaftglimmer_read_word(q: u32, n: u32, b: u32, word: &mut [u8]) -> u32
-    ensures { λ r. ⌜ ReadingWord (shapeOf q n b) (now (word .entry)) (now (word .exit)) r ⌝ }
+    ensures { λ r. ⌜ ReadingWord (standard q n b) (now (word .entry)) (now (word .exit)) r ⌝ }
 {
-    let shape = Shape { q, n, b };
+    let shape = Shape {
+        q,
+        n,
+        b,
+        slopes: gtb::STANDARD,
+    };
     if !gtb::is_lawful(shape) {
-        return gtb::number::refused(Refusal::Shape);
+        return gtb::number::refused(gtb::shape_refusal(shape));
     }
     let size = word_length(shape);
     if word.len() != 4 * size {
@@ -96,11 +101,16 @@ fn read_page(shape: Shape, bytes: &[u8], symbols: &mut [u32]) -> u32
 // Page reading: 1024 × page number + number of marks, or 2^31 plus the number of the refusal.
 #[no_mangle]
 pub extern "C" fn shaftglimmer_read_page(q: u32, n: u32, b: u32, symbols: &[u8]) -> u32
-    ensures { λ r. ⌜ r ≡ readNumber (pageIn (shapeOf q n b) (now (symbols .entry))) ⌝ }
+    ensures { λ r. ⌜ r ≡ readNumber (pageIn (standard q n b) (now (symbols .entry))) ⌝ }
 {
-    let shape = Shape { q, n, b };
+    let shape = Shape {
+        q,
+        n,
+        b,
+        slopes: gtb::STANDARD,
+    };
     if !gtb::is_lawful(shape) {
-        return gtb::number::refused(Refusal::Shape);
+        return gtb::number::refused(gtb::shape_refusal(shape));
     }
     let size = info_length(shape);
     if symbols.len() != 4 * size {

@@ -1,3 +1,5 @@
 pub mod Entries
 pub mod Pages
 pub mod Parts
+pub mod Alikes
+pub mod Refusals

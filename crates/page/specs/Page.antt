@@ -11,7 +11,7 @@ use Rattle.gtb.specs.declared.Refusal.{Refusal}
 use Rattle.gtb.specs.declared.Status.{Status}
 use Rattle.gtb.specs.declared.Status.the-variants.{Done}
 use Rattle.gtb.specs.declared.Status.the-variants as status
-use Rattle.gtb.specs.Shape.{lawful, infoLength}
+use Rattle.gtb.specs.Shape.{lawful, shapeRefusal, infoLength}
 use Rattle.gtb.specs.Square.{narrow}
 use Rattle.gtb.specs.Answer.{refusalNumber, statusNumber, unless}
 use Rattle.page.specs.declared.PageRead.{PageRead}
@@ -33,10 +33,10 @@ abbrev pub readNumber : PageRead → ℕ
 readNumber (Page number c) = 1024 * number + c
 readNumber (Refused e) = 2 ^ 31 + refusalNumber e
 
--- symbol 0 is the page number, symbol 1 the number c of marks, the next c are marks, the rest zeros; tests 1, 2, 3, 5, 6, 7, 8
+-- symbol 0 is the page number, symbol 1 the number c of marks, the next c are marks, the rest zeros; tests 1, 18, 2, 3, 5, 6, 7, 8
 unfoldable pub pageOf : Shape → List ℕ → PageRead
 pageOf s symbols =
-    unless (lawful s) (Refused Refusal.Shape)
+    unless (lawful s) (Refused (shapeRefusal s))
     (unless (eqb (length symbols) (infoLength s)) (Refused Refusal.Length)
     (unless (narrow (s .b) symbols) (Refused Refusal.Width)
     (unless (ltb (getD symbols 0 0) 1024) (Refused Refusal.Page)
@@ -53,10 +53,10 @@ marksIn symbols (Refused e) = []
 unfoldable pub marksOf : Shape → List ℕ → List ℕ
 marksOf s symbols = marksIn symbols (pageOf s symbols)
 
--- the page writer tests 1, 2, 5, 6, 7, then 3 over page number, c and marks
+-- the page writer tests 1, 18, 2, 5, 6, 7, then 3 over page number, c and marks
 unfoldable pub writeStatus : Shape → ℕ → List ℕ → List ℕ → Status
 writeStatus s number marks symbols =
-    unless (lawful s) (status.Refused Refusal.Shape)
+    unless (lawful s) (status.Refused (shapeRefusal s))
     (unless (eqb (length symbols) (infoLength s)) (status.Refused Refusal.Length)
     (unless (ltb number 1024) (status.Refused Refusal.Page)
     (unless (leb (length marks) (most s)) (status.Refused Refusal.Count)

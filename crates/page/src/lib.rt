@@ -65,7 +65,7 @@ pub fn read_page(shape: Shape, symbols: &[u32]) -> PageRead
     ensures { λ r. ⌜ Answered readNumber (pageOf shape (now (symbols .entry))) r ⌝ }
 {
     if !gtb::is_lawful(shape) {
-        return PageRead::Refused(Refusal::Shape);
+        return PageRead::Refused(gtb::shape_refusal(shape));
     }
     if symbols.len() != info_length(shape) {
         return PageRead::Refused(Refusal::Length);
@@ -144,7 +144,7 @@ pub fn write_page(shape: Shape, number: u32, marks: &[u32], symbols: &mut [u32])
     ensures { λ r. ⌜ Writing shape number (now (marks .entry)) (now (symbols .entry)) (now (symbols .exit)) r ⌝ }
 {
     if !gtb::is_lawful(shape) {
-        return Status::Refused(Refusal::Shape);
+        return Status::Refused(gtb::shape_refusal(shape));
     }
     if symbols.len() != info_length(shape) {
         return Status::Refused(Refusal::Length);

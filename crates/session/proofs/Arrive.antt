@@ -10,7 +10,7 @@ use borrow.Author.Tests.{eq-eqb, ne-eqb}
 use Rattle.parity.proofs.Lists.{length-tabulate}
 use Rattle.gtb.specs.declared.Shape.{Shape}
 use Rattle.gtb.specs.declared.Refusal.{Refusal}
-use Rattle.gtb.specs.Shape.{lawful, Lawful, wordLength, infoLength, scratchLength}
+use Rattle.gtb.specs.Shape.{lawful, shapeRefusal, Lawful, wordLength, infoLength, scratchLength}
 use Rattle.gtb.specs.Square.{at, narrow}
 use Rattle.gtb.specs.Positions.{infoPosition, extractOf}
 use Rattle.gtb.specs.Answer as answer
@@ -40,7 +40,7 @@ whole-copy from to size = rw (drop-of-length-le to {i = length from} (omega arit
 
 -- ---- what is opened
 module _ (s : Shape) (word scratch : List ℕ) where
-  pub opened-shape : lawful s ≡ false → opened clean s word scratch ≡ Bad Refusal.Shape
+  pub opened-shape : lawful s ≡ false → opened clean s word scratch ≡ Bad (shapeRefusal s)
   unfolding opened
   opened-shape h = rw h
 
@@ -61,10 +61,6 @@ module _ (s : Shape) (word scratch : List ℕ) where
       rw (lent .lawful, eq-eqb (length word) (wordLength s) (lent .wordSize), eq-eqb (length scratch) (scratchLength s) (lent .scratchSize))
 
 -- ---- a refusal by tests 1 and 2 leaves the scratch as it was
-pub shape-scratch : {x : List ℕ} → x ≡ answer.scratchAfter Refusal.Shape x
-unfolding answer.scratchAfter
-shape-scratch = refl
-
 pub length-scratch : {x : List ℕ} → x ≡ answer.scratchAfter Refusal.Length x
 unfolding answer.scratchAfter
 length-scratch = refl

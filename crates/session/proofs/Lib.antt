@@ -9,3 +9,4 @@ pub mod Fits
 pub mod Demand
 pub mod Clean
 pub mod Undamaged
+pub mod Alikes

@@ -5,50 +5,30 @@ use mathlib.Core.List.{List}
 use Prim.Native.Nat.{ℕ, _+_, _-_, _*_, _<_, _≤_}
 use native.Mathlib.Nat.{mul-le-mul}
 use native.Mathlib.Omega.{arith}
-use lib.Dec.{eqb, leb, ltb, lit<}
-use lib.ListN.{length, getD, take, drop}
-use Rattle.gtb.proofs.Answers.{unless-never}
+use lib.Dec.{eqb}
+use lib.ListN.{length}
+use Rattle.gtb.proofs.Answers.{unless-never, Foreign, nine-foreign}
+use Rattle.page.proofs.Refusals.{page-never}
+use Rattle.decoder.specs.Decode.{decodeOf, restored}
+use Rattle.decoder.proofs.Refusals.{decode-never}
 use Rattle.gtb.specs.declared.Shape.{Shape}
 use Rattle.gtb.specs.declared.Refusal.{Refusal}
-use Rattle.gtb.specs.Shape.{lawful, Lawful, infoLength, wordLength, scratchLength}
-use Rattle.gtb.specs.Square.{narrow}
+use Rattle.gtb.specs.Shape.{lawful, Lawful, infoLength, wordLength, scratchLength, shapeRefusal}
 use Rattle.gtb.specs.Positions.{extractOf}
-use Rattle.gtb.specs.Answer.{refusalNumber, unless}
+use Rattle.gtb.specs.Answer.{unless}
 use Rattle.gtb.proofs.Bounds.{bounds}
 use Rattle.correction.specs.declared.Decoded.{Decoded}
 use Rattle.correction.specs.declared.Decoded.the-variants as decoded
 use Rattle.page.specs.declared.PageRead.{PageRead}
 use Rattle.page.specs.declared.PageRead.the-variants as page
-use Rattle.page.specs.Page.{functions, zeros, most, pageOf}
+use Rattle.page.specs.Page.{most, pageOf}
 use Rattle.page.proofs.Pages.{page-facts}
-use Rattle.session.specs.Arrival.{Way, Sound, Opened, Page, Bad, openPage, openWord, opened}
-
--- a refusal with a lower number is not 9
-pub not-nine : (e : Refusal) → refusalNumber e < 9 → e ≡ Refusal.Overflow → ⊥
-not-nine e l h = let z = ap refusalNumber h in omega arith
+use Rattle.session.specs.Arrival.{Way, Sound, Opened, Page, Bad, openPage, openWord, opened, clean}
 
 -- a page number that has a place, few marks; never 9
 abbrev pub Sane : Opened → Type 0
 Sane (Page number marks k) = (number < 1024) × (length marks ≤ 898)
 Sane (Bad e) = e ≡ Refusal.Overflow → ⊥
-
--- a test that turns down by a lower number
-page-next : (t : Bool) (e : Refusal) (next : PageRead) → refusalNumber e < 9 → (next ≡ page.Refused Refusal.Overflow → ⊥)
-    → unless t (page.Refused e) next ≡ page.Refused Refusal.Overflow → ⊥
-page-next t e next l = unless-never t (page.Refused e) next (λ r. not-nine e l (cc))
-
--- the page reader never refuses with 9
-page-never : (s : Shape) (symbols : List ℕ) → pageOf s symbols ≡ page.Refused Refusal.Overflow → ⊥
-unfolding pageOf
-page-never s symbols =
-    page-next (lawful s) _ _ (lit< tt)
-    (page-next (eqb (length symbols) (infoLength s)) _ _ (lit< tt)
-    (page-next (narrow (s .b) symbols) _ _ (lit< tt)
-    (page-next (ltb (getD symbols 0 0) 1024) _ _ (lit< tt)
-    (page-next (leb (getD symbols 1 0) (most s)) _ _ (lit< tt)
-    (page-next (functions (take (getD symbols 1 0) (drop 2 symbols))) _ _ (lit< tt)
-    (page-next (zeros (drop (2 + getD symbols 1 0) symbols)) _ _ (lit< tt)
-    (λ r. let z : _≡_ {A = ℕ} 0 1 = cc in omega arith)))))))
 
 -- K - 2 is at most 30 × 30 - 2
 few-marks : (s : Shape) → Lawful s → most s ≤ 898
@@ -63,19 +43,35 @@ page-sane : (s : Shape) (symbols : List ℕ) (k : ℕ) (r : PageRead) → pageOf
 page-sane s symbols k (page.Page number c) h =
     let f = page-facts s symbols number c h in
     (f .page, omega (arith, few-marks s (f .lawful), f .few, f .length))
-page-sane s symbols k (page.Refused e) h = λ x. page-never s symbols (h ∙ ap page.Refused x)
+page-sane s symbols k (page.Refused e) h = λ x. page-never s symbols Refusal.Overflow (nine-foreign s) (h ∙ ap page.Refused x)
 
 word-sane : (s : Shape) (v : List ℕ) (r : Decoded) → (r ≡ decoded.Refused Refusal.Overflow → ⊥) → Sane (openWord s v r)
 word-sane s v (decoded.Corrected k) h = page-sane s (extractOf s v) k (pageOf s (extractOf s v)) refl
 word-sane s v (decoded.Refused e) h = λ x. h (ap decoded.Refused x)
 
-unless-sane : (t : Bool) (e : Refusal) (next : Opened) → refusalNumber e < 9 → Sane next → Sane (unless t (Bad e) next)
+unless-sane : (t : Bool) (e : Refusal) (next : Opened) → (t ≡ false → e ≡ Refusal.Overflow → ⊥) → Sane next → Sane (unless t (Bad e) next)
 unless-sane true e next l h = h
-unless-sane false e next l h = not-nine e l
+unless-sane false e next l h = l refl
 
 pub opened-sane : (way : Way) (s : Shape) → Sound way s → (word scratch : List ℕ) → Sane (opened way s word scratch)
 unfolding opened
 opened-sane way s sound word scratch =
-    unless-sane (lawful s) Refusal.Shape _ (lit< tt)
-    (unless-sane (eqb (length word) (wordLength s) && eqb (length scratch) (scratchLength s)) Refusal.Length _ (lit< tt)
+    unless-sane (lawful s) (shapeRefusal s) _ (nine-foreign s .shape)
+    (unless-sane (eqb (length word) (wordLength s) && eqb (length scratch) (scratchLength s)) Refusal.Length _ (λ _. nine-foreign s .length)
     (word-sane s (way .word s word) (way .answer s word) (sound .never word)))
+
+-- ---- what an arrival read the clean way is never turned down by
+page-opens : (s : Shape) (symbols : List ℕ) (k : ℕ) (e : Refusal) (r : PageRead) → (r ≡ page.Refused e → ⊥) → openPage s symbols k r ≡ Bad e → ⊥
+page-opens s symbols k e (page.Page number c) ne h = let z : _≡_ {A = ℕ} 0 1 = cc in omega arith
+page-opens s symbols k e (page.Refused e′) ne h = ne (cc)
+
+word-opens : (s : Shape) (v : List ℕ) (e : Refusal) → Foreign s e → (r : Decoded) → (r ≡ decoded.Refused e → ⊥) → openWord s v r ≡ Bad e → ⊥
+word-opens s v e f (decoded.Corrected k) ne = page-opens s (extractOf s v) k e (pageOf s (extractOf s v)) (page-never s (extractOf s v) e f)
+word-opens s v e f (decoded.Refused e′) ne = λ h. ne (cc)
+
+pub opened-never : (s : Shape) (word scratch : List ℕ) (e : Refusal) → Foreign s e → opened clean s word scratch ≡ Bad e → ⊥
+unfolding opened
+opened-never s word scratch e f =
+    unless-never (lawful s) (Bad (shapeRefusal s)) _ (λ no h. f .shape no (cc))
+    (unless-never (eqb (length word) (wordLength s) && eqb (length scratch) (scratchLength s)) (Bad Refusal.Length) _ (λ _ h. f .length (cc))
+    (word-opens s (restored s word) e f (decodeOf s word) (decode-never s word e f)))

@@ -7,7 +7,7 @@ use lib.Dec.{eqb}
 use lib.ListN.{length, getD, replicate}
 use Rattle.gtb.specs.declared.Shape.{Shape}
 use Rattle.gtb.specs.declared.Refusal.{Refusal}
-use Rattle.gtb.specs.Shape.{lawful, wordLength, scratchLength}
+use Rattle.gtb.specs.Shape.{lawful, shapeRefusal, wordLength, scratchLength}
 use Rattle.gtb.specs.Square.{at, Word, Codeword}
 use Rattle.gtb.specs.Positions.{extractOf}
 use Rattle.gtb.specs.Answer.{refusalNumber, unless, scratchAfter}
@@ -62,10 +62,10 @@ abbrev pub openWord : Shape → List ℕ → Decoded → Opened
 openWord s v (decoded.Corrected k) = openPage s (extractOf s v) k (pageOf s (extractOf s v))
 openWord s v (decoded.Refused e) = Bad e
 
--- tests 1 to 8: the word is read, its data digits taken out, the page read
+-- tests 1, 18, 2 to 8: the word is read, its data digits taken out, the page read
 unfoldable pub opened : Way → Shape → List ℕ → List ℕ → Opened
 opened way s word scratch =
-    unless (lawful s) (Bad Refusal.Shape)
+    unless (lawful s) (Bad (shapeRefusal s))
     (unless (eqb (length word) (wordLength s) && eqb (length scratch) (scratchLength s)) (Bad Refusal.Length)
     (openWord s (way .word s word) (way .answer s word)))
 

@@ -12,7 +12,7 @@ use Rattle.gtb.specs.declared.Refusal.{Refusal}
 use Rattle.gtb.specs.declared.Status.{Status}
 use Rattle.gtb.specs.declared.Status.the-variants.{Done}
 use Rattle.gtb.specs.declared.Status.the-variants as status
-use Rattle.gtb.specs.Shape.{lawful}
+use Rattle.gtb.specs.Shape.{lawful, shapeRefusal}
 use Rattle.gtb.specs.Answer.{refusalNumber, statusNumber, unless}
 use Rattle.session.specs.declared.Session.{Session}
 use Rattle.session.specs.declared.Fresh.{Fresh}
@@ -23,9 +23,9 @@ use Rattle.session.specs.declared.Counted.the-variants.{Calls, Refused}
 unfoldable pub freshOf : Shape → Session
 freshOf s = record { shape = s; taken = replicate 1024 false; calls = replicate 256 0 }
 
--- making one tests 1
+-- making one tests 1, then 18
 unfoldable pub freshStatus : Shape → Status
-freshStatus s = unless (lawful s) (status.Refused Refusal.Shape) Done
+freshStatus s = unless (lawful s) (status.Refused (shapeRefusal s)) Done
 
 -- what making one answers; beside a refusal stands the session of that shape, of use to nobody
 pub record Beginning (s : Shape) (r : Fresh) : Type 0 where
@@ -50,10 +50,10 @@ overflows calls marks = any 256 (λ f. leb (2 ^ 32) (getD calls f 0 + countOf f 
 unfoldable pub recorded : Session → ℕ → List ℕ → Session
 recorded σ number marks = record { shape = σ .shape; taken = set (σ .taken) number true; calls = added (σ .calls) marks }
 
--- a count query tests 1, then 7
+-- a count query tests 1, 18, then 7
 unfoldable pub countedOf : Session → ℕ → Counted
 countedOf σ f =
-    unless (lawful (σ .shape)) (Refused Refusal.Shape) (unless (ltb f 256) (Refused Refusal.Function) (Calls (getD (σ .calls) f 0)))
+    unless (lawful (σ .shape)) (Refused (shapeRefusal (σ .shape))) (unless (ltb f 256) (Refused Refusal.Function) (Calls (getD (σ .calls) f 0)))
 
 -- as one number, a refusal above all counts
 abbrev pub countedNumber : Counted → ℕ

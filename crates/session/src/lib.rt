@@ -72,17 +72,17 @@ impl Session {
         }
         Fresh {
             session,
-            status: Status::Refused(Refusal::Shape),
+            status: Status::Refused(gtb::shape_refusal(shape)),
         }
     }
 
-    // How often a function was called: tests 1, then 7.
+    // How often a function was called: tests 1, 18, then 7.
     pub fn count(self, function: u32) -> Counted
         ensures { λ r. ⌜ Answered countedNumber (countedOf self function) r ⌝ }
     {
         let shape = self.shape;
         if !gtb::is_lawful(shape) {
-            return Counted::Refused(Refusal::Shape);
+            return Counted::Refused(gtb::shape_refusal(shape));
         }
         if function > 255 {
             return Counted::Refused(Refusal::Function);
@@ -92,13 +92,13 @@ impl Session {
         Counted::Calls(calls[at])
     }
 
-    // An arrival. Past tests 1 and 2 it works on a copy, so that a word refused later is still the word that came.
+    // An arrival. Past tests 1, 18 and 2 it works on a copy, so that a word refused later is still the word that came.
     pub fn arrive(self, word: &mut [u32], scratch: &mut [u32]) -> Arrived
         ensures { λ r. ⌜ Arriving clean self (now (word .entry)) (now (scratch .entry)) (now (word .exit)) (now (scratch .exit)) r ⌝ }
     {
         let shape = self.shape;
         if !gtb::is_lawful(shape) {
-            return self.refused(Refusal::Shape);
+            return self.refused(gtb::shape_refusal(shape));
         }
         let size = word_length(shape);
         if word.len() != size {

@@ -9,7 +9,7 @@ use Rattle.parity.specs.Count.{bit, sum, count, any, all, firstValue}
 use Rattle.parity.specs.Lists.{tabulate}
 use Rattle.parity.proofs.Tests.{all-elim, agree}
 use Rattle.gtb.specs.declared.Shape.{Shape}
-use Rattle.gtb.specs.Shape.{shapeOf, orders, isOrder, lawful, Lawful, slopeOf, wordLength}
+use Rattle.gtb.specs.Shape.{standard, orders, isOrder, lawful, Lawful, slopeOf, wordLength, regular, sloped, fitsSlope}
 use Rattle.gtb.specs.Square.{lineOf, at, narrow, syndrome, silentTest}
 use Rattle.gtb.specs.Positions.{infoPosition, extractOf, Encodes, isInformation}
 use Rattle.gtb.proofs.Positions.{information-positions}
@@ -33,24 +33,24 @@ encodes : (s : Shape) (symbols w : List ℕ) → length w ≡ wordLength s → n
 encodes s symbols w size slim quiet info =
     record { codeword = record { word = narrow-word s w size slim; checks = test-silent s (at w) quiet }; information = info }
 
-p1 : (b : ℕ) → Lawful (shapeOf 3 2 b) → Places (shapeOf 3 2 b) (4 ∷ 5 ∷ 7 ∷ 8 ∷ [])
+p1 : (b : ℕ) → Lawful (standard 3 2 b) → Places (standard 3 2 b) (4 ∷ 5 ∷ 7 ∷ 8 ∷ [])
 unfolding any all isInformation
-p1 b law = places (shapeOf 3 2 b) law refl (4 ∷ 5 ∷ 7 ∷ 8 ∷ []) refl
+p1 b law = places (standard 3 2 b) law refl (4 ∷ 5 ∷ 7 ∷ 8 ∷ []) refl
 
-p2 : (b : ℕ) → Lawful (shapeOf 3 3 b) → Places (shapeOf 3 3 b) (7 ∷ 8 ∷ [])
+p2 : (b : ℕ) → Lawful (standard 3 3 b) → Places (standard 3 3 b) (7 ∷ 8 ∷ [])
 unfolding any all isInformation
-p2 b law = places (shapeOf 3 3 b) law refl (7 ∷ 8 ∷ []) refl
+p2 b law = places (standard 3 3 b) law refl (7 ∷ 8 ∷ []) refl
 
 pub bench : Bench
-unfolding silentTest mended damaged tabulate decodeOf lawful isOrder orders narrow correctable restored errorAt firstValue alone located all any bit sum count syndrome xorSum when lineOf slopeOf _⊕_ extractOf infoPosition pageOf pageSymbols functions zeros
+unfolding silentTest mended damaged tabulate decodeOf lawful regular sloped fitsSlope isOrder orders narrow correctable restored errorAt firstValue alone located all any bit sum count syndrome xorSum when lineOf slopeOf _⊕_ extractOf infoPosition pageOf pageSymbols functions zeros
 bench = record {
   p1 = p1;
   p2 = p2;
-  p3 = encodes (shapeOf 3 2 3) (3 ∷ 5 ∷ 6 ∷ 7 ∷ []) (7 ∷ 5 ∷ 2 ∷ 6 ∷ 3 ∷ 5 ∷ 1 ∷ 6 ∷ 7 ∷ []) refl refl refl refl;
-  p4 = encodes (shapeOf 3 3 3) (5 ∷ 3 ∷ []) stored refl refl refl refl;
+  p3 = encodes (standard 3 2 3) (3 ∷ 5 ∷ 6 ∷ 7 ∷ []) (7 ∷ 5 ∷ 2 ∷ 6 ∷ 3 ∷ 5 ∷ 1 ∷ 6 ∷ 7 ∷ []) refl refl refl refl;
+  p4 = encodes (standard 3 3 3) (5 ∷ 3 ∷ []) stored refl refl refl refl;
   p5 = (refl, refl);
   p6 = refl;
-  p7 = encodes (shapeOf 3 2 8) (pageSymbols (shapeOf 3 2 8) 1 (3 ∷ 5 ∷ [])) (5 ∷ 2 ∷ 7 ∷ 3 ∷ 1 ∷ 2 ∷ 6 ∷ 3 ∷ 5 ∷ []) refl refl refl refl;
+  p7 = encodes (standard 3 2 8) (pageSymbols (standard 3 2 8) 1 (3 ∷ 5 ∷ [])) (5 ∷ 2 ∷ 7 ∷ 3 ∷ 1 ∷ 2 ∷ 6 ∷ 3 ∷ 5 ∷ []) refl refl refl refl;
   p8 = refl;
   p9 = refl;
   p10 = refl;

@@ -9,7 +9,7 @@ use lib.ListN.{length, getD}
 use Rattle.parity.specs.Count.{any}
 use Rattle.gtb.specs.declared.Shape.{Shape}
 use Rattle.gtb.specs.declared.Refusal.{Refusal}
-use Rattle.gtb.specs.Shape.{shapeOf, lawful, Lawful}
+use Rattle.gtb.specs.Shape.{standard, lawful, Lawful}
 use Rattle.gtb.specs.Positions.{Dependent, Encodes}
 use Rattle.correction.specs.declared.Decoded.the-variants.{Corrected}
 use Rattle.correction.specs.declared.Decoded.the-variants as decoded
@@ -33,18 +33,18 @@ abbrev pub received : ℕ → List ℕ
 received x = damaged stored (0 ∷ 0 ∷ 0 ∷ 7 ∷ x ∷ 0 ∷ 0 ∷ 0 ∷ 0 ∷ [])
 
 pub record Bench : Type 0 where
-  pub p1 : (b : ℕ) → Lawful (shapeOf 3 2 b) → Places (shapeOf 3 2 b) (4 ∷ 5 ∷ 7 ∷ 8 ∷ [])
-  pub p2 : (b : ℕ) → Lawful (shapeOf 3 3 b) → Places (shapeOf 3 3 b) (7 ∷ 8 ∷ [])
-  pub p3 : Encodes (shapeOf 3 2 3) (3 ∷ 5 ∷ 6 ∷ 7 ∷ []) (7 ∷ 5 ∷ 2 ∷ 6 ∷ 3 ∷ 5 ∷ 1 ∷ 6 ∷ 7 ∷ [])
-  pub p4 : Encodes (shapeOf 3 3 3) (5 ∷ 3 ∷ []) stored
-  pub p5 : (decodeOf (shapeOf 3 3 3) (received 1) ≡ Corrected 2) × (restored (shapeOf 3 3 3) (received 1) ≡ stored)
-  pub p6 : decodeOf (shapeOf 3 3 3) (received 7) ≡ decoded.Refused Refusal.Uncorrectable
-  pub p7 : Encodes (shapeOf 3 2 8) (pageSymbols (shapeOf 3 2 8) 1 (3 ∷ 5 ∷ [])) (5 ∷ 2 ∷ 7 ∷ 3 ∷ 1 ∷ 2 ∷ 6 ∷ 3 ∷ 5 ∷ [])
-  pub p8 : pageOf (shapeOf 3 2 8) (1 ∷ 3 ∷ 0 ∷ 0 ∷ []) ≡ Refused Refusal.Count
-  pub p9 : pageOf (shapeOf 3 2 8) (0 ∷ 1 ∷ 4 ∷ 9 ∷ []) ≡ Refused Refusal.Tail
-  pub p10 : pageOf (shapeOf 3 2 11) (1023 ∷ 0 ∷ 0 ∷ 0 ∷ []) ≡ Page 1023 0
-  pub p10-past : pageOf (shapeOf 3 2 11) (1024 ∷ 0 ∷ 0 ∷ 0 ∷ []) ≡ Refused Refusal.Page
-  pub accepted : (lawful (shapeOf 31 8 32) ≡ true) × (lawful (shapeOf 3 3 1) ≡ true)
-  pub refused : (lawful (shapeOf 3 4 8) ≡ false) × (lawful (shapeOf 31 9 8) ≡ false) × (lawful (shapeOf 9 2 8) ≡ false) × (lawful (shapeOf 3 2 0) ≡ false) × (lawful (shapeOf 3 2 33) ≡ false)
-  pub mark : pageOf (shapeOf 3 2 9) (0 ∷ 1 ∷ 255 ∷ 0 ∷ []) ≡ Page 0 1
-  pub mark-past : pageOf (shapeOf 3 2 9) (0 ∷ 1 ∷ 256 ∷ 0 ∷ []) ≡ Refused Refusal.Function
+  pub p1 : (b : ℕ) → Lawful (standard 3 2 b) → Places (standard 3 2 b) (4 ∷ 5 ∷ 7 ∷ 8 ∷ [])
+  pub p2 : (b : ℕ) → Lawful (standard 3 3 b) → Places (standard 3 3 b) (7 ∷ 8 ∷ [])
+  pub p3 : Encodes (standard 3 2 3) (3 ∷ 5 ∷ 6 ∷ 7 ∷ []) (7 ∷ 5 ∷ 2 ∷ 6 ∷ 3 ∷ 5 ∷ 1 ∷ 6 ∷ 7 ∷ [])
+  pub p4 : Encodes (standard 3 3 3) (5 ∷ 3 ∷ []) stored
+  pub p5 : (decodeOf (standard 3 3 3) (received 1) ≡ Corrected 2) × (restored (standard 3 3 3) (received 1) ≡ stored)
+  pub p6 : decodeOf (standard 3 3 3) (received 7) ≡ decoded.Refused Refusal.Uncorrectable
+  pub p7 : Encodes (standard 3 2 8) (pageSymbols (standard 3 2 8) 1 (3 ∷ 5 ∷ [])) (5 ∷ 2 ∷ 7 ∷ 3 ∷ 1 ∷ 2 ∷ 6 ∷ 3 ∷ 5 ∷ [])
+  pub p8 : pageOf (standard 3 2 8) (1 ∷ 3 ∷ 0 ∷ 0 ∷ []) ≡ Refused Refusal.Count
+  pub p9 : pageOf (standard 3 2 8) (0 ∷ 1 ∷ 4 ∷ 9 ∷ []) ≡ Refused Refusal.Tail
+  pub p10 : pageOf (standard 3 2 11) (1023 ∷ 0 ∷ 0 ∷ 0 ∷ []) ≡ Page 1023 0
+  pub p10-past : pageOf (standard 3 2 11) (1024 ∷ 0 ∷ 0 ∷ 0 ∷ []) ≡ Refused Refusal.Page
+  pub accepted : (lawful (standard 31 8 32) ≡ true) × (lawful (standard 3 3 1) ≡ true)
+  pub refused : (lawful (standard 3 4 8) ≡ false) × (lawful (standard 31 9 8) ≡ false) × (lawful (standard 9 2 8) ≡ false) × (lawful (standard 3 2 0) ≡ false) × (lawful (standard 3 2 33) ≡ false)
+  pub mark : pageOf (standard 3 2 9) (0 ∷ 1 ∷ 255 ∷ 0 ∷ []) ≡ Page 0 1
+  pub mark-past : pageOf (standard 3 2 9) (0 ∷ 1 ∷ 256 ∷ 0 ∷ []) ≡ Refused Refusal.Function

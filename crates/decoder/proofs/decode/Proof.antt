@@ -13,8 +13,11 @@ use Rattle.decoder.proofs.decode.Tie as tie
 is-lawful-requires : tie.Need-is-lawful-requires
 is-lawful-requires c κs = search needs
 
+shape-refusal-requires : tie.Need-shape-refusal-requires
+shape-refusal-requires c κs = search needs
+
 returns : tie.Need-returns
-returns c = refuses-shape (sym (c .before .is-lawful .ensures) ∙ not-true _ (c .if1 .taken))
+returns c = refuses-shape (sym (c .before .before .is-lawful .ensures) ∙ not-true _ (c .before .if1 .taken)) (c .shape-refusal .ensures)
 
 cast-q : tie.Need-cast-q
 cast-q c = search needs
@@ -57,6 +60,7 @@ decode-spec =
     tie.close
     (tie.spec
     is-lawful-requires
+    shape-refusal-requires
     returns
     cast-q
     mul-if2

@@ -1,10 +1,12 @@
 -- `encoder::test` meets its contract: each return has the tests before it passed and its own failed.
-use mathlib.Core.Path.{_≡_, refl, sym, _∙_}
+use mathlib.Core.Path.{_≡_, refl, sym, ap, _∙_}
 use mathlib.Core.Bool.{Bool, true}
 use borrow.Author.Needs.{needs}
 use borrow.Author.Tests.{not-true, not-false}
 use Rattle.gtb.specs.Shape.{lawful}
 use Rattle.gtb.specs.Answer.{scratchAfter}
+use Rattle.gtb.specs.declared.Status.the-variants.{Refused}
+use Rattle.gtb.proofs.Answers.{shape-scratch}
 use Rattle.gtb.proofs.Bounds.{bounds}
 use Rattle.encoder.proofs.Answers.{sized, status-shape, status-length, status-width, status-done, tested-refused, tested-done}
 use Rattle.encoder.proofs.test.Statement.{statement}
@@ -23,9 +25,14 @@ sized-at c = sized (c .args .shape) (c .args .symbols .now) (c .args .scratch .n
 sizes-hold : (c : tie.Else2) → sized-at (c .before .before .before .before .before .before .before .before) ≡ true
 sizes-hold c = sym (c .before .sizes-match .ensures) ∙ not-false _ (c .if2 .left)
 
+shape-refusal-requires : tie.Need-shape-refusal-requires
+shape-refusal-requires c κs = search needs
+
 returns : tie.Need-returns
-unfolding scratchAfter
-returns c = tested-refused _ _ _ _ _ _ _ (status-shape _ _ _ _ _ (sym (c .before .is-lawful .ensures) ∙ not-true _ (c .if1 .taken))) refl
+returns c =
+    tested-refused _ _ _ _ _ _ _
+    (status-shape _ _ _ _ _ (sym (c .before .before .is-lawful .ensures) ∙ not-true _ (c .before .if1 .taken)) ∙ ap Refused (sym (c .shape-refusal .ensures)))
+    (rw (c .shape-refusal .ensures) (shape-scratch _ _))
 
 sizes-match-requires : tie.Need-sizes-match-requires
 sizes-match-requires c κs = shape-holds c
@@ -75,6 +82,7 @@ test-spec =
     tie.close
     (tie.spec
     is-lawful-requires
+    shape-refusal-requires
     returns
     sizes-match-requires
     returns-2

@@ -1,63 +1,28 @@
--- `gtb::is_lawful` meets its contract: each `&&` of the code is one of `lawful`'s.
+-- `gtb::is_lawful` meets its contract.
+use mathlib.Core.Path.{sym, ap, _∙_}
+use mathlib.Core.Bool.{Bool, _&&_}
 use borrow.Author.Needs.{needs}
-use mathlib.Core.Logic.{⊎-elim}
-use mathlib.Core.Path.{_≡_, _∙_, refl, sym, ap}
-use mathlib.Core.Bool.{Bool, true, false, _&&_}
-use lib.Dec.{leb}
-use Rattle.gtb.specs.declared.Shape.{Shape}
-use Rattle.gtb.specs.Shape.{lawful, isOrder}
+use borrow.Author.Tests.{not-true, not-false}
+use Rattle.parity.proofs.Tests.{and-no-left}
+use Rattle.gtb.specs.Shape.{sloped, lawful}
 use Rattle.gtb.proofs.is_lawful.Statement.{statement}
 use Rattle.gtb.proofs.is_lawful.Tie as tie
 
--- what `lawful` has of its first two, three, four and five tests
-abbrev two : Shape → Bool
-two s = isOrder (s .q) && leb 2 (s .n)
-
-abbrev three : Shape → Bool
-three s = two s && leb (s .n) (s .q)
-
-abbrev four : Shape → Bool
-four s = three s && leb (s .n) 8
-
-abbrev five : Shape → Bool
-five s = four s && leb 1 (s .b)
-
--- the code's `a && b` has the result r, and a is d: where a holds, r is b
-go-on : {a d r b : Bool} → a ≡ d → a ≡ true → r ≡ b → r ≡ (d && b)
-go-on {b = b} e h same = same ∙ ap (λ (x : Bool). x && b) (sym h ∙ e)
-
--- where it does not, r is a
-stop : {a d r : Bool} (b : Bool) → a ≡ d → a ≡ false → r ≡ a → r ≡ (d && b)
-stop b e h same = same ∙ h ∙ ap (λ (x : Bool). x && b) (sym h ∙ e)
-
-has-two : (c : tie.Joined1) → c .if1 .if2 ≡ two (c .before .before .args .shape)
-has-two c =
-    ⊎-elim (λ w. go-on (c .before .is-order .ensures) (w .0 .taken) (w .2))
-    (λ w. stop _ (c .before .is-order .ensures) (w .0 .left) (w .1))
-    (c .if1 .came)
-
-has-three : (c : tie.Joined2) → c .if2 .if3 ≡ three (c .before .before .before .args .shape)
-has-three c =
-    ⊎-elim (λ w. go-on (has-two (c .before)) (w .0 .taken) (w .2)) (λ w. stop _ (has-two (c .before)) (w .0 .left) (w .1)) (c .if2 .came)
-
-has-four : (c : tie.Joined3) → c .if3 .if4 ≡ four (c .before .before .before .before .args .shape)
-has-four c =
-    ⊎-elim (λ w. go-on (has-three (c .before)) (w .0 .taken) (w .2)) (λ w. stop _ (has-three (c .before)) (w .0 .left) (w .1)) (c .if3 .came)
-
-has-five : (c : tie.Joined4) → c .if4 .if5 ≡ five (c .before .before .before .before .before .args .shape)
-has-five c =
-    ⊎-elim (λ w. go-on (has-four (c .before)) (w .0 .taken) (w .2)) (λ w. stop _ (has-four (c .before)) (w .0 .left) (w .1)) (c .if4 .came)
-
-is-order-requires : tie.Need-is-order-requires
-is-order-requires c κs = search needs
+is-regular-requires : tie.Need-is-regular-requires
+is-regular-requires c κs = search needs
 
 returns : tie.Need-returns
 unfolding lawful
-returns c = go-on (has-five (c .before .before)) (c .before .if5 .taken) refl
+returns c = sym (and-no-left _ (sym (c .before .is-regular .ensures) ∙ not-true _ (c .if1 .taken)))
+
+is-sloped-requires : tie.Need-is-sloped-requires
+is-sloped-requires c κs = sym (c .before .is-regular .ensures) ∙ not-false _ (c .if1 .left)
 
 returns-2 : tie.Need-returns-2
 unfolding lawful
-returns-2 c = stop _ (has-five (c .before)) (c .if5 .left) refl
+returns-2 c =
+    c .is-sloped .ensures
+    ∙ ap (λ (b : Bool). b && sloped (c .before .before .before .args .shape)) (sym (sym (c .before .before .is-regular .ensures) ∙ not-false _ (c .before .if1 .left)))
 
 pub is-lawful-spec : {M : Type 1} → statement M
-is-lawful-spec = tie.close (tie.spec is-order-requires returns returns-2)
+is-lawful-spec = tie.close (tie.spec is-regular-requires returns is-sloped-requires returns-2)

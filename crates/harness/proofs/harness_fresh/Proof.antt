@@ -1,9 +1,18 @@
 -- `harness::harness_fresh` meets its contract: each answer follows from the tests passed.
-use mathlib.Core.Path.{sym, _∙_}
+use mathlib.Core.Path.{refl, sym, _∙_}
 use borrow.Author.Needs.{needs}
-use Rattle.harness.proofs.Answers.{fresh-shape, fresh-length, fresh-done}
+use Rattle.harness.proofs.Answers.{shaped, unshaped, fresh-shape, fresh-length, fresh-done}
 use Rattle.harness.proofs.harness_fresh.Statement.{statement}
 use Rattle.harness.proofs.harness_fresh.Tie as tie
+
+refused-requires : tie.Need-refused-requires
+refused-requires c κs = search needs
+
+returns : tie.Need-returns
+returns c = unshaped (c .before .if1 .taken) (c .refused .ensures) refl
+
+load-shape-requires : tie.Need-load-shape-requires
+load-shape-requires c κs = search needs
 
 fresh-requires : tie.Need-fresh-requires
 fresh-requires c κs = search needs
@@ -11,20 +20,26 @@ fresh-requires c κs = search needs
 enum-known-status : tie.Need-enum-known-status
 enum-known-status c = search needs
 
-refused-requires : tie.Need-refused-requires
-refused-requires c κs = search needs
-
-returns : tie.Need-returns
-returns c = fresh-shape _ _ (sym (c .before .before .before .before .fresh .ensures .status) ∙ c .before .before .status .given .1) (c .refused .ensures)
-
-enum-told : tie.Need-enum-told
-enum-told c = search needs
-
 refused-requires-2 : tie.Need-refused-requires-2
 refused-requires-2 c κs = search needs
 
 returns-2 : tie.Need-returns-2
-returns-2 c = fresh-length _ _ (sym (c .before .before .before .before .fresh .ensures .status) ∙ c .before .before .enum-told .given .1) (c .before .if1 .taken) (c .refused2 .ensures)
+returns-2 c =
+    let made = c .before .before .before .before in
+    shaped (made .before .before .if1 .left) (made .before .load-shape .ensures)
+    (fresh-shape _ _ (sym (made .fresh .ensures .status) ∙ c .before .before .status .given .1) (c .refused2 .ensures))
+
+enum-told : tie.Need-enum-told
+enum-told c = search needs
+
+refused-requires-3 : tie.Need-refused-requires-3
+refused-requires-3 c κs = search needs
+
+returns-3 : tie.Need-returns-3
+returns-3 c =
+    let made = c .before .before .before .before in
+    shaped (made .before .before .if1 .left) (made .before .load-shape .ensures)
+    (fresh-length _ _ (sym (made .fresh .ensures .status) ∙ c .before .before .enum-told .given .1) (c .before .if2 .taken) (c .refused3 .ensures))
 
 store-requires : tie.Need-store-requires
 store-requires c κs = search needs
@@ -32,23 +47,26 @@ store-requires c κs = search needs
 same-length : tie.Need-same-length
 same-length c = search needs
 
-returns-3 : tie.Need-returns-3
-returns-3 c =
+returns-4 : tie.Need-returns-4
+returns-4 c =
     let made = c .before .before .before .before .before .before .before in
-    fresh-done _ _ (sym (made .fresh .ensures .status) ∙ c .before .before .before .before .before .enum-told .given .1) (c .before .before .before .before .if1 .left)
-    (made .fresh .ensures .session) (c .before .before .store .ensures)
+    shaped (made .before .before .if1 .left) (made .before .load-shape .ensures)
+    (fresh-done _ _ (sym (made .fresh .ensures .status) ∙ c .before .before .before .before .before .enum-told .given .1) (c .before .before .before .before .if2 .left) (made .fresh .ensures .session) (c .before .before .store .ensures))
 
 pub harness-fresh-spec : {M : Type 1} → statement M
 harness-fresh-spec =
     tie.close
     (tie.spec
-    fresh-requires
-    enum-known-status
     refused-requires
     returns
-    enum-told
+    load-shape-requires
+    fresh-requires
+    enum-known-status
     refused-requires-2
     returns-2
+    enum-told
+    refused-requires-3
+    returns-3
     store-requires
     same-length
-    returns-3)
+    returns-4)

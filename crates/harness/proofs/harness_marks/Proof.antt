@@ -5,9 +5,9 @@ use Prim.Native.Nat.{ℕ, _≤_}
 use native.Mathlib.Omega.{arith}
 use lib.ListN.{length, drop}
 use borrow.Author.Needs.{needs}
-use Rattle.gtb.specs.Shape.{shapeOf}
 use Rattle.page.specs.Page.{marksOf}
 use Rattle.page.proofs.Pages.{marks-few}
+use Rattle.harness.proofs.Answers.{shaped, unshaped}
 use Rattle.harness.proofs.harness_marks.Statement.{statement}
 use Rattle.harness.proofs.harness_marks.Tie as tie
 
@@ -15,18 +15,32 @@ refused-requires : tie.Need-refused-requires
 refused-requires c κs = search needs
 
 returns : tie.Need-returns
-returns c = record { right = λ same. absurd (c .before .if1 .taken same); wrong = λ other. (c .refused .ensures, refl) }
+returns c = unshaped (c .before .if1 .taken) (c .refused .ensures) refl
+
+refused-requires-2 : tie.Need-refused-requires-2
+refused-requires-2 c κs = search needs
+
+returns-2 : tie.Need-returns-2
+returns-2 c =
+    let size = c .before .before .if1 .left in
+    record {
+      right = λ _. record { right = λ same. absurd (c .before .if2 .taken same); wrong = λ other. (c .refused2 .ensures, refl) };
+      wrong = λ other. absurd (other size);
+    }
+
+load-shape-requires : tie.Need-load-shape-requires
+load-shape-requires c κs = search needs
 
 marks-requires : tie.Need-marks-requires
 marks-requires c κs = search needs
 
 -- the marks are few
-few : (c : tie.After-marks) → let a = c .before .before .before .before .args in
-    (length (marksOf (shapeOf (a .q) (a .n) (a .b)) (a .symbols .now)) ≤ length (a .symbols .now)) × (length (marksOf (shapeOf (a .q) (a .n) (a .b)) (a .symbols .now)) ≤ 898)
-few c = let a = c .before .before .before .before .args in marks-few (shapeOf (a .q) (a .n) (a .b)) (a .symbols .now)
+few : (c : tie.After-marks) → let s = c .before .load-shape .result in let symbols = c .before .before .before .before .before .before .before .args .symbols .now in
+    (length (marksOf s symbols) ≤ length symbols) × (length (marksOf s symbols) ≤ 898)
+few c = marks-few (c .before .load-shape .result) (c .before .before .before .before .before .before .before .args .symbols .now)
 
 copy-requires : tie.Need-copy-requires
-copy-requires c κs = omega (arith, ap length (c .before .marks .ensures), few (c .before) .0, c .before .before .if1 .left)
+copy-requires c κs = omega (arith, ap length (c .before .marks .ensures), few (c .before) .0, c .before .before .before .if2 .left)
 
 cast-result : tie.Need-cast-result
 cast-result c =
@@ -36,13 +50,15 @@ cast-result c =
 same-length : tie.Need-same-length
 same-length c = search needs
 
-returns-2 : tie.Need-returns-2
-returns-2 c =
+returns-3 : tie.Need-returns-3
+returns-3 c =
     let part = c .before .before .before .before in
-    record {
-      right = λ same. (ap length (part .marks .ensures), c .before .before .copy .ensures ∙ ap (λ (xs : List ℕ). xs ++ drop (length xs) (part .before .before .before .before .args .marks .now)) (part .marks .ensures));
-      wrong = λ other. absurd (other (part .before .if1 .left));
-    }
+    let marks = part .before .before .before .before .before .before .before .args .marks .now in
+    shaped (part .before .before .before .if1 .left) (part .before .load-shape .ensures)
+    (record {
+      right = λ same. (ap length (part .marks .ensures), c .before .before .copy .ensures ∙ ap (λ (xs : List ℕ). xs ++ drop (length xs) marks) (part .marks .ensures));
+      wrong = λ other. absurd (other (part .before .before .if2 .left));
+    })
 
 pub harness-marks-spec : {M : Type 1} → statement M
 harness-marks-spec =
@@ -50,8 +66,11 @@ harness-marks-spec =
     (tie.spec
     refused-requires
     returns
+    refused-requires-2
+    returns-2
+    load-shape-requires
     marks-requires
     copy-requires
     cast-result
     same-length
-    returns-2)
+    returns-3)

@@ -1,10 +1,21 @@
 -- `harness::harness_read_page` meets its contract: what the page reader answers fits.
-use mathlib.Core.Path.{ap, _∙_}
+use mathlib.Core.Path.{sym, ap, _∙_}
 use borrow.Author.Needs.{needs}
-use Rattle.page.specs.Page.{readNumber}
+use Rattle.gtb.specs.declared.Shape.{Shape}
+use Rattle.page.specs.Page.{readNumber, pageOf}
 use Rattle.page.proofs.Pages.{read-fits}
+use Rattle.harness.proofs.Answers.{page-wrong, page-right}
 use Rattle.harness.proofs.harness_read_page.Statement.{statement}
 use Rattle.harness.proofs.harness_read_page.Tie as tie
+
+refused-requires : tie.Need-refused-requires
+refused-requires c κs = search needs
+
+returns : tie.Need-returns
+returns c = c .refused .ensures ∙ sym (page-wrong _ _ (c .before .if1 .taken))
+
+load-shape-requires : tie.Need-load-shape-requires
+load-shape-requires c κs = search needs
 
 read-page-requires : tie.Need-read-page-requires
 read-page-requires c κs = search needs
@@ -12,8 +23,19 @@ read-page-requires c κs = search needs
 read-requires : tie.Need-read-requires
 read-requires c κs = rw (c .read-page .ensures .answer) (read-fits _ _)
 
-returns : tie.Need-returns
-returns c = c .read .ensures ∙ ap readNumber (c .before .read-page .ensures .answer)
+returns-2 : tie.Need-returns-2
+returns-2 c =
+    let symbols = c .before .before .before .before .before .before .args .symbols .now in
+    c .read .ensures ∙ ap readNumber (c .before .read-page .ensures .answer)
+    ∙ ap (λ (s : Shape). readNumber (pageOf s symbols)) (c .before .before .load-shape .ensures) ∙ sym (page-right _ _ (c .before .before .before .if1 .left))
 
 pub harness-read-page-spec : {M : Type 1} → statement M
-harness-read-page-spec = tie.close (tie.spec read-page-requires read-requires returns)
+harness-read-page-spec =
+    tie.close
+    (tie.spec
+    refused-requires
+    returns
+    load-shape-requires
+    read-page-requires
+    read-requires
+    returns-2)

@@ -1,11 +1,13 @@
 -- `host::shaftglimmer_read_page` meets its contract.
 use mathlib.Core.Path.{sym, ap, _∙_}
-use Prim.Native.Nat.{_≤_}
+use Prim.Native.Nat.{_≤_, _+_, _^_}
 use native.Mathlib.Omega.{arith}
 use lib.Seq.{length-take-le}
 use borrow.Author.Tests.{not-true, not-false}
 use borrow.Author.Needs.{needs}
-use Rattle.gtb.specs.Shape.{Lawful, shapeOf}
+use Rattle.gtb.specs.declared.Refusal.{Refusal}
+use Rattle.gtb.specs.Answer.{refusalNumber}
+use Rattle.gtb.specs.Shape.{Lawful, standard}
 use Rattle.gtb.proofs.Sizes.{sizes}
 use Rattle.page.specs.Page.{readNumber}
 use Rattle.host.proofs.Words.{page-shape, page-length}
@@ -13,7 +15,7 @@ use Rattle.host.proofs.shaftglimmer_read_page.Statement.{statement}
 use Rattle.host.proofs.shaftglimmer_read_page.Tie as tie
 
 -- past the first test the shape is lawful
-legal : (c : tie.Else1) → Lawful (shapeOf (c .before .before .before .args .q) (c .before .before .before .args .n) (c .before .before .before .args .b))
+legal : (c : tie.Else1) → Lawful (standard (c .before .before .before .args .q) (c .before .before .before .args .n) (c .before .before .before .args .b))
 legal c = sym (c .before .is-lawful .ensures) ∙ not-false _ (c .if1 .left)
 
 -- the symbols fit their array
@@ -23,11 +25,16 @@ room c = omega (arith, c .before .info-length .ensures, sizes _ (legal (c .befor
 is-lawful-requires : tie.Need-is-lawful-requires
 is-lawful-requires c κs = search needs
 
+shape-refusal-requires : tie.Need-shape-refusal-requires
+shape-refusal-requires c κs = search needs
+
 refused-requires : tie.Need-refused-requires
 refused-requires c κs = search needs
 
 returns : tie.Need-returns
-returns c = c .refused .ensures ∙ sym (ap readNumber (page-shape _ _ (sym (c .before .before .is-lawful .ensures) ∙ not-true _ (c .before .if1 .taken))))
+returns c =
+    c .refused .ensures ∙ ap (λ (e : Refusal). 2 ^ 31 + refusalNumber e) (c .before .shape-refusal .ensures)
+    ∙ sym (ap readNumber (page-shape _ _ (sym (c .before .before .before .is-lawful .ensures) ∙ not-true _ (c .before .before .if1 .taken))))
 
 info-length-requires : tie.Need-info-length-requires
 info-length-requires c κs = legal c
@@ -62,6 +69,7 @@ shaftglimmer-read-page-spec =
     tie.close
     (tie.spec
     is-lawful-requires
+    shape-refusal-requires
     refused-requires
     returns
     info-length-requires

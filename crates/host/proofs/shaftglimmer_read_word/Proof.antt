@@ -1,18 +1,20 @@
 -- `host::shaftglimmer_read_word` meets its contract.
-use mathlib.Core.Path.{sym, _∙_}
-use Prim.Native.Nat.{_≤_}
+use mathlib.Core.Path.{sym, _∙_, ap}
+use Prim.Native.Nat.{_≤_, _+_, _^_}
 use native.Mathlib.Omega.{arith}
 use lib.Seq.{length-take-le}
 use borrow.Author.Tests.{not-true, not-false}
 use borrow.Author.Needs.{needs}
-use Rattle.gtb.specs.Shape.{Lawful, shapeOf}
+use Rattle.gtb.specs.declared.Refusal.{Refusal}
+use Rattle.gtb.specs.Answer.{refusalNumber}
+use Rattle.gtb.specs.Shape.{Lawful, standard}
 use Rattle.gtb.proofs.Sizes.{sizes}
 use Rattle.host.proofs.Words.{word-shape, word-length, word-refused}
 use Rattle.host.proofs.shaftglimmer_read_word.Statement.{statement}
 use Rattle.host.proofs.shaftglimmer_read_word.Tie as tie
 
 -- past the first test the shape is lawful
-legal : (c : tie.Else1) → Lawful (shapeOf (c .before .before .before .args .q) (c .before .before .before .args .n) (c .before .before .before .args .b))
+legal : (c : tie.Else1) → Lawful (standard (c .before .before .before .args .q) (c .before .before .before .args .n) (c .before .before .before .args .b))
 legal c = sym (c .before .is-lawful .ensures) ∙ not-false _ (c .if1 .left)
 
 -- the symbols fit their array
@@ -22,11 +24,16 @@ room c = omega (arith, c .before .word-length .ensures, sizes _ (legal (c .befor
 is-lawful-requires : tie.Need-is-lawful-requires
 is-lawful-requires c κs = search needs
 
+shape-refusal-requires : tie.Need-shape-refusal-requires
+shape-refusal-requires c κs = search needs
+
 refused-requires : tie.Need-refused-requires
 refused-requires c κs = search needs
 
 returns : tie.Need-returns
-returns c = word-refused _ _ (word-shape _ _ (sym (c .before .before .is-lawful .ensures) ∙ not-true _ (c .before .if1 .taken))) (c .refused .ensures)
+returns c =
+    word-refused _ _ (word-shape _ _ (sym (c .before .before .before .is-lawful .ensures) ∙ not-true _ (c .before .before .if1 .taken)))
+    (c .refused .ensures ∙ ap (λ (e : Refusal). 2 ^ 31 + refusalNumber e) (c .before .shape-refusal .ensures))
 
 word-length-requires : tie.Need-word-length-requires
 word-length-requires c κs = legal c
@@ -64,6 +71,7 @@ shaftglimmer-read-word-spec =
     tie.close
     (tie.spec
     is-lawful-requires
+    shape-refusal-requires
     refused-requires
     returns
     word-length-requires

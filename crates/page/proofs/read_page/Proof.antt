@@ -1,7 +1,8 @@
 -- `page::read_page` meets its contract.
 use borrow.Author.Needs.{needs}
+use Rattle.page.specs.declared.PageRead.the-variants.{Refused}
 use borrow.Author.Tests.{eq-eqb, ne-eqb, not-true, not-false}
-use mathlib.Core.Path.{sym, _∙_}
+use mathlib.Core.Path.{sym, _∙_, ap}
 use Rattle.gtb.proofs.Bounds.{bounds}
 use Rattle.gtb.proofs.Answers.{answered}
 use Rattle.page.specs.Page.{readNumber, pageOf}
@@ -12,9 +13,12 @@ use Rattle.page.proofs.read_page.Tie as tie
 is-lawful-requires : tie.Need-is-lawful-requires
 is-lawful-requires c κs = search needs
 
+shape-refusal-requires : tie.Need-shape-refusal-requires
+shape-refusal-requires c κs = search needs
+
 returns : tie.Need-returns
 unfolding pageOf
-returns c = answered readNumber (rw (sym (c .before .is-lawful .ensures) ∙ not-true _ (c .if1 .taken)))
+returns c = answered readNumber (rw (sym (c .before .before .is-lawful .ensures) ∙ not-true _ (c .before .if1 .taken)) (ap Refused (c .shape-refusal .ensures)))
 
 info-length-requires : tie.Need-info-length-requires
 info-length-requires c κs = sym (c .before .is-lawful .ensures) ∙ not-false _ (c .if1 .left)
@@ -55,6 +59,7 @@ read-page-spec =
     tie.close
     (tie.spec
     is-lawful-requires
+    shape-refusal-requires
     returns
     info-length-requires
     returns-2

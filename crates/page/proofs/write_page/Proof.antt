@@ -1,7 +1,8 @@
 -- `page::write_page` meets its contract.
 use borrow.Author.Needs.{needs}
+use Rattle.gtb.specs.declared.Status.the-variants.{Refused}
 use borrow.Author.Tests.{ne-eqb, not-true, not-false}
-use mathlib.Core.Path.{refl, sym, _∙_}
+use mathlib.Core.Path.{refl, sym, _∙_, ap}
 use Rattle.page.specs.Page.{writeStatus}
 use Rattle.page.proofs.Pages.{writing, sized, writable}
 use Rattle.page.proofs.write_page.Statement.{statement}
@@ -10,9 +11,12 @@ use Rattle.page.proofs.write_page.Tie as tie
 is-lawful-requires : tie.Need-is-lawful-requires
 is-lawful-requires c κs = search needs
 
+shape-refusal-requires : tie.Need-shape-refusal-requires
+shape-refusal-requires c κs = search needs
+
 returns : tie.Need-returns
 unfolding writeStatus
-returns c = writing (rw (sym (c .before .is-lawful .ensures) ∙ not-true _ (c .if1 .taken))) refl
+returns c = writing (rw (sym (c .before .before .is-lawful .ensures) ∙ not-true _ (c .before .if1 .taken)) (ap Refused (c .shape-refusal .ensures))) refl
 
 info-length-requires : tie.Need-info-length-requires
 info-length-requires c κs = sym (c .before .is-lawful .ensures) ∙ not-false _ (c .if1 .left)
@@ -67,6 +71,7 @@ write-page-spec =
     tie.close
     (tie.spec
     is-lawful-requires
+    shape-refusal-requires
     returns
     info-length-requires
     returns-2

@@ -26,7 +26,7 @@ rem-result : tie.Need-rem-result
 rem-result c = positive _ (c .before .before .pre .0)
 
 slope-requires : tie.Need-slope-requires
-slope-requires c κs = search needs
+slope-requires c κs = let a = c .before .before in omega (arith, bounds _ (a .pre .0) .n8, a .pre .1, c .if1 .left)
 
 -- slope × row, and what is added to it
 module _ (c : tie.After-slope) where

@@ -29,7 +29,7 @@ loop-holds c =
     (omega arith, omega arith, shifts-none _ _)
 
 slope-requires : tie.Need-slope-requires Inv-loop μ-loop
-slope-requires c κs = search needs
+slope-requires c κs = omega (arith, bounds _ (c .before .before .before .before .pre .0) .n8, c .before .loop .inv .0, c .loop-test .taken)
 
 -- slope × row fits
 offset : (c : tie.After-slope Inv-loop μ-loop) → c .slope .result * c .before .before .before .before .before .args .row ≤ 961

@@ -5,6 +5,7 @@ use native.Mathlib.Numerals.{add-one}
 use native.Mathlib.Omega.{arith}
 use borrow.Author.Needs.{needs}
 use Rattle.gtb.specs.Shape.{slopeOf}
+use Rattle.gtb.proofs.Bounds.{bounds}
 use Rattle.gtb.proofs.Slopes.{slope-lt}
 use Rattle.gtb.specs.Rows.{shiftOf}
 use Rattle.encoder.proofs.interpolation.shift.Statement.{statement}
@@ -17,7 +18,7 @@ add-slope : tie.Need-add-slope
 add-slope c = search needs
 
 slope-requires : tie.Need-slope-requires
-slope-requires c κs = search needs
+slope-requires c κs = omega (arith, bounds _ (c .before .pre .0) .n8, c .before .pre .1)
 
 sub-result : tie.Need-sub-result
 sub-result c =

@@ -38,7 +38,7 @@ mul-sweep c =
     omega (arith, direction-room _ (k .pre .0) _ (c .before .loop-test .taken))
 
 slope-requires : tie.Need-slope-requires Inv-loop μ-loop
-slope-requires c κs = search needs
+slope-requires c κs = let k = c .before .before .before .before .before .before .before .before in omega (arith, bounds _ (k .pre .0) .n8, c .before .before .loop .inv .0, c .before .loop-test .taken)
 
 sub-sweep : tie.Need-sub-sweep Inv-loop μ-loop
 sub-sweep c =

@@ -1,17 +1,17 @@
 -- `harness::crossing::load` meets its contract.
+use mathlib.Core.Path.{sym}
+use native.Mathlib.Omega.{arith}
+use lib.Seq.{length-take-le}
 use borrow.Author.Needs.{needs}
 use Rattle.harness.proofs.Crossings.{loaded}
 use Rattle.harness.proofs.crossing.load.Statement.{statement}
 use Rattle.harness.proofs.crossing.load.Tie as tie
 
-shared-slice-read-t4 : tie.Need-shared-slice-read-t4
-shared-slice-read-t4 c = search needs
+slice-aggregate-load-shape : tie.Need-slice-aggregate-load-shape
+slice-aggregate-load-shape c = sym (length-take-le 10 (c .before .before .args .values .now) (omega arith))
 
-shared-slice-read-t6 : tie.Need-shared-slice-read-t6
-shared-slice-read-t6 c = search needs
-
-shared-slice-read-t8 : tie.Need-shared-slice-read-t8
-shared-slice-read-t8 c = search needs
+load-shape-requires : tie.Need-load-shape-requires
+load-shape-requires c κs = length-take-le 10 (c .before .before .args .values .now) (omega arith)
 
 sub-load-taken : tie.Need-sub-load-taken
 sub-load-taken c = search needs
@@ -38,15 +38,14 @@ load-calls-requires : tie.Need-load-calls-requires
 load-calls-requires c κs = search needs
 
 returns : tie.Need-returns
-returns c = loaded (c .before .before .before .before .before .before .before .before .args .values .now) (c .before .before .load-taken .ensures) (c .load-calls .ensures)
+returns c = loaded (c .before .before .before .before .before .before .before .args .values .now) (c .before .before .before .before .load-shape .ensures) (c .before .before .load-taken .ensures) (c .load-calls .ensures)
 
 pub load-spec : {M : Type 1} → statement M
 load-spec =
     tie.close
     (tie.spec
-    shared-slice-read-t4
-    shared-slice-read-t6
-    shared-slice-read-t8
+    slice-aggregate-load-shape
+    load-shape-requires
     sub-load-taken
     part-load-taken-start
     part-load-taken-end

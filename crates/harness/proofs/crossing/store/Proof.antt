@@ -1,8 +1,7 @@
 -- `harness::crossing::store` meets its contract: the counts fill what the shape and the marks leave.
-use mathlib.Core.Path.{sym, ap, _∙_}
+use mathlib.Core.Path.{sym, _∙_}
 use native.Mathlib.Nat.{le-of-eq}
 use native.Mathlib.Omega.{arith}
-use lib.ListN.{length}
 use lib.Seq.{length-take-le}
 use borrow.Author.Needs.{needs}
 use Rattle.session.proofs.Arrays.{counts}
@@ -10,14 +9,14 @@ use Rattle.harness.proofs.Crossings.{counts-room, stored}
 use Rattle.harness.proofs.crossing.store.Statement.{statement}
 use Rattle.harness.proofs.crossing.store.Tie as tie
 
-slice-relend-prefix-put-three : tie.Need-slice-relend-prefix-put-three
-slice-relend-prefix-put-three c = search needs
+slice-relend-prefix-store-shape : tie.Need-slice-relend-prefix-store-shape
+slice-relend-prefix-store-shape c = search needs
 
-slice-aggregate-put-three : tie.Need-slice-aggregate-put-three
-slice-aggregate-put-three c = sym (length-take-le 3 (c .before .before .before .before .before .args .values .now) (omega arith))
+slice-aggregate-store-shape : tie.Need-slice-aggregate-store-shape
+slice-aggregate-store-shape c = sym (length-take-le 10 (c .before .before .before .before .before .args .values .now) (omega arith))
 
-put-three-requires : tie.Need-put-three-requires
-put-three-requires c κs = length-take-le 3 (c .before .before .before .before .before .args .values .now) (omega arith)
+store-shape-requires : tie.Need-store-shape-requires
+store-shape-requires c κs = length-take-le 10 (c .before .before .before .before .before .args .values .now) (omega arith)
 
 sub-store-taken : tie.Need-sub-store-taken
 sub-store-taken c = search needs
@@ -46,11 +45,11 @@ part-copy-end c = search needs
 copy-requires : tie.Need-copy-requires
 copy-requires c κs =
     let start = c .before .before .before .before .before .before .before .before .before .before .before .before .before .before in
-    let head = c .before .before .before .before .before .before .before .before .put-three in
+    let head = c .before .before .before .before .before .before .before .before .store-shape in
     let marks = c .before .before .before .before .store-taken in
     le-of-eq
     (counts (start .args .session .calls) _ (start .good .0 .1 .1 .1 .1 .0) .size
-    ∙ sym (counts-room (start .args .values .now) (head .last .0) (marks .last .1 .0) (start .pre) (ap length (head .ensures)) (marks .kept .1 .0)))
+    ∙ sym (counts-room (start .args .values .now) (head .last .1 .0) (marks .last .1 .0) (start .pre) (head .kept .1 .0 ∙ length-take-le 10 (start .args .values .now) (omega arith)) (marks .kept .1 .0)))
 
 same-length : tie.Need-same-length
 same-length c = search needs
@@ -58,18 +57,18 @@ same-length c = search needs
 returns : tie.Need-returns
 returns c =
     let start = c .before .before .before .before .before .before .before .before .before .before .before .before .before .before .before .before .before in
-    let head = c .before .before .before .before .before .before .before .before .before .before .before .put-three .ensures in
+    let head = c .before .before .before .before .before .before .before .before .before .before .before .store-shape in
     let marks = c .before .before .before .before .before .before .before .store-taken in
-    stored (start .args .values .now) _ _ (start .pre) (ap length head) (marks .kept .1 .0) (start .args .session) head (marks .ensures)
+    stored (start .args .values .now) _ _ (start .pre) (head .kept .1 .0 ∙ length-take-le 10 (start .args .values .now) (omega arith)) (marks .kept .1 .0) (start .args .session) (head .ensures) (marks .ensures)
     (counts (start .args .session .calls) _ (start .good .0 .1 .1 .1 .1 .0) .size) (c .before .before .copy .ensures)
 
 pub store-spec : {M : Type 1} → statement M
 store-spec =
     tie.close
     (tie.spec
-    slice-relend-prefix-put-three
-    slice-aggregate-put-three
-    put-three-requires
+    slice-relend-prefix-store-shape
+    slice-aggregate-store-shape
+    store-shape-requires
     sub-store-taken
     part-store-taken-start
     part-store-taken-end

@@ -1,13 +1,15 @@
--- `session::Session::arrive` meets its contract: tests 1 and 2 turn down as they do in what is opened, and past them the two arrays have room.
-use mathlib.Core.Path.{sym, _∙_}
+-- `session::Session::arrive` meets its contract: tests 1, 18 and 2 turn down as they do in what is opened, and past them the two arrays have room.
+use mathlib.Core.Path.{sym, ap, _∙_}
 use Prim.Native.Nat.{_≤_}
 use native.Mathlib.Omega.{arith}
 use lib.Seq.{length-take-le}
 use borrow.Author.Needs.{needs}
 use borrow.Author.Tests.{not-true, not-false}
 use Rattle.gtb.specs.Shape.{Lawful}
+use Rattle.gtb.proofs.Answers.{shape-scratch}
 use Rattle.gtb.proofs.Sizes.{sizes}
-use Rattle.session.proofs.Arrive.{opened-shape, opened-word, opened-scratch, shape-scratch, length-scratch, arriving-bad}
+use Rattle.session.specs.Arrival.{Bad}
+use Rattle.session.proofs.Arrive.{opened-shape, opened-word, opened-scratch, length-scratch, arriving-bad}
 use Rattle.session.proofs.Session.arrive.Statement.{statement}
 use Rattle.session.proofs.Session.arrive.Tie as tie
 
@@ -29,12 +31,17 @@ info-room c = omega (arith, c .info-length .ensures, sizes _ (legal (measuring c
 is-lawful-requires : tie.Need-is-lawful-requires
 is-lawful-requires c κs = search needs
 
+shape-refusal-requires : tie.Need-shape-refusal-requires
+shape-refusal-requires c κs = search needs
+
 refused-requires : tie.Need-refused-requires
 refused-requires c κs = search needs
 
 returns : tie.Need-returns
 returns c =
-    arriving-bad (opened-shape _ _ _ (sym (c .before .before .is-lawful .ensures) ∙ not-true _ (c .before .if1 .taken))) shape-scratch (c .refused .ensures)
+    let by = c .before .shape-refusal .ensures in
+    arriving-bad (opened-shape _ _ _ (sym (c .before .before .before .is-lawful .ensures) ∙ not-true _ (c .before .before .if1 .taken)) ∙ ap Bad (sym by))
+    (rw by (shape-scratch _ _)) (c .refused .ensures)
 
 word-length-requires : tie.Need-word-length-requires
 word-length-requires c κs = legal c
@@ -102,6 +109,7 @@ arrive-spec =
     tie.close
     (tie.spec
     is-lawful-requires
+    shape-refusal-requires
     refused-requires
     returns
     word-length-requires

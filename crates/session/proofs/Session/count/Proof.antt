@@ -1,11 +1,12 @@
 -- `session::Session::count` meets its contract: each answer follows from the tests passed.
-use mathlib.Core.Path.{sym, _∙_}
+use mathlib.Core.Path.{sym, ap, _∙_}
 use Prim.Native.Nat.{ℕ}
 use native.Mathlib.Omega.{arith}
 use borrow.Author.Needs.{needs}
 use borrow.Author.Tests.{not-true, not-false, lt-ltb, le-ltb}
 use Rattle.gtb.specs.Shape.{Lawful}
 use Rattle.gtb.proofs.Answers.{answered}
+use Rattle.session.specs.declared.Counted.the-variants.{Refused}
 use Rattle.session.specs.Session.{countedOf, countedNumber}
 use Rattle.session.proofs.Session.count.Statement.{statement}
 use Rattle.session.proofs.Session.count.Tie as tie
@@ -21,9 +22,12 @@ asked c = c .before .before .before .args .function
 is-lawful-requires : tie.Need-is-lawful-requires
 is-lawful-requires c κs = search needs
 
+shape-refusal-requires : tie.Need-shape-refusal-requires
+shape-refusal-requires c κs = search needs
+
 returns : tie.Need-returns
 unfolding countedOf
-returns c = answered countedNumber (rw (sym (c .before .is-lawful .ensures) ∙ not-true _ (c .if1 .taken)))
+returns c = answered countedNumber (rw (sym (c .before .before .is-lawful .ensures) ∙ not-true _ (c .before .if1 .taken)) (ap Refused (c .shape-refusal .ensures)))
 
 returns-2 : tie.Need-returns-2
 unfolding countedOf
@@ -41,4 +45,4 @@ returns-3 c = answered countedNumber (rw (legal (c .before .before), lt-ltb (ask
 
 pub count-spec : {M : Type 1} → statement M
 count-spec =
-    tie.close (tie.spec is-lawful-requires returns returns-2 mul-t10 array-read-t13 returns-3)
+    tie.close (tie.spec is-lawful-requires shape-refusal-requires returns returns-2 mul-t10 array-read-t13 returns-3)

@@ -2,6 +2,7 @@
 use mathlib.Core.Path.{_≡_, refl, sym, ap, _∙_}
 use borrow.Author.Needs.{needs}
 use Rattle.gtb.specs.declared.Shape.{Shape}
+use Rattle.gtb.specs.declared.Status.the-variants.{Refused}
 use Rattle.gtb.specs.Answer.{statusNumber}
 use Rattle.session.specs.declared.Fresh.{Fresh}
 use Rattle.session.specs.Session.{freshOf, freshStatus, Beginning}
@@ -19,9 +20,12 @@ returns : tie.Need-returns
 unfolding freshOf freshStatus
 returns c = beginning refl (rw (sym (c .before .is-lawful .ensures) ∙ c .if1 .taken))
 
+shape-refusal-requires : tie.Need-shape-refusal-requires
+shape-refusal-requires c κs = search needs
+
 returns-2 : tie.Need-returns-2
 unfolding freshOf freshStatus
-returns-2 c = beginning refl (rw (sym (c .before .is-lawful .ensures) ∙ c .if1 .left))
+returns-2 c = beginning refl (rw (sym (c .before .before .is-lawful .ensures) ∙ c .before .if1 .left) (ap Refused (c .shape-refusal .ensures)))
 
 pub fresh-spec : {M : Type 1} → statement M
-fresh-spec = tie.close (tie.spec is-lawful-requires returns returns-2)
+fresh-spec = tie.close (tie.spec is-lawful-requires returns shape-refusal-requires returns-2)

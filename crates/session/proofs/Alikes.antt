@@ -1,0 +1,130 @@
+-- Sessions look at the first n - 1 slopes of their shape alone: two runs that differ in the others have the same answers, marks and counts.
+use mathlib.Core.Path.{_≡_, refl, sym, ap, _∙_}
+use mathlib.Core.Bool.{_&&_}
+use mathlib.Core.List.{List, []}
+use Prim.Native.Nat.{ℕ}
+use lib.Dec.{eqb, ltb}
+use lib.ListN.{length, getD}
+use Rattle.gtb.specs.declared.Shape.{Shape}
+use Rattle.gtb.specs.declared.Refusal.{Refusal}
+use Rattle.gtb.specs.declared.Status.the-variants as status
+use Rattle.gtb.specs.Shape.{wordLength, scratchLength}
+use Rattle.gtb.specs.Positions.{extractOf}
+use Rattle.gtb.specs.Answer.{unless}
+use Rattle.gtb.specs.Alike.{reslope, Alike}
+use Rattle.gtb.proofs.Alikes.{lawful-alike, refusal-alike, extract-alike}
+use Rattle.correction.specs.declared.Decoded.{Decoded}
+use Rattle.correction.specs.declared.Decoded.the-variants as decoded
+use Rattle.decoder.specs.Decode.{decodeOf, restored}
+use Rattle.decoder.proofs.Alikes.{decode-alike, restored-alike}
+use Rattle.page.specs.declared.PageRead.{PageRead}
+use Rattle.page.specs.declared.PageRead.the-variants as page
+use Rattle.page.specs.Page.{pageOf}
+use Rattle.page.proofs.Alikes.{page-alike, marks-alike}
+use Rattle.session.specs.declared.Session.{Session}
+use Rattle.session.specs.declared.Outcome.{Outcome}
+use Rattle.session.specs.declared.Outcome.the-variants.{Taken, Again, Refused}
+use Rattle.session.specs.declared.Arrived.{Arrived}
+use Rattle.session.specs.declared.Counted.the-variants as counted
+use Rattle.session.specs.Session.{freshOf, freshStatus, countedOf, recorded}
+use Rattle.session.specs.Arrival.{clean, Opened, Page, Bad, openPage, openWord, opened, outcomeOf, outcomeValues, sessionBy, sessionAfter, wordAfter, Arriving}
+use Rattle.session.specs.Recording.{Arrival}
+use Rattle.session.specs.Claim.{Run, stop, step}
+
+-- the session with other slopes
+abbrev pub resloped : Session → List ℕ → Session
+resloped σ slopes = record { shape = reslope (σ .shape) slopes; taken = σ .taken; calls = σ .calls }
+
+module _ (s : Shape) (slopes : List ℕ) (alike : Alike s slopes) where
+  page-opens : (symbols : List ℕ) (k : ℕ) (r : PageRead) → openPage (reslope s slopes) symbols k r ≡ openPage s symbols k r
+  page-opens symbols k (page.Page number c) = ap (λ (marks : List ℕ). Page number marks k) (marks-alike s slopes alike symbols)
+  page-opens symbols k (page.Refused e) = refl
+
+  word-opens : (v : List ℕ) (r : Decoded) → openWord (reslope s slopes) v r ≡ openWord s v r
+  word-opens v (decoded.Corrected k) =
+      ap (λ (symbols : List ℕ). openPage (reslope s slopes) symbols k (pageOf (reslope s slopes) symbols)) (extract-alike s slopes alike v)
+      ∙ page-opens (extractOf s v) k (pageOf (reslope s slopes) (extractOf s v))
+      ∙ ap (openPage s (extractOf s v) k) (page-alike s slopes alike (extractOf s v))
+  word-opens v (decoded.Refused e) = refl
+
+  -- the same is opened
+  pub opened-alike : (word scratch : List ℕ) → opened clean (reslope s slopes) word scratch ≡ opened clean s word scratch
+  unfolding opened scratchLength
+  opened-alike word scratch = λ i.
+      unless (lawful-alike s slopes alike i) (Bad (refusal-alike s slopes alike i))
+      (unless (eqb (length word) (wordLength s) && eqb (length scratch) (scratchLength s)) (Bad Refusal.Length) (reads i))
+    where
+      reads : openWord (reslope s slopes) (restored (reslope s slopes) word) (decodeOf (reslope s slopes) word) ≡ openWord s (restored s word) (decodeOf s word)
+      reads =
+          word-opens (restored (reslope s slopes) word) (decodeOf (reslope s slopes) word)
+          ∙ ap (λ (v : List ℕ). openWord s v (decodeOf (reslope s slopes) word)) (restored-alike s slopes alike word)
+          ∙ ap (openWord s (restored s word)) (decode-alike s slopes alike word)
+
+module _ (σ : Session) (slopes : List ℕ) where
+  -- what decides is beside the shape
+  outcome-alike : (o : Opened) → outcomeOf (resloped σ slopes) o ≡ outcomeOf σ o
+  unfolding outcomeOf
+  outcome-alike (Page number marks k) = refl
+  outcome-alike (Bad e) = refl
+
+  session-by : (o : Opened) (r : Outcome) → resloped (sessionBy σ o r) slopes ≡ sessionBy (resloped σ slopes) o r
+  unfolding recorded
+  session-by (Page number marks k) (Taken p c) = refl
+  session-by (Page number marks k) (Again p c) = refl
+  session-by (Page number marks k) (Refused e) = refl
+  session-by (Bad e′) r = refl
+
+  session-alike : (o : Opened) → resloped (sessionAfter σ o) slopes ≡ sessionAfter (resloped σ slopes) o
+  unfolding sessionAfter
+  session-alike o = session-by o (outcomeOf σ o) ∙ ap (sessionBy (resloped σ slopes) o) (sym (outcome-alike o))
+
+  shape-by : (o : Opened) (r : Outcome) → sessionBy σ o r .shape ≡ σ .shape
+  unfolding recorded
+  shape-by (Page number marks k) (Taken p c) = refl
+  shape-by (Page number marks k) (Again p c) = refl
+  shape-by (Page number marks k) (Refused e) = refl
+  shape-by (Bad e′) r = refl
+
+-- an arrival leaves the shape
+pub shape-kept : (σ : Session) (o : Opened) → sessionAfter σ o .shape ≡ σ .shape
+unfolding sessionAfter
+shape-kept σ o = shape-by σ [] o (outcomeOf σ o)
+
+-- one arrival
+arriving-alike : {σ : Session} {word scratch word′ scratch′ : List ℕ} {r : Arrived} (slopes : List ℕ) → Alike (σ .shape) slopes
+    → Arriving clean σ word scratch word′ scratch′ r
+    → Arriving clean (resloped σ slopes) word scratch word′ scratch′ (record { session = resloped (r .session) slopes; outcome = r .outcome })
+arriving-alike {σ} {word} {scratch} {word′} {scratch′} {r} slopes alike a =
+    let o : Opened = opened clean (σ .shape) word scratch in
+    let same : opened clean (reslope (σ .shape) slopes) word scratch ≡ o = opened-alike (σ .shape) slopes alike word scratch in
+    let answer : r .outcome ≡ outcomeOf (resloped σ slopes) (opened clean (reslope (σ .shape) slopes) word scratch) =
+    a .outcome ∙ sym (outcome-alike σ slopes o) ∙ ap (outcomeOf (resloped σ slopes)) (sym same) in
+    record {
+      outcome = answer;
+      values = ap outcomeValues answer;
+      session = ap (λ (τ : Session). resloped τ slopes) (a .session) ∙ session-alike σ slopes o ∙ ap (sessionAfter (resloped σ slopes)) (sym same);
+      wordLeft = a .wordLeft ∙ ap (λ (v : List ℕ). wordAfter word v (r .outcome)) (sym (restored-alike (σ .shape) slopes alike word));
+      scratchLeft = a .scratchLeft;
+    }
+
+-- a whole run: the same answers, marks and counts
+pub run-alike : {σ end : Session} {arrivals : List Arrival} {answers : List Outcome} (slopes : List ℕ) → Alike (σ .shape) slopes
+    → Run clean σ arrivals answers end → Run clean (resloped σ slopes) arrivals answers (resloped end slopes)
+run-alike slopes alike stop = stop
+run-alike slopes alike (step {σ = σ} {r = r} a rest) =
+    step (arriving-alike slopes alike a) (run-alike slopes (record { same = rw (ap (λ (τ : Session). τ .shape) (a .session) ∙ shape-kept σ _) (alike .same) }) rest)
+
+-- a fresh session and a count query
+pub fresh-alike : (s : Shape) (slopes : List ℕ) → freshOf (reslope s slopes) ≡ resloped (freshOf s) slopes
+unfolding freshOf
+fresh-alike s slopes = refl
+
+pub status-alike : (s : Shape) (slopes : List ℕ) → Alike s slopes → freshStatus (reslope s slopes) ≡ freshStatus s
+unfolding freshStatus
+status-alike s slopes alike = λ i. unless (lawful-alike s slopes alike i) (status.Refused (refusal-alike s slopes alike i)) status.Done
+
+pub count-alike : (σ : Session) (slopes : List ℕ) → Alike (σ .shape) slopes → (f : ℕ) → countedOf (resloped σ slopes) f ≡ countedOf σ f
+unfolding countedOf
+count-alike σ slopes alike f = λ i.
+    unless (lawful-alike (σ .shape) slopes alike i) (counted.Refused (refusal-alike (σ .shape) slopes alike i))
+    (unless (ltb f 256) (counted.Refused Refusal.Function) (counted.Calls (getD (σ .calls) f 0)))
