@@ -9,8 +9,11 @@ mod words;
 pub fn run() {
     println!("Times and ratios are medians of {} rounds; all three take turns on the same words.", contest::ROUNDS);
     println!("Ours / other below 1 means that the library is faster.");
-    println!("All three test shape, length and width, and clear the lent scratch where they are lent one.");
-    println!("In an arrival the session crosses as 1,283 numbers and is written back after taken, for all three.");
+    println!("All three test shape, slopes, length and width, and clear the lent scratch where they are lent one.");
+    println!(
+        "The slopes are the standard ones; the library goes by those of the shape, the other two know only these."
+    );
+    println!("In an arrival the session crosses as 1,290 numbers and is written back after taken, for all three.");
     println!();
     let mut missed = words::table();
     println!();

@@ -3,7 +3,7 @@
 use crate::reference::page::{read_page, write_page};
 use crate::reference::reader::decode;
 use crate::reference::session::{Session, SESSION_LEN};
-use crate::reference::shape::{Refusal, Shape};
+use crate::reference::shape::{Refusal, Shape, SHAPE_LEN};
 use crate::reference::writer::{encode, extract};
 
 #[derive(Clone, Copy, Debug, PartialEq, Eq)]
@@ -35,6 +35,21 @@ impl Entry {
             Entry::Arrive => &["session", "word", "scratch", "outcome"],
         }
     }
+
+    /// Those whose shape is in the session.
+    pub fn takes_session(self) -> bool {
+        matches!(self, Entry::Count | Entry::Arrive)
+    }
+
+    /// Those of the host pair, which has three numbers for a shape and the standard slopes.
+    pub fn is_of_host(self) -> bool {
+        matches!(self, Entry::HostReadWord | Entry::HostReadPage)
+    }
+
+    /// Those that are lent their shape as a slice.
+    pub fn takes_shape(self) -> bool {
+        !self.takes_session() && !self.is_of_host()
+    }
 }
 
 /// An entry with its arguments. The shape of `Count` and `Arrive` is in the session; `number` is the
@@ -43,6 +58,8 @@ impl Entry {
 pub struct Call {
     pub entry: Entry,
     pub shape: Shape,
+    /// What is lent in place of the shape's own values, if anything is: a slice of any length.
+    pub lent_shape: Option<Vec<u32>>,
     pub number: u32,
     pub slices: Vec<Vec<u32>>,
 }
@@ -74,25 +91,38 @@ impl Call {
     }
 
     pub fn numbered(entry: Entry, shape: Shape, number: u32, slices: &[&[u32]]) -> Call {
-        Call { entry, shape, number, slices: slices.iter().map(|slice| slice.to_vec()).collect() }
+        let slices = slices.iter().map(|slice| slice.to_vec()).collect();
+        Call { entry, shape, lent_shape: None, number, slices }
+    }
+
+    /// The slice that the shape crosses as.
+    pub fn shape_values(&self) -> Vec<u32> {
+        self.lent_shape.clone().unwrap_or_else(|| self.shape.values().to_vec())
     }
 
     pub fn on_reference(&self) -> After {
+        let values = self.shape_values();
+        if self.entry.takes_shape() && values.len() != SHAPE_LEN {
+            return After { answer: answer_of(Err(Refusal::Length)), slices: self.slices.clone() };
+        }
+        self.of_shape(Shape::from_values(&values))
+    }
+
+    /// The reference's answer for this shape.
+    fn of_shape(&self, shape: Shape) -> After {
         let mut slices = self.slices.clone();
         let answer = match (self.entry, &mut slices[..]) {
-            (Entry::Encode, [data, scratch, word]) => answer_of(encode(self.shape, data, scratch, word).map(|()| 0)),
-            (Entry::Extract, [word, scratch, data]) => answer_of(extract(self.shape, word, scratch, data).map(|()| 0)),
-            (Entry::Decode, [word]) => answer_of(decode(self.shape, word)),
-            (Entry::ReadPage, [data]) => answer_of(page_answer(self.shape, data)),
-            (Entry::Marks, [data, marks]) => answer_of(marks_part(self.shape, data, marks)),
-            (Entry::WritePage, [marks, data]) => {
-                answer_of(write_page(self.shape, self.number, marks, data).map(|()| 0))
-            }
-            (Entry::Fresh, [session]) => answer_of(fresh(self.shape, session)),
+            (Entry::Encode, [data, scratch, word]) => answer_of(encode(shape, data, scratch, word).map(|()| 0)),
+            (Entry::Extract, [word, scratch, data]) => answer_of(extract(shape, word, scratch, data).map(|()| 0)),
+            (Entry::Decode, [word]) => answer_of(decode(shape, word)),
+            (Entry::ReadPage, [data]) => answer_of(page_answer(shape, data)),
+            (Entry::Marks, [data, marks]) => answer_of(marks_part(shape, data, marks)),
+            (Entry::WritePage, [marks, data]) => answer_of(write_page(shape, self.number, marks, data).map(|()| 0)),
+            (Entry::Fresh, [session]) => answer_of(fresh(shape, session)),
             (Entry::Count, [session]) => count(session, self.number),
             (Entry::Arrive, [session, word, scratch, outcome]) => answer_of(arrive(session, word, scratch, outcome)),
-            (Entry::HostReadWord, [bytes]) => answer_of(host_read_word(self.shape, bytes)),
-            (Entry::HostReadPage, [bytes]) => answer_of(host_read_page(self.shape, bytes)),
+            (Entry::HostReadWord, [bytes]) => answer_of(host_read_word(shape.standard(), bytes)),
+            (Entry::HostReadPage, [bytes]) => answer_of(host_read_page(shape.standard(), bytes)),
             _ => panic!("wrong number of slices for {:?}", self.entry),
         };
         After { answer, slices }
@@ -113,11 +143,13 @@ fn marks_part(shape: Shape, data: &[u32], marks: &mut [u32]) -> Result<u32, Refu
     Ok(count as u32)
 }
 
+/// The shape is tested before the slice's length.
 fn fresh(shape: Shape, session: &mut [u32]) -> Result<u32, Refusal> {
+    let fresh = Session::fresh(shape)?;
     if session.len() != SESSION_LEN {
         return Err(Refusal::Length);
     }
-    session.copy_from_slice(&Session::fresh(shape)?.values());
+    session.copy_from_slice(&fresh.values());
     Ok(0)
 }
 
@@ -171,8 +203,8 @@ pub fn difference(entry: Entry, expected: &After, found: &After) -> Option<Strin
 
 fn shown(answer: u64) -> String {
     match answer {
-        0x8000_0001..=0x8000_000a => format!("refusal {}", answer - (1 << 31)),
-        0x1_0000_0001..=0x1_0000_000a => format!("refusal {}", answer - (1 << 32)),
+        0x8000_0001..=0x8000_0012 => format!("refusal {}", answer - (1 << 31)),
+        0x1_0000_0001..=0x1_0000_0012 => format!("refusal {}", answer - (1 << 32)),
         _ => answer.to_string(),
     }
 }

@@ -91,9 +91,12 @@ fn around_a_position(shape: Shape, count: usize, random: &mut Random) -> Vec<usi
     (0..count.min(shape.n as usize)).map(neighbour).collect()
 }
 
-/// Up to `weight` positions on a line of slope n - 1: that is no direction, so no two share a check.
+/// Up to `weight` positions on a line whose slope is no direction's, so that no two share a check.
+/// There is such a slope: q of them are below q, and at most q - 1 are taken.
 fn crossing_no_check_twice(shape: Shape, weight: usize, random: &mut Random) -> Error {
-    let (q, slope) = (shape.q as usize, shape.n as usize - 1);
+    let q = shape.q as usize;
+    let free: Vec<usize> = (0..q).filter(|&slope| !shape.own_slopes().contains(&(slope as u32))).collect();
+    let slope = random.pick(&free);
     let line = random.below(q);
     let on_line = |row: usize| row * q + (line + (q - slope) * row) % q;
     let rows = random.positions(weight, q);

@@ -1,7 +1,8 @@
 //! The proved libraries' exported functions, declared once, and safe wrappers over them.
 //!
-//! A slice crosses as a pointer and a length in elements. No function has a precondition: each
-//! answers every input, so a wrapper has nothing to test.
+//! A slice crosses as a pointer and a length in elements; to the harness a shape is one too, to the
+//! host it is three numbers. No function has a precondition: each answers every input, so a wrapper
+//! has nothing to test.
 
 use crate::reference::shape::Shape;
 
@@ -9,9 +10,8 @@ extern "C" {
     fn shaftglimmer_read_word(q: u32, n: u32, b: u32, word: *mut u8, len: usize) -> u32;
     fn shaftglimmer_read_page(q: u32, n: u32, b: u32, data: *const u8, len: usize) -> u32;
     fn harness_encode(
-        q: u32,
-        n: u32,
-        b: u32,
+        shape: *const u32,
+        shape_len: usize,
         data: *const u32,
         data_len: usize,
         scratch: *mut u32,
@@ -20,9 +20,8 @@ extern "C" {
         word_len: usize,
     ) -> u32;
     fn harness_extract(
-        q: u32,
-        n: u32,
-        b: u32,
+        shape: *const u32,
+        shape_len: usize,
         word: *const u32,
         word_len: usize,
         scratch: *mut u32,
@@ -30,28 +29,26 @@ extern "C" {
         data: *mut u32,
         data_len: usize,
     ) -> u32;
-    fn harness_decode(q: u32, n: u32, b: u32, word: *mut u32, word_len: usize) -> u32;
-    fn harness_read_page(q: u32, n: u32, b: u32, data: *const u32, data_len: usize) -> u32;
+    fn harness_decode(shape: *const u32, shape_len: usize, word: *mut u32, word_len: usize) -> u32;
+    fn harness_read_page(shape: *const u32, shape_len: usize, data: *const u32, data_len: usize) -> u32;
     fn harness_marks(
-        q: u32,
-        n: u32,
-        b: u32,
+        shape: *const u32,
+        shape_len: usize,
         data: *const u32,
         data_len: usize,
         marks: *mut u32,
         marks_len: usize,
     ) -> u32;
     fn harness_write_page(
-        q: u32,
-        n: u32,
-        b: u32,
+        shape: *const u32,
+        shape_len: usize,
         page: u32,
         marks: *const u32,
         marks_len: usize,
         data: *mut u32,
         data_len: usize,
     ) -> u32;
-    fn harness_fresh(q: u32, n: u32, b: u32, session: *mut u32, session_len: usize) -> u32;
+    fn harness_fresh(shape: *const u32, shape_len: usize, session: *mut u32, session_len: usize) -> u32;
     fn harness_count(session: *const u32, session_len: usize, function: u32) -> u64;
     fn harness_arrive(
         session: *mut u32,
@@ -76,12 +73,11 @@ pub fn host_read_page(shape: Shape, data: &[u8]) -> u32 {
     unsafe { shaftglimmer_read_page(shape.q, shape.n, shape.b, data.as_ptr(), data.len()) }
 }
 
-pub fn encode(shape: Shape, data: &[u32], scratch: &mut [u32], word: &mut [u32]) -> u32 {
+pub fn encode(shape: &[u32], data: &[u32], scratch: &mut [u32], word: &mut [u32]) -> u32 {
     unsafe {
         harness_encode(
-            shape.q,
-            shape.n,
-            shape.b,
+            shape.as_ptr(),
+            shape.len(),
             data.as_ptr(),
             data.len(),
             scratch.as_mut_ptr(),
@@ -92,12 +88,11 @@ pub fn encode(shape: Shape, data: &[u32], scratch: &mut [u32], word: &mut [u32])
     }
 }
 
-pub fn extract(shape: Shape, word: &[u32], scratch: &mut [u32], data: &mut [u32]) -> u32 {
+pub fn extract(shape: &[u32], word: &[u32], scratch: &mut [u32], data: &mut [u32]) -> u32 {
     unsafe {
         harness_extract(
-            shape.q,
-            shape.n,
-            shape.b,
+            shape.as_ptr(),
+            shape.len(),
             word.as_ptr(),
             word.len(),
             scratch.as_mut_ptr(),
@@ -108,26 +103,34 @@ pub fn extract(shape: Shape, word: &[u32], scratch: &mut [u32], data: &mut [u32]
     }
 }
 
-pub fn decode(shape: Shape, word: &mut [u32]) -> u32 {
-    unsafe { harness_decode(shape.q, shape.n, shape.b, word.as_mut_ptr(), word.len()) }
+pub fn decode(shape: &[u32], word: &mut [u32]) -> u32 {
+    unsafe { harness_decode(shape.as_ptr(), shape.len(), word.as_mut_ptr(), word.len()) }
 }
 
-pub fn read_page(shape: Shape, data: &[u32]) -> u32 {
-    unsafe { harness_read_page(shape.q, shape.n, shape.b, data.as_ptr(), data.len()) }
+pub fn read_page(shape: &[u32], data: &[u32]) -> u32 {
+    unsafe { harness_read_page(shape.as_ptr(), shape.len(), data.as_ptr(), data.len()) }
 }
 
-pub fn marks(shape: Shape, data: &[u32], marks: &mut [u32]) -> u32 {
-    unsafe { harness_marks(shape.q, shape.n, shape.b, data.as_ptr(), data.len(), marks.as_mut_ptr(), marks.len()) }
+pub fn marks(shape: &[u32], data: &[u32], marks: &mut [u32]) -> u32 {
+    unsafe { harness_marks(shape.as_ptr(), shape.len(), data.as_ptr(), data.len(), marks.as_mut_ptr(), marks.len()) }
 }
 
-pub fn write_page(shape: Shape, page: u32, marks: &[u32], data: &mut [u32]) -> u32 {
+pub fn write_page(shape: &[u32], page: u32, marks: &[u32], data: &mut [u32]) -> u32 {
     unsafe {
-        harness_write_page(shape.q, shape.n, shape.b, page, marks.as_ptr(), marks.len(), data.as_mut_ptr(), data.len())
+        harness_write_page(
+            shape.as_ptr(),
+            shape.len(),
+            page,
+            marks.as_ptr(),
+            marks.len(),
+            data.as_mut_ptr(),
+            data.len(),
+        )
     }
 }
 
-pub fn fresh(shape: Shape, session: &mut [u32]) -> u32 {
-    unsafe { harness_fresh(shape.q, shape.n, shape.b, session.as_mut_ptr(), session.len()) }
+pub fn fresh(shape: &[u32], session: &mut [u32]) -> u32 {
+    unsafe { harness_fresh(shape.as_ptr(), shape.len(), session.as_mut_ptr(), session.len()) }
 }
 
 pub fn count(session: &[u32], function: u32) -> u64 {

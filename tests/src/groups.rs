@@ -1,5 +1,6 @@
 //! The groups of tests.
 
+mod calls;
 #[cfg(not(feature = "reference-only"))]
 pub mod codec;
 mod faults;
@@ -10,6 +11,7 @@ pub mod reference;
 pub mod refusals;
 #[cfg(not(feature = "reference-only"))]
 pub mod sessions;
+pub mod slopes;
 pub mod stream;
 pub mod text;
 pub mod vectors;

@@ -6,7 +6,9 @@ use crate::shrink::{with_zeros, Case};
 
 impl Call {
     pub fn on_library(&self) -> After {
-        let shape = self.shape;
+        let host_shape = self.shape;
+        let mut lent_shape = Fenced::new(&self.shape_values());
+        let shape = &*lent_shape.lend();
         let mut slices: Vec<Fenced> = self.slices.iter().map(|slice| Fenced::new(slice)).collect();
         let answer: u64 = match (self.entry, &mut slices[..]) {
             (Entry::Encode, [data, scratch, word]) => {
@@ -24,10 +26,11 @@ impl Call {
             (Entry::Arrive, [session, word, scratch, outcome]) => {
                 ffi::arrive(session.lend(), word.lend(), scratch.lend(), outcome.lend()).into()
             }
-            (Entry::HostReadWord, [bytes]) => bytes.lend_bytes(|bytes| ffi::host_read_word(shape, bytes)).into(),
-            (Entry::HostReadPage, [bytes]) => bytes.lend_bytes(|bytes| ffi::host_read_page(shape, bytes)).into(),
+            (Entry::HostReadWord, [bytes]) => bytes.lend_bytes(|bytes| ffi::host_read_word(host_shape, bytes)).into(),
+            (Entry::HostReadPage, [bytes]) => bytes.lend_bytes(|bytes| ffi::host_read_page(host_shape, bytes)).into(),
             _ => panic!("wrong number of slices for {:?}", self.entry),
         };
+        assert!(lent_shape.take_back() == self.shape_values(), "the lent shape was written to");
         After { answer, slices: slices.into_iter().map(Fenced::take_back).collect() }
     }
 }
@@ -50,7 +53,8 @@ impl Case for Call {
     fn describe(&self) -> String {
         let slices = self.entry.slice_names().iter().zip(&self.slices);
         let slices: Vec<String> = slices.map(|(name, slice)| format!("{name} {}", brief(slice))).collect();
-        format!("{:?} {:?}, number {}, {}", self.entry, self.shape, self.number, slices.join(", "))
+        let shape = brief(&self.shape_values());
+        format!("{:?} of shape {shape}, number {}, {}", self.entry, self.number, slices.join(", "))
     }
 }
 

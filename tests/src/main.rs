@@ -5,7 +5,7 @@
 //! the program's are run only where TALLY is set.
 
 use shaftglimmer_tests::call::Call;
-use shaftglimmer_tests::groups::{reference, stream, text, vectors};
+use shaftglimmer_tests::groups::{reference, slopes, stream, text, vectors};
 use shaftglimmer_tests::process::Program;
 use shaftglimmer_tests::report::Report;
 use std::env;
@@ -17,6 +17,7 @@ fn main() -> ExitCode {
     println!("seed {seed}");
     let mut report = Report::new(seed);
     report.run(vectors::group("bench values of the reference", Call::on_reference));
+    report.run(slopes::group("slopes of the reference", Call::on_reference));
     report.run(reference::group());
     library(&mut report);
     program(&mut report);
@@ -38,6 +39,7 @@ fn seed() -> u64 {
 fn library(report: &mut Report) {
     use shaftglimmer_tests::groups::{codec, pages, refusals, sessions, words};
     report.run(vectors::group("bench values of the library", Call::on_library));
+    report.run(slopes::group("slopes of the library", Call::on_library));
     report.run(codec::group());
     report.run(words::group());
     report.run(refusals::group());

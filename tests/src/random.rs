@@ -1,6 +1,6 @@
 //! Random numbers from a seed (SplitMix64).
 
-use crate::reference::shape::Shape;
+use crate::reference::shape::{Shape, SLOPES};
 
 pub struct Random(u64);
 
@@ -44,6 +44,34 @@ impl Random {
 
     pub fn numbers(&mut self, length: usize) -> Vec<u32> {
         (0..length).map(|_| self.number()).collect()
+    }
+
+    /// A lawful shape of these q, n and b: the standard slopes one time in three, else any.
+    pub fn shape(&mut self, q: u32, n: u32, b: u32) -> Shape {
+        if self.one_in(3) {
+            Shape::new(q, n, b)
+        } else {
+            self.sloped(q, n, b)
+        }
+    }
+
+    /// A lawful shape whose slopes stand in any order, those that don't count being anything.
+    pub fn sloped(&mut self, q: u32, n: u32, b: u32) -> Shape {
+        let mut slopes = [0; SLOPES];
+        for (place, slope) in slopes.iter_mut().zip(self.positions(n as usize - 1, q as usize)) {
+            *place = slope as u32;
+        }
+        self.other_slopes(Shape::new(q, n, b).with_slopes(slopes))
+    }
+
+    /// The same shape with anything for the slopes that don't count: lawful ones, repeats, too large ones.
+    pub fn other_slopes(&mut self, shape: Shape) -> Shape {
+        let mut slopes = shape.slopes;
+        for place in &mut slopes[shape.most_errors()..] {
+            let any = [self.below(shape.q as usize) as u32, self.number()];
+            *place = self.pick(&[any[0], any[0], shape.slopes[0], shape.q, shape.q + 1, any[1], u32::MAX]);
+        }
+        shape.with_slopes(slopes)
     }
 
     /// Below 2^b.

@@ -1,4 +1,5 @@
-//! A second implementation, written from the rules alone, to compare the proved library with.
+//! A second implementation, written from docs/RULES.md alone, to compare the
+//! proved library with.
 //!
 //! It goes by the definitions and takes no short cut that the library takes: information positions
 //! and the writer come from an elimination over the columns of the check matrix, and what the reader

@@ -63,7 +63,7 @@ fn row(ours: &Program, rust: &Program, shape: Shape, name: &str, text: &str) -> 
     let (ours, rust) = (speed(0), speed(1));
     // from the two speeds of this row, so that the three figures agree
     let ratio = rust / ours;
-    let Shape { q, n, b } = shape;
+    let Shape { q, n, b, .. } = shape;
     let row = format!("| ({q}, {n}, {b}) | {name} | {ours:.1} | {rust:.1} | {ratio:.2} |");
     println!("{row}");
     let met = shape != TARGET || ours >= SPEED || ratio <= RATIO;

@@ -92,7 +92,7 @@ struct Row {
 
 impl Row {
     fn text(&self) -> String {
-        let (Shape { q, n, b }, times) = (self.shape, &self.times);
+        let (Shape { q, n, b, .. }, times) = (self.shape, &self.times);
         let Times { ours, to_straightforward, to_tuned } = times;
         format!("| ({q}, {n}, {b}) | {} | {ours:.0} | {to_straightforward:.2} | {to_tuned:.2} |", self.work)
     }
@@ -111,6 +111,9 @@ fn batch_size(shape: Shape) -> usize {
     (32_768 / shape.word_len()).min(1_024)
 }
 
+/// A reader for one shape.
+type Decode<'a> = &'a dyn Fn(&mut [u32]) -> u32;
+
 fn reading(shape: Shape, kind: Kind) -> Times {
     let mut random = Random::new(1, "reading");
     let mut words = vec![];
@@ -119,28 +122,33 @@ fn reading(shape: Shape, kind: Kind) -> Times {
         kind.damage(shape, &mut word, &mut random);
         words.extend(word);
     }
-    let readers = [ffi::decode, straightforward::decode, tuned::decode];
+    let shape = black_box(shape);
+    let values = shape.values();
+    let ours = |word: &mut [u32]| ffi::decode(&values, word);
+    let plain = |word: &mut [u32]| straightforward::decode(shape, word);
+    let tuned = |word: &mut [u32]| tuned::decode(shape, word);
+    let readers: [Decode; 3] = [&ours, &plain, &tuned];
     let results = readers.map(|decode| read_all(shape, decode, &mut words.clone()));
     assert!(results[0] == results[1] && results[0] == results[2], "the readers disagree");
-    let words = &words;
-    let batch = |decode: fn(Shape, &mut [u32]) -> u32| -> Batch {
-        let mut work = words.clone();
-        Box::new(move || {
-            work.copy_from_slice(words);
-            let shape = black_box(shape);
-            timed(|| {
-                work.chunks_exact_mut(shape.word_len()).for_each(|word| {
-                    black_box(decode(shape, word));
-                })
+    times(words.len() / shape.word_len(), readers.map(|decode| read_batch(shape, decode, &words)))
+}
+
+/// A reader's work on a copy of the words.
+fn read_batch<'a>(shape: Shape, decode: Decode<'a>, words: &'a [u32]) -> Batch<'a> {
+    let mut work = words.to_vec();
+    Box::new(move || {
+        work.copy_from_slice(words);
+        timed(|| {
+            work.chunks_exact_mut(shape.word_len()).for_each(|word| {
+                black_box(decode(word));
             })
         })
-    };
-    times(words.len() / shape.word_len(), readers.map(batch))
+    })
 }
 
 /// Each answer, and the words as left.
-fn read_all(shape: Shape, decode: fn(Shape, &mut [u32]) -> u32, words: &mut [u32]) -> (Vec<u32>, Vec<u32>) {
-    let answers = words.chunks_exact_mut(shape.word_len()).map(|word| decode(shape, word)).collect();
+fn read_all(shape: Shape, decode: Decode, words: &mut [u32]) -> (Vec<u32>, Vec<u32>) {
+    let answers = words.chunks_exact_mut(shape.word_len()).map(decode).collect();
     (answers, words.to_vec())
 }
 
@@ -151,9 +159,9 @@ fn writing(shape: Shape) -> Times {
     let mut random = Random::new(1, "writing");
     let all: Vec<u32> = (0..batch_size(shape)).flat_map(|_| random.symbols(shape, shape.data_len())).collect();
     let shape = black_box(shape);
-    let writer = Writer::new(shape);
+    let (values, writer) = (shape.values(), Writer::new(shape));
     let writers: [Encode; 3] = [
-        &|data, scratch, word| ffi::encode(shape, data, scratch, word),
+        &|data, scratch, word| ffi::encode(&values, data, scratch, word),
         &|data, scratch, word| writer.encode(data, scratch, word),
         &|data, scratch, word| tuned::encode(shape, data, scratch, word),
     ];

@@ -121,9 +121,7 @@ impl Machine {
             0 if line == b"q n b\n" => Ok(()),
             1 if values(line, &mut self.word) == Some(3) => {
                 let shape = Shape::new(self.word[0], self.word[1], self.word[2]);
-                if !shape.lawful() {
-                    return Err(Refusal::Shape);
-                }
+                shape.judge()?;
                 self.state = State::fresh(shape);
                 self.scratch = vec![0; shape.scratch_len()];
                 Ok(())

@@ -1,4 +1,4 @@
-//! Writing and extraction for every (q, n).
+//! Writing and extraction for every (q, n), with the standard slopes and with others.
 
 use crate::call::{Call, Entry};
 use crate::random::Random;
@@ -30,8 +30,8 @@ fn extract(shape: Shape, word: &[u32], random: &mut Random) -> Call {
 fn random_symbols(q: u32, n: u32, random: &mut Random) -> Verdict {
     let mut tried = 0;
     for b in [1, 8, 11, 31, 32, 1 + random.below(32) as u32] {
-        let shape = Shape::new(q, n, b);
         for _ in 0..12 {
+            let shape = random.shape(q, n, b);
             let data = random.symbols(shape, shape.data_len());
             expect(&encode(shape, &data, random))?;
             expect(&extract(shape, &codeword(shape, &data), random))?;
@@ -45,11 +45,14 @@ fn random_symbols(q: u32, n: u32, random: &mut Random) -> Verdict {
 
 /// Each information symbol alone, which shows every parity symbol that it takes part in.
 fn single_symbols(q: u32, n: u32, random: &mut Random) -> Verdict {
-    let shape = Shape::new(q, n, 32);
-    for k in 0..shape.data_len() {
-        let mut data = vec![0; shape.data_len()];
-        data[k] = random.nonzero_symbol(shape);
-        expect(&encode(shape, &data, random))?;
+    let mut tried = 0;
+    for shape in [Shape::new(q, n, 32), random.sloped(q, n, 32)] {
+        for k in 0..shape.data_len() {
+            let mut data = vec![0; shape.data_len()];
+            data[k] = random.nonzero_symbol(shape);
+            expect(&encode(shape, &data, random))?;
+            tried += 1;
+        }
     }
-    Ok(shape.data_len() as u64)
+    Ok(tried)
 }

@@ -31,8 +31,8 @@ fn border(shape: Shape, random: &mut Random) -> u32 {
 fn reading(q: u32, n: u32, random: &mut Random) -> Verdict {
     let rounds = 60;
     for b in WIDTHS {
-        let shape = Shape::new(q, n, b);
         for _ in 0..rounds {
+            let shape = random.shape(q, n, b);
             let number = random.below(page_numbers(shape)) as u32;
             let mut data = Page::random(shape, number, random).symbols(shape);
             for _ in 0..random.below(4) {
@@ -52,8 +52,8 @@ fn reading(q: u32, n: u32, random: &mut Random) -> Verdict {
 fn writing(q: u32, n: u32, random: &mut Random) -> Verdict {
     let rounds = 60;
     for b in WIDTHS {
-        let shape = Shape::new(q, n, b);
         for _ in 0..rounds {
+            let shape = random.shape(q, n, b);
             let number = random.below(page_numbers(shape)) as u32;
             let Page { mut number, mut marks } = Page::random(shape, number, random);
             if random.one_in(3) {

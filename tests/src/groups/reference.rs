@@ -6,7 +6,7 @@ use crate::reference::brute::{all_explained, all_words, explanations, Explanatio
 use crate::reference::elimination::Positions;
 use crate::reference::program::tally;
 use crate::reference::reader::decode;
-use crate::reference::shape::{orders_and_directions, Refusal, Shape};
+use crate::reference::shape::{all_slopes, orders_and_directions, Refusal, Shape};
 use crate::reference::square::{checks_on, is_codeword};
 use crate::reference::writer::{codeword, information};
 use crate::report::{Group, Unit, Verdict};
@@ -15,15 +15,17 @@ pub fn group() -> Group {
     let mut group = Group::new("reference", Unit::Calls);
     for (q, n) in orders_and_directions() {
         group.test(format!("checks of ({q}, {n})"), move |_| checks(Shape::new(q, n, 1)));
+        group.test(format!("checks of ({q}, {n}), other slopes"), move |random| checks(random.sloped(q, n, 1)));
         group.test(format!("positions of ({q}, {n})"), move |random| positions(q, n, random));
         group.test(format!("unmasked errors of ({q}, {n})"), move |random| restores(q, n, random));
     }
-    for n in [2, 3] {
-        group.test(format!("all words of (3, {n}, 1)"), move |_| every_word(Shape::new(3, n, 1)));
+    for shape in [2, 3].into_iter().flat_map(|n| all_slopes(3, n, 1)) {
+        let name = format!("all words of (3, {}, 1), slopes {:?}", shape.n, shape.own_slopes());
+        group.test(name, move |_| every_word(shape));
     }
     for (q, n, b) in [(3, 2, 2), (3, 3, 2), (3, 3, 3), (5, 2, 1), (5, 3, 1), (5, 4, 1), (5, 5, 1), (7, 2, 1), (7, 3, 1)]
     {
-        group.test(format!("sampled words of ({q}, {n}, {b})"), move |random| sampled(Shape::new(q, n, b), random));
+        group.test(format!("sampled words of ({q}, {n}, {b})"), move |random| sampled(q, n, b, random));
     }
     group.test("the rules' capture", |_| example());
     group
@@ -54,12 +56,12 @@ fn checks(shape: Shape) -> Verdict {
 }
 
 fn positions(q: u32, n: u32, random: &mut Random) -> Verdict {
-    let shape = Shape::new(q, n, 32);
-    let found = Positions::of(shape);
-    require(found.parity.len() == shape.checks() - shape.most_errors(), "n×q - (n-1) parity positions")?;
-    require(found.information.len() == shape.data_len(), "K information positions")?;
     let rounds = 20;
     for _ in 0..rounds {
+        let shape = random.shape(q, n, 32);
+        let found = Positions::of(shape);
+        require(found.parity.len() == shape.checks() - shape.most_errors(), "n×q - (n-1) parity positions")?;
+        require(found.information.len() == shape.data_len(), "K information positions")?;
         let data = random.symbols(shape, shape.data_len());
         let word = codeword(shape, &data);
         require(is_codeword(shape, &word), "what is written is a codeword")?;
@@ -72,7 +74,7 @@ fn positions(q: u32, n: u32, random: &mut Random) -> Verdict {
 fn restores(q: u32, n: u32, random: &mut Random) -> Verdict {
     let mut tried = 0;
     for b in [1, 2, 8, 32] {
-        let shape = Shape::new(q, n, b);
+        let shape = random.shape(q, n, b);
         let sent = codeword(shape, &random.symbols(shape, shape.data_len()));
         for weight in 0..=shape.most_errors() {
             let mut word = sent.clone();
@@ -112,9 +114,10 @@ fn every_word(shape: Shape) -> Verdict {
     Ok(words.len() as u64)
 }
 
-fn sampled(shape: Shape, random: &mut Random) -> Verdict {
+fn sampled(q: u32, n: u32, b: u32, random: &mut Random) -> Verdict {
     let rounds = 150;
     for _ in 0..rounds {
+        let shape = random.shape(q, n, b);
         let mut received = codeword(shape, &random.symbols(shape, shape.data_len()));
         let (style, weight) = (random.pick(&STYLES), random.below(shape.n as usize + 3));
         apply(&make(style, shape, weight, random), &mut received);

@@ -1,30 +1,14 @@
 //! What is turned down: shapes, lengths, widths, and several faults at once, of every entry. Each
-//! call is compared whole, so that the lent slices and the scratch are too.
+//! call is compared whole, so that the lent slices and the scratch are too. Slopes alone are the
+//! matter of another group.
 
+use super::calls::{good, reshape, resized, ENTRIES};
 use crate::call::{to_bytes, Call, Entry};
-use crate::capture::{page_numbers, Page};
-use crate::damage::{apply, unmasked};
 use crate::random::Random;
 use crate::reference::page::PAGES;
-use crate::reference::session::{Session, SESSION_LEN};
-use crate::reference::shape::{orders_and_directions, Shape};
-use crate::reference::writer::codeword;
+use crate::reference::shape::{orders_and_directions, Shape, SHAPE_LEN, SLOPES};
 use crate::report::{Group, Unit, Verdict};
 use crate::shrink::expect;
-
-const ENTRIES: [Entry; 11] = [
-    Entry::Encode,
-    Entry::Extract,
-    Entry::Decode,
-    Entry::ReadPage,
-    Entry::Marks,
-    Entry::WritePage,
-    Entry::Fresh,
-    Entry::Count,
-    Entry::Arrive,
-    Entry::HostReadWord,
-    Entry::HostReadPage,
-];
 
 /// Those that test the width of a slice.
 const WIDE: [Entry; 7] =
@@ -43,48 +27,7 @@ pub fn group() -> Group {
     for (q, n) in [(3, 2), (3, 3), (5, 2), (7, 7)] {
         group.test(format!("every number of bytes, ({q}, {n})"), move |random| byte_lengths(q, n, random));
     }
-    group.test("a fresh session with two faults", fresh_with_two_faults);
     group
-}
-
-/// A call that nothing is wrong with; what it only writes to is full of old numbers.
-fn good(entry: Entry, shape: Shape, random: &mut Random) -> Call {
-    let scratch = random.numbers(shape.scratch_len());
-    let number = random.below(page_numbers(shape)) as u32;
-    let page = Page::random(shape, number, random);
-    let (page_data, page_word) = (page.symbols(shape), damaged(shape, page.codeword(shape), random));
-    let data = random.symbols(shape, shape.data_len());
-    let word = random.symbols(shape, shape.word_len());
-    let session = Session::fresh(shape).expect("a lawful shape").values();
-    match entry {
-        Entry::Encode => Call::new(entry, shape, &[&data, &scratch, &random.numbers(word.len())]),
-        Entry::Extract => Call::new(entry, shape, &[&word, &scratch, &random.numbers(data.len())]),
-        Entry::Decode => Call::new(entry, shape, &[&damaged(shape, codeword(shape, &data), random)]),
-        Entry::ReadPage => Call::new(entry, shape, &[&page_data]),
-        Entry::Marks => Call::new(entry, shape, &[&page_data, &random.numbers(page_data.len())]),
-        Entry::WritePage => Call::numbered(entry, shape, number, &[&page.marks, &random.numbers(data.len())]),
-        Entry::Fresh => Call::new(entry, shape, &[&random.numbers(SESSION_LEN)]),
-        Entry::Count => Call::numbered(entry, shape, random.below(256) as u32, &[&session]),
-        Entry::Arrive => Call::new(entry, shape, &[&session, &page_word, &scratch, &random.numbers(3)]),
-        Entry::HostReadWord => Call::new(entry, shape, &[&to_bytes(&page_word)]),
-        Entry::HostReadPage => Call::new(entry, shape, &[&to_bytes(&page_data)]),
-    }
-}
-
-fn damaged(shape: Shape, mut word: Vec<u32>, random: &mut Random) -> Vec<u32> {
-    let weight = random.below(shape.n as usize);
-    apply(&unmasked(shape, weight, random), &mut word);
-    word
-}
-
-/// Puts another shape in place of the call's own.
-fn reshape(call: &mut Call, shape: Shape) {
-    call.shape = shape;
-    if matches!(call.entry, Entry::Count | Entry::Arrive) {
-        for (number, other) in call.slices[0].iter_mut().zip([shape.q, shape.n, shape.b]) {
-            *number = other;
-        }
-    }
 }
 
 /// Numbers around every border, and some whose square or product would wrap.
@@ -93,35 +36,32 @@ fn shape_numbers(upto: u32) -> Vec<u32> {
     (0..=upto).chain(wrapping).collect()
 }
 
+/// Each with the standard slopes, and with a slope that stands seven times: 1 comes before 18.
 fn shapes(entry: Entry, random: &mut Random) -> Verdict {
     let call = good(entry, Shape::new(5, 3, 9), random);
     let mut tried = 0;
     for q in shape_numbers(40) {
         for n in shape_numbers(10) {
             for b in shape_numbers(34) {
-                let mut call = call.clone();
-                reshape(&mut call, Shape::new(q, n, b));
-                expect(&call)?;
-                tried += 1;
+                let shape = Shape::new(q, n, b);
+                for shape in [shape, shape.with_slopes([random.pick(&[1, 31, q, u32::MAX]); SLOPES])] {
+                    let mut call = call.clone();
+                    reshape(&mut call, shape);
+                    expect(&call)?;
+                    tried += 1;
+                }
             }
         }
     }
     Ok(tried)
 }
 
-fn resized(slice: &[u32], length: usize, random: &mut Random) -> Vec<u32> {
-    let mut slice = slice.to_vec();
-    let filler = random.below(256) as u32;
-    slice.resize(length, filler);
-    slice
-}
-
 /// Every slice of every entry too short and too long, the others right.
 fn lengths(q: u32, n: u32, random: &mut Random) -> Verdict {
     let mut tried = 0;
     for entry in ENTRIES {
-        let shape = Shape::new(q, n, random.pick(&[1, 8, 11, 31, 32]));
-        let call = good(entry, shape, random);
+        let b = random.pick(&[1, 8, 11, 31, 32]);
+        let call = good(entry, random.shape(q, n, b), random);
         for (i, slice) in call.slices.iter().enumerate() {
             let right = slice.len();
             let wrong =
@@ -156,8 +96,8 @@ fn byte_lengths(q: u32, n: u32, random: &mut Random) -> Verdict {
 fn widths(q: u32, n: u32, random: &mut Random) -> Verdict {
     let mut tried = 0;
     for b in [1, 8, 11, 31, 32] {
-        let shape = Shape::new(q, n, b);
         for entry in WIDE {
+            let shape = random.shape(q, n, b);
             let call = good(entry, shape, random);
             let judged = if entry == Entry::Arrive { 1 } else { 0 };
             let length = call.slices[judged].len();
@@ -191,8 +131,8 @@ fn several_faults(q: u32, n: u32, random: &mut Random) -> Verdict {
     let mut tried = 0;
     for _ in 0..120 {
         let entry = random.pick(&ENTRIES);
-        let shape = Shape::new(q, n, random.pick(&[1, 2, 8, 9, 11, 31, 32]));
-        let mut call = good(entry, shape, random);
+        let b = random.pick(&[1, 2, 8, 9, 11, 31, 32]);
+        let mut call = good(entry, random.shape(q, n, b), random);
         for _ in 0..1 + random.below(3) {
             spoil(&mut call, random);
         }
@@ -203,26 +143,39 @@ fn several_faults(q: u32, n: u32, random: &mut Random) -> Verdict {
 
 /// One fault of any kind. Two of them may cancel; the reference then says so.
 fn spoil(call: &mut Call, random: &mut Random) {
-    match random.below(4) {
-        0 if call.entry != Entry::Fresh => {
-            let bad = [Shape::new(9, 2, 8), Shape::new(3, 4, 8), Shape::new(call.shape.q, call.shape.n, 33)];
-            reshape(call, random.pick(&bad));
+    match random.below(6) {
+        0 => {
+            let Shape { q, n, slopes, .. } = call.shape;
+            let bad = [Shape::new(9, 2, 8), Shape::new(3, 4, 8), Shape::new(q, n, 33)];
+            reshape(call, random.pick(&bad).with_slopes(slopes));
         }
-        1 => {
+        1 => spoil_slope(call, random),
+        2 if call.entry.takes_shape() && random.one_in(3) => {
+            let length = random.pick(&[0, 3, SHAPE_LEN - 1, SHAPE_LEN + 1]);
+            call.lent_shape = Some(resized(&call.shape.values(), length, random));
+        }
+        3 => {
             let i = random.below(call.slices.len());
             let length = call.slices[i].len();
             let length = random.pick(&[0, length.saturating_sub(1), length + 1, length + 32]);
             call.slices[i] = resized(&call.slices[i].clone(), length, random);
         }
-        2 => call.number = random.pick(&[255, 256, PAGES as u32 - 1, PAGES as u32, u32::MAX]),
+        4 => call.number = random.pick(&[255, 256, PAGES as u32 - 1, PAGES as u32, u32::MAX]),
         _ => spoil_symbol(call, random),
     }
+}
+
+/// A slope that is too large or stands elsewhere in the list, at a place that counts or not.
+fn spoil_slope(call: &mut Call, random: &mut Random) {
+    let Shape { q, mut slopes, .. } = call.shape;
+    slopes[random.below(SLOPES)] = random.pick(&[q, q + 1, u32::MAX, slopes[0], slopes[SLOPES - 1]]);
+    reshape(call, call.shape.with_slopes(slopes));
 }
 
 /// A number in a slice that the entry judges: page number, count, mark, tail or any symbol.
 fn spoil_symbol(call: &mut Call, random: &mut Random) {
     let judged = if call.entry == Entry::Arrive { 1 } else { 0 };
-    let limit = if matches!(call.entry, Entry::HostReadWord | Entry::HostReadPage) { 255 } else { u32::MAX };
+    let limit = if call.entry.is_of_host() { 255 } else { u32::MAX };
     let slice = &mut call.slices[judged];
     if slice.is_empty() || matches!(call.entry, Entry::Fresh | Entry::Count) {
         return;
@@ -231,16 +184,4 @@ fn spoil_symbol(call: &mut Call, random: &mut Random) {
     let power = 1 << random.below(32);
     let value = random.pick(&[0, 1, 255, 256, 899, 1024, u32::MAX, power]);
     slice[at] = value.min(limit);
-}
-
-/// Which of the two comes first no paper says; nothing may be written either way.
-fn fresh_with_two_faults(random: &mut Random) -> Verdict {
-    let session = random.numbers(SESSION_LEN - 1);
-    let after = Call::new(Entry::Fresh, Shape::new(9, 2, 8), &[&session]).on_library();
-    let refused = [(1 << 31) + 1, (1 << 31) + 2].contains(&after.answer);
-    if refused && after.slices[0] == session {
-        Ok(1)
-    } else {
-        Err(format!("answer {:#x}", after.answer))
-    }
 }

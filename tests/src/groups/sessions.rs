@@ -5,8 +5,8 @@ use crate::capture::{page_numbers, recording, Page};
 use crate::damage::{apply, make, unmasked, STYLES};
 use crate::random::Random;
 use crate::reference::page::{FUNCTIONS, PAGES};
-use crate::reference::session::{Outcome, Session};
-use crate::reference::shape::{orders_and_directions, Shape};
+use crate::reference::session::{Outcome, Session, SESSION_LEN};
+use crate::reference::shape::{orders_and_directions, Shape, SHAPE_LEN};
 use crate::reference::writer::codeword;
 use crate::report::{Group, Unit, Verdict};
 use crate::shrink::{expect, without_parts, Case};
@@ -20,7 +20,8 @@ pub fn groups() -> [Group; 2] {
         group.test(format!("worn counts, ({q}, {n})"), move |random| worn(q, n, random));
         queries.test(format!("({q}, {n})"), move |random| count_queries(q, n, random));
     }
-    group.test("all 1024 pages, full of marks", all_pages);
+    group.test("all 1024 pages, full of marks", |random| all_pages(Shape::new(31, 2, 32), random));
+    group.test("all 1024 pages, other slopes", |random| all_pages(random.sloped(31, 2, 32), random));
     [group, queries]
 }
 
@@ -48,7 +49,7 @@ impl Run {
             let call =
                 Call::new(Entry::Arrive, shape_of(&session), &[&session, &arrival.word, &arrival.scratch, &[9; 3]]);
             let (expected, mut found) = (call.on_reference(), call.on_library());
-            if session[3..3 + PAGES].iter().any(|&yes| yes > 1) {
+            if session[SHAPE_LEN..][..PAGES].iter().any(|&yes| yes > 1) {
                 // A yes may be any nonzero number; which one an arrival leaves is open.
                 found.slices[0] = Session::from_values(&found.slices[0]).values();
             }
@@ -81,7 +82,7 @@ impl Case for Run {
 }
 
 fn shape_of(session: &[u32]) -> Shape {
-    Shape::new(session[0], session[1], session[2])
+    Shape::from_values(&session[..SHAPE_LEN])
 }
 
 fn arrival(shape: Shape, word: Vec<u32>, random: &mut Random) -> Arrival {
@@ -135,7 +136,7 @@ fn is_refused(shape: Shape, arrival: &Arrival) -> bool {
 fn grown(q: u32, n: u32, random: &mut Random) -> Verdict {
     let mut tried = 0;
     for b in [1, 8, 11, 31, 32] {
-        let shape = Shape::new(q, n, b);
+        let shape = random.shape(q, n, b);
         let pages = recording(shape, 12, random);
         let mut arrivals = vec![];
         for page in &pages {
@@ -150,14 +151,14 @@ fn grown(q: u32, n: u32, random: &mut Random) -> Verdict {
 
 /// Runs the list from a fresh session and holds the end to the recording.
 fn fits_recording(shape: Shape, pages: &[Page], arrivals: Vec<Arrival>) -> Verdict {
-    let mut start = vec![7; 3 + PAGES + FUNCTIONS];
-    let answer = crate::ffi::fresh(shape, &mut start);
+    let mut start = vec![7; SESSION_LEN];
+    let answer = crate::ffi::fresh(&shape.values(), &mut start);
     let run = Run { start, arrivals };
     let Ok((session, outcomes)) = run.follow() else { return expect(&run).map(|()| 0) };
     let mut calls = [0; FUNCTIONS];
     pages.iter().flat_map(|page| &page.marks).for_each(|&mark| calls[mark as usize] += 1);
     let taken = outcomes.iter().filter(|outcome| outcome[0] == 0).count();
-    if answer != 0 || session[3 + PAGES..] != calls || taken != pages.len() {
+    if answer != 0 || session[SHAPE_LEN + PAGES..] != calls || taken != pages.len() {
         return Err(format!("{shape:?}: {taken} pages taken of {}; the tally is not the recording's", pages.len()));
     }
     Ok(outcomes.len() as u64)
@@ -167,8 +168,8 @@ fn fits_recording(shape: Shape, pages: &[Page], arrivals: Vec<Arrival>) -> Verdi
 fn handed_in(q: u32, n: u32, random: &mut Random) -> Verdict {
     let mut tried = 0;
     for b in [1, 2, 8, 11, 31, 32] {
-        let shape = Shape::new(q, n, b);
         for _ in 0..4 {
+            let shape = random.shape(q, n, b);
             let start = any_session(shape, random);
             let number = |random: &mut Random| random.below(page_numbers(shape)) as u32;
             let pages: Vec<Page> = (0..6).map(|_| Page::random(shape, number(random), random)).collect();
@@ -189,7 +190,7 @@ fn handed_in(q: u32, n: u32, random: &mut Random) -> Verdict {
 
 fn any_session(shape: Shape, random: &mut Random) -> Vec<u32> {
     let yes = [1, 1, 2, 255, 256, 1 << 16, 1 << 31, u32::MAX];
-    let mut session = vec![shape.q, shape.n, shape.b];
+    let mut session = shape.values().to_vec();
     session.extend((0..PAGES).map(|_| if random.one_in(3) { random.pick(&yes) } else { 0 }));
     let mut count = || match random.below(3) {
         0 => 0,
@@ -205,8 +206,8 @@ fn any_session(shape: Shape, random: &mut Random) -> Vec<u32> {
 fn worn(q: u32, n: u32, random: &mut Random) -> Verdict {
     let mut tried = 0;
     for b in [1, 8, 32] {
-        let shape = Shape::new(q, n, b);
         for _ in 0..4 {
+            let shape = random.shape(q, n, b);
             let page = Page::random(shape, random.below(page_numbers(shape)) as u32, random);
             let Some(&function) = page.marks.last() else { continue };
             let times = page.marks.iter().filter(|&&mark| mark == function).count() as u32;
@@ -224,8 +225,7 @@ fn worn(q: u32, n: u32, random: &mut Random) -> Verdict {
 }
 
 /// The largest recording there is, each page twice.
-fn all_pages(random: &mut Random) -> Verdict {
-    let shape = Shape::new(31, 2, 32);
+fn all_pages(shape: Shape, random: &mut Random) -> Verdict {
     let mut page =
         |number| Page { number, marks: (0..shape.most_marks()).map(|_| random.below(3) as u32 * 127).collect() };
     let pages: Vec<Page> = (0..PAGES as u32).map(&mut page).collect();
@@ -235,7 +235,8 @@ fn all_pages(random: &mut Random) -> Verdict {
 }
 
 fn count_queries(q: u32, n: u32, random: &mut Random) -> Verdict {
-    let session = any_session(Shape::new(q, n, 1 + random.below(32) as u32), random);
+    let b = 1 + random.below(32) as u32;
+    let session = any_session(random.shape(q, n, b), random);
     let functions = (0..300).chain([1 << 16, 1 << 31, u32::MAX]);
     let query = |function| expect(&Call::numbered(Entry::Count, shape_of(&session), function, &[&session]));
     functions.map(query).try_fold(0, |tried, queried| queried.map(|()| tried + 1))

@@ -27,7 +27,11 @@ pub fn group(program: &Program) -> Group {
         test(format!("a newline as byte {last}"), Box::new(move |program, _| without_end(program, last)));
     }
     for shape in [Shape::new(17, 4, 32), Shape::new(31, 8, 32), Shape::new(31, 2, 16), Shape::new(5, 3, 16)] {
-        test(format!("a long capture of {shape:?}"), Box::new(move |program, random| long(program, shape, random)));
+        let Shape { q, n, b, .. } = shape;
+        test(
+            format!("a long capture of ({q}, {n}, {b})"),
+            Box::new(move |program, random| long(program, shape, random)),
+        );
     }
     for block in BLOCKS {
         test(format!("cut around {block}"), Box::new(move |program, random| cut(program, block, random)));

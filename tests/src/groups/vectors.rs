@@ -1,8 +1,8 @@
-//! The rules' bench values, as calls with what must come of them.
+//! The rules' bench values, and some for other slopes, as calls with what must come of them.
 
 use crate::call::{answer_of, difference, to_bytes, After, Call, Entry};
 use crate::reference::session::SESSION_LEN;
-use crate::reference::shape::{Refusal, Shape};
+use crate::reference::shape::{Refusal, Shape, SHAPE_LEN, SLOPES};
 use crate::report::{Group, Unit};
 
 const B3: Shape = Shape::new(3, 3, 3);
@@ -33,7 +33,7 @@ pub fn group(name: &'static str, make: fn(&Call) -> After) -> Group {
 }
 
 fn vectors() -> Vec<Vector> {
-    [positions(), words(), pages(), arrivals(), shapes()].into_iter().flatten().collect()
+    [positions(), words(), pages(), arrivals(), shapes(), slopes()].into_iter().flatten().collect()
 }
 
 /// A call that answers `result` and leaves each slice as said.
@@ -106,14 +106,19 @@ fn pages() -> Vec<Vector> {
     ]
 }
 
+/// A fresh session: its shape, and nothing come or counted.
+fn fresh_values(shape: Shape) -> Vec<u32> {
+    [shape.values().as_slice(), &[0; SESSION_LEN - SHAPE_LEN]].concat()
+}
+
 /// The words of the program's example, in turn.
 fn arrivals() -> Vec<Vector> {
     let session = |taken: bool| {
-        let mut session = [[3, 2, 8].as_slice(), &[0; SESSION_LEN - 3]].concat();
+        let mut session = fresh_values(B8);
         if taken {
-            session[3 + 1] = 1;
-            session[3 + 1024 + 3] = 1;
-            session[3 + 1024 + 5] = 1;
+            session[SHAPE_LEN + 1] = 1;
+            session[SHAPE_LEN + 1024 + 3] = 1;
+            session[SHAPE_LEN + 1024 + 5] = 1;
         }
         session
     };
@@ -129,8 +134,7 @@ fn arrivals() -> Vec<Vector> {
 
 fn shapes() -> Vec<Vector> {
     let fresh = |shape: Shape| Call::new(Entry::Fresh, shape, &[&[5; SESSION_LEN]]);
-    let made = |shape: Shape| [[shape.q, shape.n, shape.b].as_slice(), &[0; SESSION_LEN - 3]].concat();
-    let accepted = |name, shape| vector(name, fresh(shape), Ok(0), &[&made(shape)]);
+    let accepted = |name, shape| vector(name, fresh(shape), Ok(0), &[&fresh_values(shape)]);
     let refused = |name, shape| unchanging(name, fresh(shape), Err(Refusal::Shape));
     vec![
         accepted("shape 31 8 32", Shape::new(31, 8, 32)),
@@ -140,5 +144,44 @@ fn shapes() -> Vec<Vector> {
         refused("shape 9 2 8", Shape::new(9, 2, 8)),
         refused("shape 3 2 0", Shape::new(3, 2, 0)),
         refused("shape 3 2 33", Shape::new(3, 2, 33)),
+    ]
+}
+
+/// The shape with these slopes in front, followed by one that no direction may have.
+fn sloped(shape: Shape, first: &[u32]) -> Shape {
+    let mut slopes = [u32::MAX; SLOPES];
+    slopes[..first.len()].copy_from_slice(first);
+    shape.with_slopes(slopes)
+}
+
+/// Worked out by hand from P4 and P7. P4's slopes in the other order have its word; with slope 2 in
+/// place of 1 the square is mirrored, with slopes 1 and 2 sheared. With P7's symbols and slope 1 only
+/// row 0 is another.
+fn slopes() -> Vec<Vector> {
+    let written = |name, first: &[u32], word: &[u32]| {
+        let call = Call::new(Entry::Encode, sloped(B3, first), &[&[5, 3], &[7; 9], &[1; 9]]);
+        vector(name, call, Ok(0), &[&[5, 3], &[0; 9], word])
+    };
+    let decode = |first: &[u32], word: &[u32]| Call::new(Entry::Decode, sloped(B3, first), &[word]);
+    let fresh = |shape: Shape| Call::new(Entry::Fresh, shape, &[&[5; SESSION_LEN]]);
+    let accepted = |name, shape| vector(name, fresh(shape), Ok(0), &[&fresh_values(shape)]);
+    let refused = |name, shape| unchanging(name, fresh(shape), Err(Refusal::Slope));
+    let mirrored = [5, 3, 6, 3, 6, 5, 6, 5, 3];
+    let sheared = [6, 5, 3, 6, 5, 3, 6, 5, 3];
+    let by_slope_1 = [1, 6, 7, 3, 1, 2, 6, 3, 5];
+    let p7 = Call::new(Entry::Encode, sloped(B8, &[1]), &[&[1, 2, 3, 5], &[7; 6], &[1; 9]]);
+    vec![
+        written("slopes 1 0", &[1, 0], &P4_WORD),
+        written("slopes 0 2", &[0, 2], &mirrored),
+        written("slopes 2 0", &[2, 0], &mirrored),
+        written("slopes 1 2", &[1, 2], &sheared),
+        vector("slope 1", p7, Ok(0), &[&[1, 2, 3, 5], &[0; 6], &by_slope_1]),
+        vector("slopes 1 2 read", decode(&[1, 2], &[6, 5, 3, 6, 5, 3, 6, 1, 3]), Ok(1), &[&sheared]),
+        unchanging("P4 by slopes 1 2", decode(&[1, 2], &P4_WORD), Err(Refusal::Uncorrectable)),
+        accepted("shape 3 3 3, slopes 2 1", sloped(B3, &[2, 1])),
+        accepted("shape 3 2 8, slope 2 twice", sloped(B8, &[2, 2])),
+        refused("shape 3 3 3, slope 2 twice", sloped(B3, &[2, 2])),
+        refused("shape 3 3 3, slope 3", sloped(B3, &[0, 3])),
+        refused("shape 3 2 8, no slope below 3", sloped(B8, &[])),
     ]
 }

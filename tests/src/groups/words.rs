@@ -1,9 +1,10 @@
-//! Reading words with every kind of error, through the harness and through the host pair.
+//! Reading words with every kind of error, through the harness and, where the slopes are the standard
+//! ones, through the host pair.
 
 use crate::call::{brief, difference, to_bytes, After, Call, Entry};
 use crate::damage::{apply, make, unmasked, Error, STYLES};
 use crate::random::Random;
-use crate::reference::shape::{orders_and_directions, Shape, ORDERS};
+use crate::reference::shape::{all_slopes, orders_and_directions, Shape, ORDERS};
 use crate::reference::writer::codeword;
 use crate::report::{Group, Unit, Verdict};
 use crate::shrink::{expect, without_parts, Case};
@@ -18,22 +19,23 @@ pub fn group() -> Group {
     for (q, n) in orders_and_directions() {
         group.test(format!("random words of ({q}, {n})"), move |random| random_words(q, n, random));
     }
-    for n in [2, 3] {
-        group.test(format!("all words of (3, {n}, 1)"), move |_| every_word(Shape::new(3, n, 1)));
+    for shape in [2, 3].into_iter().flat_map(|n| all_slopes(3, n, 1)) {
+        let name = format!("all words of (3, {}, 1), slopes {:?}", shape.n, shape.own_slopes());
+        group.test(name, move |_| every_word(shape));
     }
     group
 }
 
 /// Small words are read more often, since they cost less.
-fn rounds(shape: Shape) -> usize {
-    (9_000 / shape.word_len()).clamp(12, 180)
+fn rounds(q: u32) -> u32 {
+    (9_000 / (q * q)).clamp(12, 180)
 }
 
 fn sweep(q: u32, n: u32, random: &mut Random) -> Verdict {
     let mut tried = 0;
     for b in WIDTHS.into_iter().chain([3 + random.below(28) as u32]) {
-        let shape = Shape::new(q, n, b);
-        for _ in 0..rounds(shape) {
+        for _ in 0..rounds(q) {
+            let shape = random.shape(q, n, b);
             let sent = codeword(shape, &random.symbols(shape, shape.data_len()));
             for error in errors(shape, random) {
                 expect(&Damaged { shape, sent: sent.clone(), error })?;
@@ -60,8 +62,8 @@ fn errors(shape: Shape, random: &mut Random) -> Vec<Error> {
 fn random_words(q: u32, n: u32, random: &mut Random) -> Verdict {
     let mut tried = 0;
     for b in WIDTHS {
-        let shape = Shape::new(q, n, b);
-        for _ in 0..rounds(shape) {
+        for _ in 0..rounds(q) {
+            let shape = random.shape(q, n, b);
             let word = random.symbols(shape, shape.word_len());
             expect(&Damaged::by_itself(shape, &word))?;
             tried += 1;
@@ -111,11 +113,21 @@ impl Damaged {
         Some(Damaged { shape, sent: vec![0; shape.word_len()], error: error? })
     }
 
-    /// Fewer directions, a smaller order, a smaller width.
+    /// What the host pair makes of the word, beside what the harness must.
+    fn difference_of_host(&self, word: &[u32], of_harness: &After) -> Option<String> {
+        let host = Call::new(Entry::HostReadWord, self.shape, &[&to_bytes(word)]);
+        let expected = After { answer: of_harness.answer, slices: vec![to_bytes(&of_harness.slices[0])] };
+        let found = difference(host.entry, &expected, &host.on_library());
+        found.map(|found| format!("through the host pair, {found}"))
+    }
+
+    /// The standard slopes, a smaller order, fewer directions, a smaller width.
     fn smaller_shapes(&self) -> Vec<Damaged> {
-        let Shape { q, n, b } = self.shape;
+        let Shape { q, n, b, slopes } = self.shape;
         let orders = ORDERS.into_iter().filter(|&order| order < q).map(|order| Shape::new(order, n, b));
         let shapes = orders.chain([Shape::new(q, n - 1, b), Shape::new(q, n, 1), Shape::new(q, n, b - 1)]);
+        let shapes = shapes.map(|shape| shape.with_slopes(slopes));
+        let shapes = [self.shape.standard()].into_iter().chain(shapes);
         shapes.filter(|shape| shape.lawful() && *shape != self.shape).filter_map(|shape| self.moved(shape)).collect()
     }
 
@@ -138,12 +150,10 @@ impl Case for Damaged {
     fn difference(&self) -> Option<String> {
         let word = self.received();
         let harness = Call::new(Entry::Decode, self.shape, &[&word]);
-        let host = Call::new(Entry::HostReadWord, self.shape, &[&to_bytes(&word)]);
         let expected = harness.on_reference();
-        let of_host = After { answer: expected.answer, slices: vec![to_bytes(&expected.slices[0])] };
-        let through_host = |found| format!("through the host pair, {found}");
-        difference(harness.entry, &expected, &harness.on_library())
-            .or_else(|| difference(host.entry, &of_host, &host.on_library()).map(through_host))
+        let found = difference(harness.entry, &expected, &harness.on_library());
+        let also_of_host = self.shape == self.shape.standard();
+        found.or_else(|| also_of_host.then(|| self.difference_of_host(&word, &expected)).flatten())
     }
 
     fn smaller(&self) -> impl Iterator<Item = Damaged> {

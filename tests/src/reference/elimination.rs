@@ -1,8 +1,13 @@
 //! Parity and information positions by elimination over GF(2) on the columns of the check matrix.
 
-use super::shape::{orders_and_directions, Shape};
+use super::shape::Shape;
 use super::square::checks_on;
-use std::sync::OnceLock;
+use std::cell::RefCell;
+use std::collections::VecDeque;
+use std::rc::Rc;
+
+/// How many shapes' positions a thread remembers.
+const REMEMBERED: usize = 16;
 
 /// A vector over GF(2); there are at most 248 checks.
 #[derive(Clone, Copy, Default, PartialEq, Eq)]
@@ -28,7 +33,7 @@ impl Bits {
     }
 }
 
-/// What the rules call parity and information positions, for one (q, n).
+/// What the rules call parity and information positions, for one q and its directions.
 pub struct Positions {
     /// The positions whose column is no sum of columns at lower positions, rising.
     pub parity: Vec<usize>,
@@ -47,15 +52,21 @@ struct Pivot {
 }
 
 impl Positions {
-    /// The positions of a lawful shape; the width plays no part.
-    pub fn of(shape: Shape) -> &'static Positions {
-        static ALL: OnceLock<Vec<((u32, u32), Positions)>> = OnceLock::new();
-        let all = ALL.get_or_init(|| {
-            let eliminate = |(q, n)| ((q, n), Positions::eliminate(Shape::new(q, n, 1)));
-            orders_and_directions().into_iter().map(eliminate).collect()
-        });
-        let found = all.iter().find(|(pair, _)| *pair == (shape.q, shape.n));
-        &found.expect("a lawful shape").1
+    /// The positions of a lawful shape; the width and the slopes that don't count play no part.
+    pub fn of(shape: Shape) -> Rc<Positions> {
+        thread_local! {
+            static RECENT: RefCell<VecDeque<(Shape, Rc<Positions>)>> = const { RefCell::new(VecDeque::new()) };
+        }
+        let same = |other: &Shape| (other.q, other.own_slopes()) == (shape.q, shape.own_slopes());
+        RECENT.with_borrow_mut(|recent| {
+            if let Some((_, positions)) = recent.iter().find(|(other, _)| same(other)) {
+                return positions.clone();
+            }
+            let positions = Rc::new(Positions::eliminate(shape));
+            recent.truncate(REMEMBERED - 1);
+            recent.push_front((shape, positions.clone()));
+            positions
+        })
     }
 
     fn eliminate(shape: Shape) -> Positions {

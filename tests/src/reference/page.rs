@@ -13,9 +13,7 @@ pub struct Head {
 }
 
 pub fn read_page(shape: Shape, data: &[u32]) -> Result<Head, Refusal> {
-    if !shape.lawful() {
-        return Err(Refusal::Shape);
-    }
+    shape.judge()?;
     if data.len() != shape.data_len() {
         return Err(Refusal::Length);
     }
@@ -40,9 +38,7 @@ pub fn read_page(shape: Shape, data: &[u32]) -> Result<Head, Refusal> {
 }
 
 pub fn write_page(shape: Shape, page: u32, marks: &[u32], data: &mut [u32]) -> Result<(), Refusal> {
-    if !shape.lawful() {
-        return Err(Refusal::Shape);
-    }
+    shape.judge()?;
     if data.len() != shape.data_len() {
         return Err(Refusal::Length);
     }

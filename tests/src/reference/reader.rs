@@ -32,9 +32,7 @@ fn propose(shape: Shape, received: &[u32]) -> Option<Vec<u32>> {
 
 /// Restores the word and gives the number of symbols changed.
 pub fn decode(shape: Shape, word: &mut [u32]) -> Result<u32, Refusal> {
-    if !shape.lawful() {
-        return Err(Refusal::Shape);
-    }
+    shape.judge()?;
     if word.len() != shape.word_len() {
         return Err(Refusal::Length);
     }

@@ -2,11 +2,11 @@
 
 use super::page::{read_page, FUNCTIONS, PAGES};
 use super::reader::decode;
-use super::shape::{Refusal, Shape};
+use super::shape::{Refusal, Shape, SHAPE_LEN};
 use super::writer::information;
 
-/// A session as numbers: q, n, b, a mark for each page, a count for each function.
-pub const SESSION_LEN: usize = 3 + PAGES + FUNCTIONS;
+/// A session as numbers: its shape's, a mark for each page, a count for each function.
+pub const SESSION_LEN: usize = SHAPE_LEN + PAGES + FUNCTIONS;
 
 #[derive(Clone, PartialEq, Eq)]
 pub struct Session {
@@ -35,16 +35,12 @@ impl Outcome {
 
 impl Session {
     pub fn fresh(shape: Shape) -> Result<Session, Refusal> {
-        if !shape.lawful() {
-            return Err(Refusal::Shape);
-        }
+        shape.judge()?;
         Ok(Session { shape, taken: [false; PAGES], calls: [0; FUNCTIONS] })
     }
 
     pub fn count(&self, function: u32) -> Result<u32, Refusal> {
-        if !self.shape.lawful() {
-            return Err(Refusal::Shape);
-        }
+        self.shape.judge()?;
         self.calls.get(function as usize).copied().ok_or(Refusal::Function)
     }
 
@@ -54,9 +50,7 @@ impl Session {
 
     fn try_arrive(&mut self, word: &mut [u32], scratch: &mut [u32]) -> Result<Outcome, Refusal> {
         let shape = self.shape;
-        if !shape.lawful() {
-            return Err(Refusal::Shape);
-        }
+        shape.judge()?;
         if word.len() != shape.word_len() || scratch.len() != shape.scratch_len() {
             return Err(Refusal::Length);
         }
@@ -77,7 +71,7 @@ impl Session {
     }
 
     pub fn values(&self) -> Vec<u32> {
-        let mut values = vec![self.shape.q, self.shape.n, self.shape.b];
+        let mut values = self.shape.values().to_vec();
         values.extend(self.taken.map(u32::from));
         values.extend(self.calls);
         values
@@ -85,10 +79,10 @@ impl Session {
 
     /// From exactly SESSION_LEN numbers; any nonzero mark is a yes.
     pub fn from_values(values: &[u32]) -> Session {
-        let (shape, rest) = values.split_at(3);
+        let (shape, rest) = values.split_at(SHAPE_LEN);
         let (taken, calls) = rest.split_at(PAGES);
         Session {
-            shape: Shape::new(shape[0], shape[1], shape[2]),
+            shape: Shape::from_values(shape),
             taken: std::array::from_fn(|page| taken[page] != 0),
             calls: std::array::from_fn(|function| calls[function]),
         }

@@ -6,7 +6,7 @@ use super::shape::Shape;
 pub fn check(shape: Shape, t: usize, j: usize) -> usize {
     let q = shape.q as usize;
     let (row, column) = (j / q, j % q);
-    let line = if t == 0 { row } else { (column + (t - 1) * row) % q };
+    let line = if t == 0 { row } else { (column + shape.slopes[t - 1] as usize * row) % q };
     t * q + line
 }
 

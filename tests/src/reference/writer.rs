@@ -40,11 +40,9 @@ pub fn extract(shape: Shape, word: &[u32], scratch: &mut [u32], data: &mut [u32]
     Ok(())
 }
 
-/// Tests 1 and 2, the same for both.
+/// Tests 1, 18 and 2, the same for both.
 fn lengths(shape: Shape, data: &[u32], scratch: &[u32], word: &[u32]) -> Result<(), Refusal> {
-    if !shape.lawful() {
-        return Err(Refusal::Shape);
-    }
+    shape.judge()?;
     let right =
         data.len() == shape.data_len() && scratch.len() == shape.scratch_len() && word.len() == shape.word_len();
     if right {

@@ -3,7 +3,7 @@
 use super::refused;
 use crate::reference::page::{read_page, FUNCTIONS, PAGES};
 use crate::reference::session::{Outcome, SESSION_LEN};
-use crate::reference::shape::{Refusal, Shape};
+use crate::reference::shape::{Refusal, Shape, SHAPE_LEN};
 
 /// A reader, and what takes the information symbols out of a word.
 #[derive(Clone, Copy)]
@@ -26,8 +26,8 @@ impl State {
     /// The word is restored only if the arrival is not refused.
     pub fn arrive(&mut self, way: Way, word: &mut [u32], scratch: &mut [u32]) -> Outcome {
         let shape = self.shape;
-        if !shape.lawful() {
-            return Outcome::Refused(Refusal::Shape);
+        if let Err(refusal) = shape.judge() {
+            return Outcome::Refused(refusal);
         }
         if word.len() != shape.word_len() || scratch.len() != shape.scratch_len() {
             return Outcome::Refused(Refusal::Length);
@@ -81,9 +81,9 @@ pub fn arrive(way: Way, session: &mut [u32], word: &mut [u32], scratch: &mut [u3
     if session.len() != SESSION_LEN || outcome.len() != 3 {
         return refused(Refusal::Length);
     }
-    let (shape, rest) = session.split_at_mut(3);
+    let (shape, rest) = session.split_at_mut(SHAPE_LEN);
     let (taken, calls) = rest.split_at_mut(PAGES);
-    let mut state = State::fresh(Shape::new(shape[0], shape[1], shape[2]));
+    let mut state = State::fresh(Shape::from_values(shape));
     for (yes, &number) in state.taken.iter_mut().zip(&*taken) {
         *yes = number != 0;
     }

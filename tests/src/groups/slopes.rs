@@ -1,0 +1,200 @@
+//! Slopes that are refused, when, and slopes that don't count; shape slices of a wrong length. What must
+//! come of each call is said here, not asked of the reference, which is held to it like the library.
+
+use super::calls::{good, reshape, resized, ENTRIES};
+use crate::call::{answer_of, difference, After, Call, Entry};
+use crate::random::Random;
+use crate::reference::shape::{orders_and_directions, Refusal, Shape, SHAPE_LEN, SLOPES};
+use crate::report::{Group, Unit, Verdict};
+
+/// The reference or the library.
+type Make = fn(&Call) -> After;
+
+/// The group for whichever makes the calls.
+pub fn group(name: &'static str, make: Make) -> Group {
+    let mut group = Group::new(name, Unit::Calls);
+    for (q, n) in orders_and_directions() {
+        let mut test = |name: &str, body: fn(Make, Shape, Entry, &mut Random) -> Verdict| {
+            group.test(format!("{name}, ({q}, {n})"), move |random| of_each_entry(make, q, n, body, random));
+        };
+        test("wrong slopes", wrong);
+        test("with another fault", with_another_fault);
+        test("slopes that don't count", not_counted);
+        test("shape slices", shape_slices);
+    }
+    group
+}
+
+/// Once for each entry of the harness, whose slopes are drawn.
+fn of_each_entry(
+    make: Make,
+    q: u32,
+    n: u32,
+    body: fn(Make, Shape, Entry, &mut Random) -> Verdict,
+    random: &mut Random,
+) -> Verdict {
+    let mut tried = 0;
+    for entry in ENTRIES.into_iter().filter(|entry| !entry.is_of_host()) {
+        let b = random.pick(&[1, 2, 8, 11, 31, 32]);
+        tried += body(make, random.shape(q, n, b), entry, random)?;
+    }
+    Ok(tried)
+}
+
+/// The shape with one slope changed at each place in turn: too large, or that of another place.
+fn wrong_slopes(shape: Shape) -> Vec<Shape> {
+    let mut shapes = vec![];
+    for place in 0..SLOPES {
+        let mut change = |slope: u32| {
+            let mut slopes = shape.slopes;
+            slopes[place] = slope;
+            shapes.push(shape.with_slopes(slopes));
+        };
+        [shape.q, shape.q + 1, 1 << 31, u32::MAX].into_iter().for_each(&mut change);
+        let others = shape.own_slopes().iter().enumerate().filter(|(other, _)| *other != place);
+        others.for_each(|(_, &slope)| change(slope));
+    }
+    shapes
+}
+
+/// Those of them whose change is at a place that counts.
+fn refused_slopes(shape: Shape) -> Vec<Shape> {
+    let mut shapes = wrong_slopes(shape);
+    shapes.retain(|wrong| wrong.own_slopes() != shape.own_slopes());
+    shapes
+}
+
+/// The call of another shape.
+fn reshaped(call: &Call, shape: Shape) -> Call {
+    let mut call = call.clone();
+    reshape(&mut call, shape);
+    call
+}
+
+/// A call that is turned down and leaves all as lent, each entry in its own way: an arrival says so in
+/// its outcome, a count query above 2^32, and the part that holds the marks is empty.
+fn turned_down(call: &Call, refusal: Refusal) -> After {
+    let mut after = After { answer: answer_of(Err(refusal)), slices: call.slices.clone() };
+    match call.entry {
+        Entry::Marks => after.answer = 0,
+        Entry::Count => after.answer = (1 << 32) + u64::from(refusal.number()),
+        Entry::Arrive => {
+            after.answer = 0;
+            after.slices[3] = vec![2, refusal.number(), 0];
+        }
+        _ => {}
+    }
+    after
+}
+
+fn expect(make: Make, call: &Call, expected: &After) -> Result<(), String> {
+    let shown = |found| format!("{:?} of shape {:?}: {found}", call.entry, call.shape_values());
+    difference(call.entry, expected, &make(call)).map_or(Ok(()), |found| Err(shown(found)))
+}
+
+/// Nothing else is wrong: 18 at a place that counts, no effect at another.
+fn wrong(make: Make, shape: Shape, entry: Entry, random: &mut Random) -> Verdict {
+    let call = good(entry, shape, random);
+    let right = make(&call);
+    let shapes = wrong_slopes(shape);
+    for &wrong in &shapes {
+        let call = reshaped(&call, wrong);
+        let expected = if wrong.own_slopes() == shape.own_slopes() {
+            with_slopes_of(right.clone(), &call)
+        } else {
+            turned_down(&call, Refusal::Slope)
+        };
+        expect(make, &call, &expected)?;
+    }
+    Ok(shapes.len() as u64)
+}
+
+/// A wrong slope beside something else: 1 comes before it, everything else after.
+fn with_another_fault(make: Make, shape: Shape, entry: Entry, random: &mut Random) -> Verdict {
+    let mut tried = 0;
+    let call = good(entry, shape, random);
+    for wrong in refused_slopes(shape) {
+        for (q, n, b) in [(9, shape.n, shape.b), (shape.q, 9, shape.b), (shape.q, 1, shape.b), (shape.q, shape.n, 33)] {
+            let call = reshaped(&call, Shape { q, n, b, ..wrong });
+            expect(make, &call, &turned_down(&call, Refusal::Shape))?;
+            tried += 1;
+        }
+        for call in later_faults(&reshaped(&call, wrong), random) {
+            expect(make, &call, &turned_down(&call, Refusal::Slope))?;
+            tried += 1;
+        }
+    }
+    Ok(tried)
+}
+
+/// The call with a fault that a later test would find: a slice of wrong length, a number too large.
+fn later_faults(call: &Call, random: &mut Random) -> Vec<Call> {
+    let mut calls = vec![Call { number: u32::MAX, ..call.clone() }];
+    for i in (0..call.slices.len()).filter(|&i| !crosses(call.entry, i)) {
+        let mut spoiled = |slice: Vec<u32>| {
+            let mut call = call.clone();
+            call.slices[i] = slice;
+            calls.push(call);
+        };
+        let slice = &call.slices[i];
+        spoiled(vec![u32::MAX; slice.len()]);
+        for length in [0, slice.len().saturating_sub(1), slice.len() + 1] {
+            spoiled(resized(slice, length, random));
+        }
+    }
+    calls
+}
+
+/// What the harness needs to get a call across, so that its length comes first: the session and the
+/// outcome, and both of the lists that are to be of one length.
+fn crosses(entry: Entry, i: usize) -> bool {
+    matches!((entry, i), (Entry::Count, 0) | (Entry::Arrive, 0 | 3) | (Entry::Marks, _))
+}
+
+/// Shapes that agree on what counts: same answers, same words.
+fn not_counted(make: Make, shape: Shape, entry: Entry, random: &mut Random) -> Verdict {
+    let rounds = 4;
+    for _ in 0..rounds {
+        let mut call = good(entry, shape, random);
+        if random.one_in(2) {
+            // A refusal too must be the same.
+            let mut faults = later_faults(&call, random);
+            call = faults.swap_remove(random.below(faults.len()));
+        }
+        let right = make(&call);
+        let call = reshaped(&call, random.other_slopes(shape));
+        expect(make, &call, &with_slopes_of(right, &call))?;
+    }
+    Ok(rounds)
+}
+
+/// A session keeps all slopes as they were lent, and a fresh one has those of its shape.
+fn with_slopes_of(mut after: After, call: &Call) -> After {
+    let holds_shape = call.entry.takes_session() || call.entry == Entry::Fresh && after.answer == 0;
+    if holds_shape {
+        after.slices[0][..SHAPE_LEN].copy_from_slice(&call.shape.values());
+    }
+    after
+}
+
+/// A shape slice of another length is 2, whatever is in it and whatever else is wrong.
+fn shape_slices(make: Make, shape: Shape, entry: Entry, random: &mut Random) -> Verdict {
+    if !entry.takes_shape() {
+        return Ok(0);
+    }
+    let mut tried = 0;
+    let call = good(entry, shape, random);
+    let mut calls = later_faults(&call, random);
+    calls.push(call);
+    for values in [shape.values(), Shape { b: 33, ..shape }.values(), [u32::MAX; SHAPE_LEN]] {
+        for length in [0, 1, 3, SHAPE_LEN - 1, SHAPE_LEN + 1, 2 * SHAPE_LEN] {
+            for call in &calls {
+                let call = Call { lent_shape: Some(resized(&values, length, random)), ..call.clone() };
+                let expected = After { answer: answer_of(Err(Refusal::Length)), slices: call.slices.clone() };
+                expect(make, &call, &expected)?;
+                tried += 1;
+            }
+        }
+    }
+    Ok(tried)
+}
