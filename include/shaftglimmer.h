@@ -5,7 +5,7 @@
  * A shape is three numbers: the order q (3, 5, 7, 11, 13, 17, 19, 23, 29 or 31), the directions n
  * (from 2 to the smaller of q and 8) and the width b (1 to 32). A word has q * q digits and carries
  * K = (q - 1) * (q + 1 - n) data digits. Digits are below 2^b and cross as bytes, four a digit, low
- * byte first.
+ * byte first. The slopes of the directions are 0, 1, 2, ...
  *
  * Both functions answer every input and never fail otherwise. They keep no state and no pointer, and
  * touch no memory but the slice that they are lent; they may be called from several threads. A
