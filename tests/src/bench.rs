@@ -13,7 +13,8 @@ pub fn run() {
     println!(
         "The slopes are the standard ones; the library goes by those of the shape, the other two know only these."
     );
-    println!("In an arrival the session crosses as 1,290 numbers and is written back after taken, for all three.");
+    println!("In an arrival the session crosses as 1,292 numbers, its two figures are tested, and it is written back");
+    println!("after taken, for all three.");
     println!();
     let mut missed = words::table();
     println!();

@@ -2,7 +2,7 @@
 
 use crate::reference::page::{read_page, write_page};
 use crate::reference::reader::decode;
-use crate::reference::session::{Session, SESSION_LEN};
+use crate::reference::session::{Outcome, Session, SESSION_LEN};
 use crate::reference::shape::{Refusal, Shape, SHAPE_LEN};
 use crate::reference::writer::{encode, extract};
 
@@ -162,13 +162,17 @@ fn count(session: &[u32], function: u32) -> u64 {
     result.map_or_else(|refusal| (1 << 32) + u64::from(refusal.number()), u64::from)
 }
 
+/// The session is written back only after a page was taken.
 fn arrive(session: &mut [u32], word: &mut [u32], scratch: &mut [u32], outcome: &mut [u32]) -> Result<u32, Refusal> {
     if session.len() != SESSION_LEN || outcome.len() != 3 {
         return Err(Refusal::Length);
     }
     let mut state = Session::from_values(session);
-    outcome.copy_from_slice(&state.arrive(word, scratch).values());
-    session.copy_from_slice(&state.values());
+    let answer = state.arrive(word, scratch);
+    outcome.copy_from_slice(&answer.values());
+    if let Outcome::Taken { .. } = answer {
+        session.copy_from_slice(&state.values());
+    }
     Ok(0)
 }
 

@@ -4,6 +4,7 @@ mod calls;
 #[cfg(not(feature = "reference-only"))]
 pub mod codec;
 mod faults;
+pub mod figures;
 #[cfg(not(feature = "reference-only"))]
 pub mod pages;
 pub mod reference;

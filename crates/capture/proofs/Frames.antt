@@ -12,6 +12,7 @@ use lib.Seq.{length-take-le}
 use Rattle.parity.proofs.Tests.{either}
 use Rattle.lines.specs.Text.{Put}
 use Rattle.lines.specs.Parse.{FirstNewline}
+use Rattle.session.specs.Session.{Consistent}
 use Rattle.capture.specs.declared.Tally.{Tally}
 use Rattle.capture.specs.declared.Judged.{Judged}
 use Rattle.capture.specs.declared.Reader.{Reader}
@@ -19,6 +20,7 @@ use Rattle.capture.specs.Output.{answerText}
 use Rattle.capture.specs.Judge.{judgedOf}
 use Rattle.capture.specs.Feed.{Fed, after, feed}
 use Rattle.capture.specs.Steps.{Appended, LineSoFar, Extended, LineEnded, BlockTaken}
+use Rattle.capture.proofs.Figures.{judged-consistent}
 use Rattle.capture.proofs.Texts.{put-appended}
 use Rattle.capture.proofs.Judges.{long-judged}
 use Rattle.capture.proofs.Feeds.{after-after, piece, feed-rest, feed-line}
@@ -81,15 +83,16 @@ judged-held t {buffer} {line} {held} {end} e h =
     ap (λ (k : ℕ). judgedOf t (take k buffer)) (e .long l) ∙ sym (long-judged t line (h .long l)))
     (either (ltb held 16384))
 
-pub line-ended : (reader : Reader) {buffer out scratch′ out′ : List ℕ} {j : Judged} {end at : ℕ} → End (reader .held) end
+pub line-ended : (reader : Reader) {buffer out scratch′ out′ : List ℕ} {j : Judged} {end at : ℕ} → Consistent (reader .tally .session) → End (reader .held) end
     → j ≡ judgedOf (reader .tally) (take end buffer) → length scratch′ ≡ 7688
     → Appended out (reader .at) (answerText (j .answer)) out′ at → at ≤ reader .at + 30
     → LineEnded reader buffer out scratch′ out′ (record { tally = j .tally; held = 0; at = at })
-line-ended reader {out = out} {out′ = out′} {j = j} {at = at} e is room a few =
+line-ended reader {buffer = buffer} {out = out} {out′ = out′} {j = j} {end = end} {at = at} right e is room a few =
     record {
       tally = λ line h. ap (λ (x : Judged). x .tally) (is ∙ judged-held (reader .tally) e h);
       output = λ line h.
           subst (λ (x : Judged). Appended out (reader .at) (answerText (x .answer)) out′ at) (is ∙ judged-held (reader .tally) e h) a;
+      figures = subst (λ (x : Judged). Consistent (x .tally .session)) (sym is) (judged-consistent (reader .tally) (take end buffer) right);
       empty = refl;
       short = few;
       size = a .size;
@@ -105,6 +108,7 @@ pub record Left (fed : Fed) (block buffer out : List ℕ) (reader : Reader) (fro
 
 pub record Reading (reader₀ : Reader) (buffer₀ block buffer scratch out : List ℕ) (reader : Reader) (from : ℕ) : Type 0 where
   pub left : (line : List ℕ) → LineSoFar buffer₀ (reader₀ .held) line → Left (feed (reader₀ .tally) line block) block buffer out reader from
+  pub figures : Consistent (reader .tally .session)
   pub low : from ≤ length block
   pub few : reader .at ≤ 30 * from
   pub buffer-size : length buffer ≡ 16384
@@ -112,11 +116,12 @@ pub record Reading (reader₀ : Reader) (buffer₀ block buffer scratch out : Li
   pub out-size : length out ≡ 491584
 
 -- none yet
-pub reading-begins : (reader : Reader) (buffer block scratch out : List ℕ) → reader .at ≡ 0 → length buffer ≡ 16384 → length scratch ≡ 7688 → length out ≡ 491584
+pub reading-begins : (reader : Reader) (buffer block scratch out : List ℕ) → Consistent (reader .tally .session) → reader .at ≡ 0 → length buffer ≡ 16384 → length scratch ≡ 7688 → length out ≡ 491584
     → Reading reader buffer block buffer scratch out reader 0
-reading-begins reader buffer block scratch out none b s o =
+reading-begins reader buffer block scratch out right none b s o =
     record {
       left = λ line h. record { line = line; held = h; same = ap (λ (k : ℕ). after (take k out) (feed (reader .tally) line block)) none };
+      figures = right;
       low = omega arith;
       few = omega arith;
       buffer-size = b;
@@ -143,6 +148,7 @@ module _ {reader₀ : Reader} {buffer₀ block buffer scratch out : List ℕ} {r
               held = subst (LineSoFar buffer′ held′) (ap (λ (y : Fed). y .held) end) (x .joined (l .line) (l .held));
               output = sym (append-nil (take (reader .at) out)) ∙ ap (λ (y : Fed). y .text) end;
             };
+        figures = r .figures;
         within = omega (arith, r .few, r .low);
         line = x .size;
         room = r .scratch-size;
@@ -170,6 +176,7 @@ module _ {reader₀ : Reader} {buffer₀ block buffer scratch out : List ℕ} {r
                   ∙ ap (after (take (reader .at) out)) (sym (feed-line (reader .tally) (l .line) f more))
                   ∙ l .same;
             };
+        figures = e .figures;
         low = omega arith;
         few = omega (arith, r .few, e .short, f .low);
         buffer-size = x .size;

@@ -50,7 +50,7 @@ abbrev pub shaped : Session → Content → Judged
 shaped σ (Spelled xs) = cond (eqb (length xs) 3) (begun σ (shapeIn xs) (freshStatus (shapeIn xs))) (fault σ Refusal.Syntax)
 shaped σ Unreadable = fault σ Refusal.Syntax
 
--- the values of a word line arrive; what the scratch holds has no bearing
+-- the values of a word line arrive at a session whose figures are right; what the scratch holds has no bearing
 abbrev pub broughtBy : Session → List ℕ → Opened
 broughtBy σ xs = opened clean (σ .shape) xs (replicate (scratchLength (σ .shape)) 0)
 

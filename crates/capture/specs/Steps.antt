@@ -7,6 +7,7 @@ use lib.Dec.{eqb}
 use lib.ListN.{length, take}
 use Rattle.gtb.specs.declared.Shape.{Shape}
 use Rattle.gtb.specs.Shape.{lawful, scratchLength}
+use Rattle.session.specs.Session.{Consistent}
 use Rattle.capture.specs.declared.Tally.{Tally}
 use Rattle.capture.specs.declared.Reader.{Reader}
 use Rattle.capture.specs.Output.{answerText}
@@ -40,6 +41,7 @@ pub record LineEnded (reader : Reader) (buffer out scratch′ out′ : List ℕ)
   pub tally : (line : List ℕ) → LineSoFar buffer (reader .held) line → r .tally ≡ judgedOf (reader .tally) line .tally
   pub output : (line : List ℕ) → LineSoFar buffer (reader .held) line
       → Appended out (reader .at) (answerText (judgedOf (reader .tally) line .answer)) out′ (r .at)
+  pub figures : Consistent (r .tally .session)
   pub empty : r .held ≡ 0
   pub short : r .at ≤ reader .at + 30
   pub size : length out′ ≡ length out
@@ -53,6 +55,7 @@ pub record FedBy (fed : Fed) (buffer′ out′ : List ℕ) (r : Reader) : Type 0
 
 pub record BlockTaken (reader : Reader) (buffer block buffer′ scratch′ out′ : List ℕ) (r : Reader) : Type 0 where
   pub fed : (line : List ℕ) → LineSoFar buffer (reader .held) line → FedBy (feed (reader .tally) line block) buffer′ out′ r
+  pub figures : Consistent (r .tally .session)
   pub within : r .at ≤ 491584
   pub line : length buffer′ ≡ 16384
   pub room : length scratch′ ≡ 7688

@@ -13,7 +13,7 @@ ghost use mathlib.Core.Path.{_≡_};
 ghost use Prim.Native.Nat.{_<_};
 ghost use lib.ListN.{length};
 ghost use Rattle.lines.specs.Content.{contentOf};
-ghost use Rattle.session.specs.Session.{freshStatus};
+ghost use Rattle.session.specs.Session.{Consistent, freshStatus};
 ghost use Rattle.capture.specs.Judge.{passed, fault, named, begun, shaped, worded, judgedOf};
 ghost use Rattle.capture.specs.Steps.{Room};
 
@@ -93,9 +93,9 @@ fn room_for(shape: Shape) -> usize
     0
 }
 
-// A word line. No word has 1024 values, so that of a longer line the first 1024 stand for all.
+// A word line. No word has 1024 values, so that of a longer line the first 1024 stand for all. The session's figures are right, so that no word pays for their test.
 fn take_word(session: Session, line: &[u8], scratch: &mut [u32]) -> Judged
-    requires { ⌜ length (now scratch) ≡ 7688 ⌝ }
+    requires { ⌜ Consistent session × (length (now scratch) ≡ 7688) ⌝ }
     ensures { λ r. ⌜ (r ≡ worded session (contentOf (now (line .entry)))) × (length (now (scratch .exit)) ≡ 7688) ⌝ }
 {
     let mut values = [0u32; 1024];
@@ -111,7 +111,7 @@ fn take_word(session: Session, line: &[u8], scratch: &mut [u32]) -> Judged
     let size = if count < 1024 { count } else { 1024 };
     let shape = session.shape;
     let room = room_for(shape);
-    let arrived = session.arrive(&mut values[..size], &mut scratch[..room]);
+    let arrived = session.step(&mut values[..size], &mut scratch[..room]);
     let after = arrived.session;
     let outcome = arrived.outcome;
     Judged {
@@ -124,7 +124,7 @@ fn take_word(session: Session, line: &[u8], scratch: &mut [u32]) -> Judged
 }
 
 pub fn judge(tally: Tally, line: &[u8], scratch: &mut [u32]) -> Judged
-    requires { ⌜ (length (now line) < 16384) × (length (now scratch) ≡ 7688) ⌝ }
+    requires { ⌜ Consistent (tally .session) × (length (now line) < 16384) × (length (now scratch) ≡ 7688) ⌝ }
     ensures { λ r. ⌜ (r ≡ judgedOf tally (now (line .entry))) × (length (now (scratch .exit)) ≡ 7688) ⌝ }
 {
     let phase = tally.phase;

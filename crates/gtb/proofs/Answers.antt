@@ -1,11 +1,11 @@
 -- Answers that carry no value: they are told apart, and what an answer that is no refusal shows.
-use mathlib.Core.Path.{_≡_, refl, ap}
+use mathlib.Core.Path.{_≡_, refl, sym, ap}
 use mathlib.Core.Bool.{Bool, true, false}
 use mathlib.Core.List.{List}
 use mathlib.Core.Logic.{⊎-elim}
-use Prim.Native.Nat.{ℕ, _≤_}
+use Prim.Native.Nat.{ℕ, _<_, _≤_}
 use native.Mathlib.Omega.{arith}
-use lib.Dec.{eqb, lit≤}
+use lib.Dec.{eqb, lit≤, lit<}
 use borrow.Author.Tests.{eqb-false}
 use lib.ListN.{length, length-replicate}
 use Rattle.parity.proofs.Tests.{either}
@@ -55,6 +55,7 @@ refusal-small Refusal.Function = lit≤ tt
 refusal-small Refusal.Tail = lit≤ tt
 refusal-small Refusal.Overflow = lit≤ tt
 refusal-small Refusal.Syntax = lit≤ tt
+refusal-small Refusal.Figures = lit≤ tt
 refusal-small Refusal.Slope = lit≤ tt
 
 -- a refusal leaves a scratch of the same length
@@ -91,15 +92,21 @@ pub record Foreign (s : Shape) (e : Refusal) : Type 0 where
   pub function : Refusal.Function ≡ e → ⊥
   pub tail : Refusal.Tail ≡ e → ⊥
 
--- 9 is one
-pub nine-foreign : (s : Shape) → Foreign s Refusal.Overflow
-nine-foreign s = record {
-  shape = λ no. shape-refusal-both (λ e. e ≡ Refusal.Overflow → ⊥) (other-refusal _ _ refl) (other-refusal _ _ refl) s;
-  length = other-refusal _ _ refl;
-  width = other-refusal _ _ refl;
-  damage = other-refusal _ _ refl;
-  page = other-refusal _ _ refl;
-  count = other-refusal _ _ refl;
-  function = other-refusal _ _ refl;
-  tail = other-refusal _ _ refl;
+-- each with a number above 8 is one, 18 apart
+pub late-foreign : (s : Shape) (e : Refusal) → 8 < refusalNumber e → (refusalNumber e ≡ 18 → ⊥) → Foreign s e
+late-foreign s e above other = record {
+  shape = λ no. shape-refusal-both (λ e′. e′ ≡ e → ⊥) (low Refusal.Shape (lit≤ tt)) (λ h. other (sym (ap refusalNumber h))) s;
+  length = low Refusal.Length (lit≤ tt);
+  width = low Refusal.Width (lit≤ tt);
+  damage = low Refusal.Uncorrectable (lit≤ tt);
+  page = low Refusal.Page (lit≤ tt);
+  count = low Refusal.Count (lit≤ tt);
+  function = low Refusal.Function (lit≤ tt);
+  tail = low Refusal.Tail (lit≤ tt);
 }
+  where
+    low : (e′ : Refusal) → refusalNumber e′ ≤ 8 → e′ ≡ e → ⊥
+    low e′ few h = let same = ap refusalNumber h in omega (arith, same, few, above)
+
+pub nine-foreign : (s : Shape) → Foreign s Refusal.Overflow
+nine-foreign s = late-foreign s Refusal.Overflow (lit< tt) (λ h. omega arith)

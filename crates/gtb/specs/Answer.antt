@@ -19,6 +19,7 @@ refusalNumber Refusal.Function = 7
 refusalNumber Refusal.Tail = 8
 refusalNumber Refusal.Overflow = 9
 refusalNumber Refusal.Syntax = 10
+refusalNumber Refusal.Figures = 11
 refusalNumber Refusal.Slope = 18
 
 -- as one number: 0, or 2^31 plus the refusal's
@@ -48,6 +49,7 @@ isEarly Refusal.Function = false
 isEarly Refusal.Tail = false
 isEarly Refusal.Overflow = false
 isEarly Refusal.Syntax = false
+isEarly Refusal.Figures = true
 isEarly Refusal.Slope = true
 
 -- the scratch after a refusal: as lent after an early one, zeros after every other

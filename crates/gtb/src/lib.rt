@@ -33,6 +33,7 @@ pub enum Refusal {
     Tail, // tail
     Overflow, // worn
     Syntax, // text
+    Figures, // figures
     Slope, // slope
 }
 

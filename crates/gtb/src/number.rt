@@ -19,6 +19,7 @@ pub fn refusal(refusal: Refusal) -> u32
         Refusal::Tail => 8,
         Refusal::Overflow => 9,
         Refusal::Syntax => 10,
+        Refusal::Figures => 11,
         Refusal::Slope => 18,
     }
 }

@@ -65,11 +65,11 @@ module _ (s : Shape) (session : List ℕ) where
   unfolding beginningOf freshStatus
   fresh-shape h = fresh-refused (refuses (lawful s) _ _ _ h)
 
-  pub fresh-length : {r : ℕ} → freshStatus s ≡ Done → (length session ≡ 1290 → ⊥) → r ≡ 2 ^ 31 + refusalNumber Refusal.Length → FreshCrossing s session session r
+  pub fresh-length : {r : ℕ} → freshStatus s ≡ Done → (length session ≡ 1292 → ⊥) → r ≡ 2 ^ 31 + refusalNumber Refusal.Length → FreshCrossing s session session r
   unfolding beginningOf freshStatus
   fresh-length h l = fresh-refused {e = Refusal.Length} (passes (lawful s) _ _ h ∙ rw (ne-eqb _ _ l))
 
-  pub fresh-done : {σ : Session} {session′ : List ℕ} → freshStatus s ≡ Done → length session ≡ 1290 → σ ≡ freshOf s → session′ ≡ valuesOf σ → FreshCrossing s session session′ 0
+  pub fresh-done : {σ : Session} {session′ : List ℕ} → freshStatus s ≡ Done → length session ≡ 1292 → σ ≡ freshOf s → session′ ≡ valuesOf σ → FreshCrossing s session session′ 0
   unfolding beginningOf freshStatus
   fresh-done h l f v =
       let done : beginningOf s session ≡ Done = passes (lawful s) _ _ h ∙ rw (eq-eqb _ _ l) in
@@ -77,11 +77,11 @@ module _ (s : Shape) (session : List ℕ) where
 
 -- ---- a count query
 module _ (session : List ℕ) (f : ℕ) where
-  pub count-length : (length session ≡ 1290 → ⊥) → countedIn session f ≡ counted.Refused Refusal.Length
+  pub count-length : (length session ≡ 1292 → ⊥) → countedIn session f ≡ counted.Refused Refusal.Length
   unfolding countedIn
   count-length l = rw (ne-eqb _ _ l)
 
-  pub count-past : length session ≡ 1290 → countedIn session f ≡ countedOf (sessionOf session) f
+  pub count-past : length session ≡ 1292 → countedIn session f ≡ countedOf (sessionOf session) f
   unfolding countedIn
   count-past l = rw (eq-eqb _ _ l)
 
@@ -97,14 +97,14 @@ as-it-was session σ (Again p k) h = refl
 as-it-was session σ (Refused e) h = refl
 
 module _ (session word scratch outcome : List ℕ) where
-  pub arrive-wrong : {r : ℕ} → ((length session ≡ 1290) × (length outcome ≡ 3) → ⊥) → r ≡ 2 ^ 31 + refusalNumber Refusal.Length
+  pub arrive-wrong : {r : ℕ} → ((length session ≡ 1292) × (length outcome ≡ 3) → ⊥) → r ≡ 2 ^ 31 + refusalNumber Refusal.Length
       → ArriveCrossing session word scratch outcome session word scratch outcome r
   arrive-wrong h is = record {
     right = λ l m. absurd (h (l, m));
     wrong = λ _. record { sessionLeft = refl; wordLeft = refl; scratchLeft = refl; outcomeLeft = refl; answer = is };
   }
 
-  pub arrive-right : {σ : Session} {session′ word′ scratch′ outcome′ : List ℕ} (a : Arrived) → length session ≡ 1290 → length outcome ≡ 3
+  pub arrive-right : {σ : Session} {session′ word′ scratch′ outcome′ : List ℕ} (a : Arrived) → length session ≡ 1292 → length outcome ≡ 3
       → σ ≡ sessionOf session → arrival.Arriving clean σ word scratch word′ scratch′ a
       → session′ ≡ sessionIn session (a .session) (a .outcome) → outcome′ ≡ outcomeValues (a .outcome)
       → ArriveCrossing session word scratch outcome session′ word′ scratch′ outcome′ 0

@@ -1,13 +1,13 @@
 -- Lists that cross element by element, and where the parts of a session lie among its values.
 use mathlib.Core.Path.{_≡_, refl, sym, ap, _∙_}
-use mathlib.Core.Bool.{Bool, true, false}
+use mathlib.Core.Bool.{Bool}
 use mathlib.Core.List.{List, [], _∷_, _++_, map, append-nil, append-assoc}
 use Prim.Native.Nat.{ℕ, _+_, _-_, _<_}
 use native.Mathlib.Numerals.{add-one}
 use native.Mathlib.Omega.{arith}
 use lib.ListN.{length, getD, take, drop, set, length-map, length-set, length-append, length-drop}
 use lib.Seq.{drop-cons, drop-length, take-suc-set, take-length, append-snoc, take-at}
-use mir.Val.{Val, boolByte}
+use mir.Val.{Val}
 use denote.Shadow.{shadow}
 use denote.Struct.Field.{u32-field, array-field}
 use borrow.Rule.Slice.PartMut.{midOf, putMid, same-len-mid, mid-len}
@@ -17,12 +17,6 @@ use Rattle.session.specs.declared.Session.{Session}
 use Rattle.session.proofs.Arrive.{whole-copy}
 use Rattle.gtb.specs.declared.Shape.{Shape}
 use Rattle.harness.specs.Crossing.{shapeIn, shapeValues, isYes, sessionOf, valuesOf}
-
--- yes as a number, as the cast gives it
-pub bit-byte : (b : Bool) → boolByte b ≡ bit b
-unfolding bit
-bit-byte true = refl
-bit-byte false = refl
 
 module _ {A B : Type 0} (f : A → B) (from : List A) (to : List B) (i : ℕ) (e : take i to ++ map f (drop i from) ≡ map f from) where
   -- i elements have crossed, and one more does
@@ -68,34 +62,52 @@ module _ (v : List ℕ) (s : Shape) where
 
 -- ---- a session
 -- the session, from its parts as the code lends them
-pub loaded : (v : List ℕ) {shape : Shape} {taken : List Bool} {calls : List ℕ} → shape ≡ shapeIn (take 10 v) → taken ≡ map isYes (midOf 10 1024 v)
-    → calls ≡ midOf 1034 (length v - 1034) v → _≡_ {A = Session} (record { shape = shape; taken = taken; calls = calls }) (sessionOf v)
+pub loaded : (v : List ℕ) {shape : Shape} {taken : List Bool} {calls : List ℕ} → shape ≡ shapeIn (take 10 v) → taken ≡ map isYes (midOf 12 1024 v)
+    → calls ≡ midOf 1036 (length v - 1036) v
+    → _≡_ {A = Session} (record { shape = shape; taken = taken; calls = calls; pages = getD v 10 0; lowest = getD v 11 0 }) (sessionOf v)
 unfolding sessionOf
-loaded v s t c = rw (s, t, c, rest-part 1034 v)
+loaded v s t c = rw (s, t, c, rest-part 1036 v)
 
--- the values, once the shape and the marks are stored
-abbrev pub begun : List ℕ → List ℕ → List ℕ → List ℕ
-begun v head marks = putMid 10 1024 (head ++ drop 10 v) marks
+-- the values, once the shape and the two figures are stored
+abbrev pub figured : List ℕ → List ℕ → Session → List ℕ
+figured v head σ = set (set (head ++ drop 10 v) 10 (σ .pages)) 11 (σ .lowest)
 
-module _ (v head marks : List ℕ) (size : length v ≡ 1290) (ten : length head ≡ 10) (kept : length marks ≡ length (midOf 10 1024 (head ++ drop 10 v))) where
-  whole : length (head ++ drop 10 v) ≡ 1290
+-- and the marks
+abbrev pub begun : List ℕ → List ℕ → Session → List ℕ → List ℕ
+begun v head σ marks = putMid 12 1024 (figured v head σ) marks
+
+module _ (v head : List ℕ) (σ : Session) (size : length v ≡ 1292) (ten : length head ≡ 10) where
+  whole : length (head ++ drop 10 v) ≡ 1292
   whole = simp (length-append, length-drop) (omega arith)
 
-  front : take 1034 (begun v head marks) ≡ head ++ marks
-  front =
-      let few : length marks ≡ 1024 = kept ∙ mid-len 10 1034 (head ++ drop 10 v) (omega (arith, whole)) in
-      rw (take-at head (drop 10 v) 10 ten, ← append-assoc) (take-at (head ++ marks) _ 1034 (simp length-append (omega arith)))
+  pub paged-size : length (set (head ++ drop 10 v) 10 (σ .pages)) ≡ 1292
+  paged-size = simp length-set whole
 
-  -- the counts fill what is left
-  pub counts-room : length (midOf 1034 (length (begun v head marks) - 1034) (begun v head marks)) ≡ 256
-  counts-room =
-      let all : length (begun v head marks) ≡ 1290 = same-len-mid 10 1024 (head ++ drop 10 v) marks kept ∙ whole in
-      rw (rest-part 1034 (begun v head marks)) (length-drop 1034 (begun v head marks) ∙ omega arith)
+  pub figured-size : length (figured v head σ) ≡ 1292
+  figured-size = simp length-set whole
 
-  pub stored : (σ : Session) {part : List ℕ} → head ≡ shapeValues (σ .shape) → marks ≡ map bit (σ .taken) → length (σ .calls) ≡ 256 →
-      part ≡ σ .calls ++ drop (length (σ .calls)) (midOf 1034 (length (begun v head marks) - 1034) (begun v head marks)) →
-      putMid 1034 (length (begun v head marks) - 1034) (begun v head marks) part ≡ valuesOf σ
-  unfolding valuesOf
-  stored σ {part} h m few p =
-      let filled : part ≡ σ .calls = p ∙ whole-copy (σ .calls) _ (few ∙ sym counts-room) in
-      put-rest 1034 (begun v head marks) part ∙ rw (front, filled, append-assoc, h, m)
+  twelve : take 12 (figured v head σ) ≡ head ++ (σ .pages ∷ σ .lowest ∷ [])
+  twelve =
+      take-suc-set (set (head ++ drop 10 v) 10 (σ .pages)) 11 (σ .lowest) (omega (arith, paged-size))
+      ∙ rw (take-suc-set (head ++ drop 10 v) 10 (σ .pages) (omega (arith, whole)), take-at head (drop 10 v) 10 ten, append-snoc)
+
+  module _ (marks : List ℕ) (kept : length marks ≡ length (midOf 12 1024 (figured v head σ))) where
+    front : take 1036 (begun v head σ marks) ≡ head ++ (σ .pages ∷ σ .lowest ∷ marks)
+    front =
+        let few : length marks ≡ 1024 = kept ∙ mid-len 12 1036 (figured v head σ) (omega (arith, figured-size)) in
+        rw (twelve, ← append-assoc) (take-at (head ++ (σ .pages ∷ σ .lowest ∷ []) ++ marks) _ 1036 (simp length-append (omega arith)) ∙ append-assoc head _ marks)
+
+    pub begun-size : length (begun v head σ marks) ≡ 1292
+    begun-size = same-len-mid 12 1024 (figured v head σ) marks kept ∙ figured-size
+
+    -- the counts fill what is left
+    pub counts-room : length (midOf 1036 (length (begun v head σ marks) - 1036) (begun v head σ marks)) ≡ 256
+    counts-room = rw (rest-part 1036 (begun v head σ marks)) (length-drop 1036 (begun v head σ marks) ∙ omega (arith, begun-size))
+
+    pub stored : {part : List ℕ} → head ≡ shapeValues (σ .shape) → marks ≡ map bit (σ .taken) → length (σ .calls) ≡ 256 →
+        part ≡ σ .calls ++ drop (length (σ .calls)) (midOf 1036 (length (begun v head σ marks) - 1036) (begun v head σ marks)) →
+        putMid 1036 (length (begun v head σ marks) - 1036) (begun v head σ marks) part ≡ valuesOf σ
+    unfolding valuesOf
+    stored {part} h m few p =
+        let filled : part ≡ σ .calls = p ∙ whole-copy (σ .calls) _ (few ∙ sym counts-room) in
+        put-rest 1036 (begun v head σ marks) part ∙ rw (front, filled, append-assoc, h, m)

@@ -1,4 +1,4 @@
--- A shape as ten values: q, n, b and the slopes. A session as 10 + 1024 + 256: its shape, the page marks and the calls counts.
+-- A shape as ten values: q, n, b and the slopes. A session as 10 + 2 + 1024 + 256: its shape, pages taken and lowest page not taken, the page marks and the calls counts.
 use mathlib.Core.Bool.{Bool, not}
 use mathlib.Core.List.{List, _∷_, _++_, map}
 use Prim.Native.Nat.{ℕ}
@@ -19,7 +19,7 @@ abbrev pub isYes : ℕ → Bool
 isYes x = not (eqb x 0)
 
 unfoldable pub sessionOf : List ℕ → Session
-sessionOf v = record { shape = shapeIn (take 10 v); taken = map isYes (take 1024 (drop 10 v)); calls = drop 1034 v }
+sessionOf v = record { shape = shapeIn (take 10 v); taken = map isYes (take 1024 (drop 12 v)); calls = drop 1036 v; pages = getD v 10 0; lowest = getD v 11 0 }
 
 unfoldable pub valuesOf : Session → List ℕ
-valuesOf σ = shapeValues (σ .shape) ++ (map bit (σ .taken) ++ σ .calls)
+valuesOf σ = shapeValues (σ .shape) ++ (σ .pages ∷ σ .lowest ∷ (map bit (σ .taken) ++ σ .calls))

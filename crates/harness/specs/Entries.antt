@@ -45,7 +45,7 @@ pub record MarksCrossing (s : Shape) (symbols marks marks′ : List ℕ) (r : �
 
 -- a fresh session tests 1 and 18, then the length of the slice
 unfoldable pub beginningOf : Shape → List ℕ → Status
-beginningOf s session = unless (lawful s) (status.Refused (shapeRefusal s)) (unless (eqb (length session) 1290) (status.Refused Refusal.Length) Done)
+beginningOf s session = unless (lawful s) (status.Refused (shapeRefusal s)) (unless (eqb (length session) 1292) (status.Refused Refusal.Length) Done)
 
 -- a refusal leaves the slice as it was
 abbrev pub freshIn : Shape → List ℕ → Status → List ℕ
@@ -58,7 +58,7 @@ pub record FreshCrossing (s : Shape) (session session′ : List ℕ) (r : ℕ) :
 
 -- a count query tests the length of the slice first
 unfoldable pub countedIn : List ℕ → ℕ → Counted
-countedIn session f = unless (eqb (length session) 1290) (counted.Refused Refusal.Length) (countedOf (sessionOf session) f)
+countedIn session f = unless (eqb (length session) 1292) (counted.Refused Refusal.Length) (countedOf (sessionOf session) f)
 
 -- a session is written only after a page was taken
 abbrev pub sessionIn : List ℕ → Session → Outcome → List ℕ
@@ -83,5 +83,5 @@ pub record Untouched (session word scratch outcome session′ word′ scratch′
   pub answer : r ≡ statusNumber (status.Refused Refusal.Length)
 
 pub record ArriveCrossing (session word scratch outcome session′ word′ scratch′ outcome′ : List ℕ) (r : ℕ) : Type 0 where
-  pub right : length session ≡ 1290 → length outcome ≡ 3 → Arrives session word scratch session′ word′ scratch′ outcome′ r
-  pub wrong : ((length session ≡ 1290) × (length outcome ≡ 3) → ⊥) → Untouched session word scratch outcome session′ word′ scratch′ outcome′ r
+  pub right : length session ≡ 1292 → length outcome ≡ 3 → Arrives session word scratch session′ word′ scratch′ outcome′ r
+  pub wrong : ((length session ≡ 1292) × (length outcome ≡ 3) → ⊥) → Untouched session word scratch outcome session′ word′ scratch′ outcome′ r

@@ -1,4 +1,4 @@
-// A shape as ten values, a session as 10 + 1024 + 256, and an outcome as three.
+// A shape as ten values, a session as 10 + 2 + 1024 + 256, and an outcome as three.
 use gtb::Shape;
 use session::Outcome;
 use session::Session;
@@ -13,7 +13,7 @@ ghost use Rattle.harness.specs.Crossing.{shapeIn, shapeValues, isYes, se
 pub const SHAPE: usize = 10;
 
 // How many values a session crosses as.
-pub const LENGTH: usize = 1290;
+pub const LENGTH: usize = 1292;
 
 // The shape in the values.
 pub fn load_shape(values: &[u32]) -> Shape
@@ -65,13 +65,15 @@ fn load_calls(values: &[u32]) -> [u32; 256]
 
 // The session in the values.
 pub fn load(values: &[u32]) -> Session
-    requires { ⌜ length (now values) ≡ 1290 ⌝ }
+    requires { ⌜ length (now values) ≡ 1292 ⌝ }
     ensures { λ r. ⌜ r ≡ sessionOf (now (values .entry)) ⌝ }
 {
     Session {
         shape: load_shape(&values[..10]),
-        taken: load_taken(&values[10..1034]),
-        calls: load_calls(&values[1034..]),
+        taken: load_taken(&values[12..1036]),
+        calls: load_calls(&values[1036..]),
+        pages: values[10],
+        lowest: values[11],
     }
 }
 
@@ -87,15 +89,17 @@ fn store_taken(taken: [bool; 1024], values: &mut [u32])
 
 // The values of the session.
 pub fn store(session: Session, values: &mut [u32])
-    requires { ⌜ length (now values) ≡ 1290 ⌝ }
+    requires { ⌜ length (now values) ≡ 1292 ⌝ }
     ensures { λ _. ⌜ now (values .exit) ≡ valuesOf session ⌝ }
 {
     let shape = session.shape;
     let taken = session.taken;
     let calls = session.calls;
     store_shape(shape, &mut values[..10]);
-    store_taken(taken, &mut values[10..1034]);
-    gtb::copy(&calls, &mut values[1034..]);
+    values[10] = session.pages;
+    values[11] = session.lowest;
+    store_taken(taken, &mut values[12..1036]);
+    gtb::copy(&calls, &mut values[1036..]);
 }
 
 // The three values of an outcome.

@@ -2,6 +2,7 @@ pub mod Xors
 pub mod XorSums
 pub mod Tests
 pub mod First
+pub mod Lowest
 pub mod Sums
 pub mod Lists
 pub mod Orders

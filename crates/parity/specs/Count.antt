@@ -26,6 +26,11 @@ unfoldable pub all : ℕ → (ℕ → Bool) → Bool
 all zero p = true
 all (suc n) p = all n p && p n
 
+-- the lowest number below n that fails the test, or n
+unfoldable pub lowestNot : ℕ → (ℕ → Bool) → ℕ
+lowestNot zero p = 0
+lowestNot (suc n) p = cond (p 0) (suc (lowestNot n (λ i. p (suc i)))) 0
+
 -- the value at the first number below n that passes the test, or 0
 unfoldable pub firstValue : ℕ → (ℕ → Bool) → (ℕ → ℕ) → ℕ
 firstValue zero p v = 0

@@ -26,14 +26,14 @@ use Rattle.session.specs.declared.Outcome.{Outcome}
 use Rattle.session.specs.declared.Outcome.the-variants.{Taken, Again, Refused}
 use Rattle.session.specs.declared.Arrived.{Arrived}
 use Rattle.session.specs.declared.Counted.the-variants as counted
-use Rattle.session.specs.Session.{freshOf, freshStatus, countedOf, recorded}
-use Rattle.session.specs.Arrival.{clean, Opened, Page, Bad, openPage, openWord, opened, outcomeOf, outcomeValues, sessionBy, sessionAfter, wordAfter, Arriving}
+use Rattle.session.specs.Session.{consistent, freshOf, freshStatus, countedOf, recorded}
+use Rattle.session.specs.Arrival.{clean, Opened, Page, Bad, openPage, openWord, opened, presented, outcomeOf, outcomeValues, sessionBy, sessionAfter, wordAfter, Arriving}
 use Rattle.session.specs.Recording.{Arrival}
 use Rattle.session.specs.Claim.{Run, stop, step}
 
 -- the session with other slopes
 abbrev pub resloped : Session → List ℕ → Session
-resloped σ slopes = record { shape = reslope (σ .shape) slopes; taken = σ .taken; calls = σ .calls }
+resloped σ slopes = record { shape = reslope (σ .shape) slopes; taken = σ .taken; calls = σ .calls; pages = σ .pages; lowest = σ .lowest }
 
 module _ (s : Shape) (slopes : List ℕ) (alike : Alike s slopes) where
   page-opens : (symbols : List ℕ) (k : ℕ) (r : PageRead) → openPage (reslope s slopes) symbols k r ≡ openPage s symbols k r
@@ -59,6 +59,18 @@ module _ (s : Shape) (slopes : List ℕ) (alike : Alike s slopes) where
           word-opens (restored (reslope s slopes) word) (decodeOf (reslope s slopes) word)
           ∙ ap (λ (v : List ℕ). openWord s v (decodeOf (reslope s slopes) word)) (restored-alike s slopes alike word)
           ∙ ap (openWord s (restored s word)) (decode-alike s slopes alike word)
+
+-- the figures are beside the shape
+figures-alike : (σ : Session) (slopes : List ℕ) → consistent (resloped σ slopes) ≡ consistent σ
+unfolding consistent
+figures-alike σ slopes = refl
+
+presented-alike : (σ : Session) (slopes : List ℕ) → Alike (σ .shape) slopes → (word scratch : List ℕ)
+    → presented clean (resloped σ slopes) word scratch ≡ presented clean σ word scratch
+unfolding presented
+presented-alike σ slopes alike word scratch = λ i.
+    unless (lawful-alike (σ .shape) slopes alike i) (Bad (refusal-alike (σ .shape) slopes alike i))
+    (unless (figures-alike σ slopes i) (Bad Refusal.Figures) (opened-alike (σ .shape) slopes alike word scratch i))
 
 module _ (σ : Session) (slopes : List ℕ) where
   -- what decides is beside the shape
@@ -95,9 +107,9 @@ arriving-alike : {σ : Session} {word scratch word′ scratch′ : List ℕ} {r 
     → Arriving clean σ word scratch word′ scratch′ r
     → Arriving clean (resloped σ slopes) word scratch word′ scratch′ (record { session = resloped (r .session) slopes; outcome = r .outcome })
 arriving-alike {σ} {word} {scratch} {word′} {scratch′} {r} slopes alike a =
-    let o : Opened = opened clean (σ .shape) word scratch in
-    let same : opened clean (reslope (σ .shape) slopes) word scratch ≡ o = opened-alike (σ .shape) slopes alike word scratch in
-    let answer : r .outcome ≡ outcomeOf (resloped σ slopes) (opened clean (reslope (σ .shape) slopes) word scratch) =
+    let o : Opened = presented clean σ word scratch in
+    let same : presented clean (resloped σ slopes) word scratch ≡ o = presented-alike σ slopes alike word scratch in
+    let answer : r .outcome ≡ outcomeOf (resloped σ slopes) (presented clean (resloped σ slopes) word scratch) =
     a .outcome ∙ sym (outcome-alike σ slopes o) ∙ ap (outcomeOf (resloped σ slopes)) (sym same) in
     record {
       outcome = answer;
@@ -127,4 +139,5 @@ pub count-alike : (σ : Session) (slopes : List ℕ) → Alike (σ .shape) slope
 unfolding countedOf
 count-alike σ slopes alike f = λ i.
     unless (lawful-alike (σ .shape) slopes alike i) (counted.Refused (refusal-alike (σ .shape) slopes alike i))
-    (unless (ltb f 256) (counted.Refused Refusal.Function) (counted.Calls (getD (σ .calls) f 0)))
+    (unless (figures-alike σ slopes i) (counted.Refused Refusal.Figures)
+    (unless (ltb f 256) (counted.Refused Refusal.Function) (counted.Calls (getD (σ .calls) f 0))))

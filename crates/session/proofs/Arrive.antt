@@ -1,12 +1,14 @@
 -- An arrival, answer by answer.
-use mathlib.Core.Path.{_≡_, refl, sym, ap, _∙_}
+use mathlib.Core.Path.{_≡_, refl, sym, ap, _∙_, subst}
 use mathlib.Core.Bool.{Bool, true, false, cond}
 use mathlib.Core.List.{List, _++_, append-nil}
+use mathlib.Core.Logic.{⊎-elim}
 use Prim.Native.Nat.{ℕ, _+_, _-_, _<_, _≤_}
 use native.Mathlib.Omega.{arith}
 use lib.Dec.{leb, ltb}
 use lib.ListN.{length, getD, take, drop, replicate, drop-of-length-le}
 use borrow.Author.Tests.{eq-eqb, ne-eqb}
+use Rattle.parity.proofs.Tests.{either}
 use Rattle.parity.proofs.Lists.{length-tabulate}
 use Rattle.gtb.specs.declared.Shape.{Shape}
 use Rattle.gtb.specs.declared.Refusal.{Refusal}
@@ -29,8 +31,8 @@ use Rattle.page.proofs.Parts.{marks-part}
 use Rattle.session.specs.declared.Session.{Session}
 use Rattle.session.specs.declared.Outcome.the-variants.{Taken, Again, Refused}
 use Rattle.session.specs.declared.Arrived.{Arrived}
-use Rattle.session.specs.Session.{overflows}
-use Rattle.session.specs.Arrival.{Page, Bad, clean, openPage, openWord, opened, outcomeOf, sessionAfter, isAccepted, outcomeValues, outcomeScratch, Arriving}
+use Rattle.session.specs.Session.{consistent, Consistent, overflows}
+use Rattle.session.specs.Arrival.{Way, Opened, Page, Bad, clean, openPage, openWord, opened, presented, outcomeOf, sessionAfter, isAccepted, outcomeValues, outcomeScratch, Answering, Arriving, Stepping}
 use Rattle.session.specs.Steps.{Lent, Restored, Settling, Functions}
 use Rattle.gtb.specs.Answer.{isEarly, unless}
 
@@ -123,10 +125,31 @@ page-scratch scratch number k true b = refl
 page-scratch scratch number k false true = refl
 page-scratch scratch number k false false = refl
 
+-- ---- what is presented: test 11 comes before what is opened
+module _ (way : Way) (σ : Session) (word scratch : List ℕ) where
+  pub presented-shape : lawful (σ .shape) ≡ false → presented way σ word scratch ≡ Bad (shapeRefusal (σ .shape))
+  unfolding presented
+  presented-shape h = rw h
+
+  pub presented-figures : Lawful (σ .shape) → consistent σ ≡ false → presented way σ word scratch ≡ Bad Refusal.Figures
+  unfolding presented
+  presented-figures law h = rw (law, h)
+
+  -- right figures have no bearing
+  pub presented-opened : Consistent σ → presented way σ word scratch ≡ opened way (σ .shape) word scratch
+  unfolding presented opened
+  presented-opened h =
+      ⊎-elim (λ (law : lawful (σ .shape) ≡ true). rw (h, law)) (λ (no : lawful (σ .shape) ≡ false). rw no) (either (lawful (σ .shape)))
+
+-- 11 leaves the scratch as it was
+pub figures-scratch : {x : List ℕ} → x ≡ answer.scratchAfter Refusal.Figures x
+unfolding answer.scratchAfter
+figures-scratch = refl
+
 module _ {σ : Session} {word scratch scratch′ : List ℕ} {r : Arrived} where
   -- turned down
-  pub arriving-bad : {e : Refusal} → opened clean (σ .shape) word scratch ≡ Bad e → scratch′ ≡ answer.scratchAfter e scratch
-      → (r .session ≡ σ) × (r .outcome ≡ Refused e) → Arriving clean σ word scratch word scratch′ r
+  pub arriving-bad : {o : Opened} {e : Refusal} → o ≡ Bad e → scratch′ ≡ answer.scratchAfter e scratch
+      → (r .session ≡ σ) × (r .outcome ≡ Refused e) → Answering clean σ o word scratch word scratch′ r
   unfolding outcomeOf sessionAfter
   arriving-bad o x h = record {
     outcome = h .1 ∙ rw o;
@@ -139,7 +162,7 @@ module _ {σ : Session} {word scratch scratch′ : List ℕ} {r : Arrived} where
   -- a page was read
   arriving-page : {number k : ℕ} {marks word′ : List ℕ} → opened clean (σ .shape) word scratch ≡ Page number marks k → Settling σ (Page number marks k) r
       → word′ ≡ cond (isAccepted (r .outcome)) (restored (σ .shape) word) word → scratch′ ≡ replicate (length scratch) 0
-      → Arriving clean σ word scratch word′ scratch′ r
+      → Stepping clean σ word scratch word′ scratch′ r
   unfolding outcomeOf
   arriving-page {number} {k} {marks} o settled w x = record {
     outcome = settled .outcome ∙ ap (outcomeOf σ) (sym o);
@@ -148,6 +171,12 @@ module _ {σ : Session} {word scratch scratch′ : List ℕ} {r : Arrived} where
     wordLeft = w;
     scratchLeft = x ∙ sym (ap (outcomeScratch scratch) (settled .outcome) ∙ page-scratch scratch number k (getD (σ .taken) number false) (overflows (σ .calls) marks));
   }
+
+-- the step is an arrival where the figures are right
+pub step-arrives : (way : Way) (σ : Session) {word scratch word′ scratch′ : List ℕ} {r : Arrived} → Consistent σ → Stepping way σ word scratch word′ scratch′ r
+    → Arriving way σ word scratch word′ scratch′ r
+step-arrives way σ {word} {scratch} {word′} {scratch′} {r} right h =
+    subst (λ (o : Opened). Answering way σ o word scratch word′ scratch′ r) (sym (presented-opened way σ word scratch right)) h
 
 -- ---- after reading: the page in the gathered symbols
 
@@ -171,7 +200,7 @@ module _ {σ : Session} {word scratch copied symbols : List ℕ} {k : ℕ} {scra
       ∙ rw (looked .restored .answer, ← looked .restored .copied, ← looked .gathered, ← looked .page)
 
   pub open-bad : {e : Refusal} {r : Arrived} → found ≡ page.Refused e → (r .session ≡ σ) × (r .outcome ≡ Refused e)
-      → Arriving clean σ word scratch word scratch′ r
+      → Stepping clean σ word scratch word scratch′ r
   open-bad {e} h answered =
       arriving-bad (opened-found ∙ ap (openPage (σ .shape) symbols′ k) h)
       (looked .cleared ∙ sym (page-zeros (σ .shape) symbols′ (looked .lent .lawful) gathered-size e (sym (looked .page) ∙ h) scratch)) answered
@@ -190,17 +219,17 @@ module _ {σ : Session} {word scratch copied symbols : List ℕ} {k : ℕ} {scra
     open-room = marks-within (σ .shape) symbols′ number c (sym (looked .page) ∙ h)
 
     module _ {r : Arrived} (settled : Settling σ (Page number (take (2 + c - 2) (drop 2 symbols′)) k) r) where
-      open-page : {word′ : List ℕ} → word′ ≡ cond (isAccepted (r .outcome)) copied word → Arriving clean σ word scratch word′ scratch′ r
+      open-page : {word′ : List ℕ} → word′ ≡ cond (isAccepted (r .outcome)) copied word → Stepping clean σ word scratch word′ scratch′ r
       open-page w =
           arriving-page (opened-found ∙ ap (openPage (σ .shape) symbols′ k) h) (rw the-marks settled)
           (w ∙ ap (λ (v : List ℕ). cond (isAccepted (r .outcome)) v word) (looked .restored .copied)) (looked .cleared)
 
       -- the copy is put back where the outcome accepts, and the word untouched where it does not
       pub open-accepts : isAccepted (r .outcome) ≡ true → {word′ : List ℕ} → word′ ≡ copied ++ drop (length copied) word
-          → Arriving clean σ word scratch word′ scratch′ r
+          → Stepping clean σ word scratch word′ scratch′ r
       open-accepts a w = open-page (rw a (w ∙ whole-copy copied word (looked .lent .copySize ∙ sym (looked .lent .wordSize))))
 
-      pub open-refuses : isAccepted (r .outcome) ≡ false → Arriving clean σ word scratch word scratch′ r
+      pub open-refuses : isAccepted (r .outcome) ≡ false → Stepping clean σ word scratch word scratch′ r
       open-refuses a = open-page (rw a)
 
 -- ---- reading, on a copy of the word
@@ -212,7 +241,7 @@ module _ (σ : Session) {word scratch copied symbols : List ℕ} (lent : Lent (�
   the-answer = ap (decodeOf (σ .shape)) (sym same-word) ∙ sym (dec .answer)
 
   pub read-bad : {e : Refusal} {scratch′ : List ℕ} {r : Arrived} → found ≡ decoded.Refused e → scratch′ ≡ replicate (length scratch) 0
-      → (r .session ≡ σ) × (r .outcome ≡ Refused e) → Arriving clean σ word scratch word scratch′ r
+      → (r .session ≡ σ) × (r .outcome ≡ Refused e) → Stepping clean σ word scratch word scratch′ r
   read-bad {e} h x answered =
       arriving-bad (opened-read (σ .shape) word scratch lent ∙ ap (openWord (σ .shape) (restored (σ .shape) word)) (the-answer ∙ h))
       (x ∙ sym (read-zeros (σ .shape) word (lent .lawful) (lent .wordSize) e (the-answer ∙ h) scratch)) answered

@@ -2,7 +2,6 @@
 use mathlib.Core.Path.{refl}
 use mathlib.Core.List.{List}
 use native.Mathlib.Omega.{arith}
-use Rattle.gtb.proofs.Answers.{nine-foreign}
 use Rattle.decoder.proofs.Refusals.{decode-never}
 use Rattle.gtb.specs.declared.Shape.{Shape}
 use Rattle.gtb.specs.declared.Refusal.{Refusal}
@@ -16,6 +15,7 @@ use Rattle.session.specs.Session.{freshOf}
 use Rattle.session.specs.Arrival.{Sound, clean}
 use Rattle.session.specs.Recording.{Sheet, Recording, Arrival, Fits}
 use Rattle.session.specs.Claim.{Run, EveryList, Demand3}
+use Rattle.session.proofs.Openings.{session-foreign}
 use Rattle.session.proofs.Fed.{every-list}
 use Rattle.session.proofs.Demand.{demand3}
 
@@ -32,7 +32,7 @@ clean-sound s legal = record {
         few = allowed .1;
         received = refl;
       });
-  never = λ w. decode-never s w Refusal.Overflow (nine-foreign s);
+  never = λ w e by. decode-never s w e (session-foreign s e by);
 }
 
 -- demand 3, with no hypothesis on the way left

@@ -20,7 +20,7 @@ use Rattle.session.specs.Session.{freshOf, countOf}
 use Rattle.session.specs.Arrival.{Way, Sound, Opened, Page, Bad, outcomeOf, sessionAfter}
 use Rattle.session.specs.Recording.{Sheet, sheetAt, Recording, tally, Arrival, arrivalAt, openedAt, TurnedDown, Brings, Fits}
 use Rattle.session.specs.Claim.{Run, stop, step, hasNumber, come, Machine, emptyMachine, machineStep, machine, answerAt, EveryList, isTaken, answerTo, Claim}
-use Rattle.session.proofs.Machine.{feed-pages, fed-counts, weighed, fed-weight, machine-more}
+use Rattle.session.proofs.Machine.{fed-counts, weighed, fed-weight, machine-more, held, held-pages}
 use Rattle.session.proofs.Fed.{reply, brought, answersOf, run-answers, run-end, run-reply, every-list}
 use Rattle.session.proofs.Fits.{From, sheet-opened, fits-from, only-recording}
 
@@ -85,21 +85,6 @@ total-gain s pages r w m (Page number marks k) (i, l, e) =
 total-gain s pages r w m (Bad e) h = sym (add-zero _)
 
 -- ---- the whole list
-
--- the machine after the first j arrivals
-abbrev held : Way → Shape → List Arrival → ℕ → Machine
-held way s arrivals j = machine way s emptyMachine (take j arrivals)
-
--- its set: the pages that have come
-held-pages : (way : Way) (s : Shape) (arrivals : List Arrival) (j : ℕ) → j ≤ length arrivals → (p : ℕ)
-    → held way s arrivals j .pages p ≡ come way s arrivals j p
-unfolding come
-held-pages way s arrivals zero l p = sym (any-zero (λ j. hasNumber p (openedAt way s arrivals j)))
-held-pages way s arrivals (suc j) l p =
-    ap (λ (m : Machine). m .pages p) (machine-more way s emptyMachine arrivals j l)
-    ∙ feed-pages (held way s arrivals j) (openedAt way s arrivals j) p
-    ∙ ap (λ (b : Bool). b || hasNumber p (openedAt way s arrivals j)) (held-pages way s arrivals j (le-of-lt l) p)
-    ∙ sym (any-suc j (λ i. hasNumber p (openedAt way s arrivals i)))
 
 module _ (way : Way) (s : Shape) (sound : Sound way s) (pages : List Sheet) (r : Recording s pages) (arrivals : List Arrival) (fits : Fits way s pages arrivals) where
   -- what starts at 0 and gains the weight of each new page is the weight of the pages that have come

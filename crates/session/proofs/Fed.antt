@@ -11,18 +11,22 @@ use lib.ListN.{length, getD, take, length-set, length-replicate, getD-replicate}
 use lib.Seq.{getD-set-same, getD-set-other}
 use borrow.Author.Tests.{eqb-true, eqb-false, lt-leb}
 use Rattle.parity.proofs.Tests.{either, any-none}
-use Rattle.parity.proofs.Sums.{bit-le, sum-le, sum-const}
+use Rattle.parity.specs.Count.{count, lowestNot}
+use Rattle.parity.proofs.Sums.{bit-le, sum-le, sum-const, count-cong}
+use Rattle.parity.proofs.Lowest.{lowest-cong}
 use Rattle.parity.proofs.Lists.{at-tabulate}
 use Rattle.gtb.specs.declared.Shape.{Shape}
 use Rattle.gtb.specs.declared.Refusal.{Refusal}
 use Rattle.session.specs.declared.Session.{Session}
 use Rattle.session.specs.declared.Outcome.{Outcome}
 use Rattle.session.specs.declared.Outcome.the-variants.{Taken, Again, Refused}
-use Rattle.session.specs.Session.{freshOf, countOf, added, overflows, recorded}
-use Rattle.session.specs.Arrival.{Way, Sound, Opened, Page, Bad, opened, outcomeOf, sessionBy, sessionAfter}
+use Rattle.session.specs.Session.{marked, pagesOf, lowestOf, Consistent, freshOf, countOf, added, overflows, recorded}
+use Rattle.session.specs.Arrival.{Way, Sound, Opened, Page, Bad, opened, presented, outcomeOf, sessionBy, sessionAfter}
 use Rattle.session.specs.Recording.{Arrival, openedAt, arrivalAt, TurnedDown}
-use Rattle.session.specs.Claim.{Run, stop, step, Machine, emptyMachine, machinePage, machineStep, machine, Agrees, answerAt, EveryList, answerTo}
-use Rattle.session.proofs.Machine.{weighed, fed-weight}
+use Rattle.session.specs.Claim.{Run, stop, step, come, Machine, emptyMachine, machinePage, machineStep, machine, Agrees, answerAt, EveryList, answerTo}
+use Rattle.session.proofs.Progress.{fresh-consistent, after-by, consistent-pages, consistent-lowest}
+use Rattle.session.proofs.Arrive.{presented-opened}
+use Rattle.session.proofs.Machine.{weighed, fed-weight, held, held-pages}
 use Rattle.session.proofs.Openings.{Sane, opened-sane}
 
 -- ---- one arrival
@@ -32,6 +36,7 @@ pub record Grown (s : Shape) (σ : Session) (m : Machine) : Type 0 where
   pub shape : σ .shape ≡ s
   pub size : length (σ .taken) ≡ 1024
   pub agrees : Agrees σ m
+  pub consistent : Consistent σ
   pub few : (f : ℕ) → m .counts f ≤ weighed 1024 (λ p. p) (λ p. 898) (m .pages)
 
 pub fresh-grown : (s : Shape) → Grown s (freshOf s) emptyMachine
@@ -40,6 +45,7 @@ fresh-grown s = record {
   shape = refl;
   size = simp length-replicate;
   agrees = record { taken = λ p l. getD-replicate 1024 p _ false l; calls = λ f l. getD-replicate 256 f _ 0 l };
+  consistent = fresh-consistent s;
   few = λ f. omega arith;
 }
 
@@ -124,6 +130,7 @@ grown-by s σ m g number marks k sane false h = record {
     taken = taken-after s σ m g number marks (sane .0) h;
     calls = λ f l. calls-after σ number marks f l ∙ ap (λ (x : ℕ). x + countOf f marks) (g .agrees .calls f l);
   };
+  consistent = after-by σ (Page number marks k) (Taken number k) (g .consistent);
   few = λ f.
       omega
       (arith, g .few f, count-le f marks, fed-weight 1024 (λ p. p) (λ p. 898) m number marks false h number (sane .0) refl (λ j lj e. e));
@@ -140,7 +147,7 @@ grown-after s σ m g (Bad e) sane = g
 
 -- what an arrival brings to a session
 abbrev pub brought : Way → Session → Arrival → Opened
-brought way σ a = opened way (σ .shape) (a .word) (a .scratch)
+brought way σ a = presented way σ (a .word) (a .scratch)
 
 -- the one run of a list: its answers and its end
 abbrev pub answersOf : Way → Session → List Arrival → List Outcome
@@ -171,7 +178,7 @@ module _ (way : Way) (s : Shape) (sound : Sound way s) where
       let o : Opened = opened way s (a .word) (a .scratch) in
       let sane : Sane o = opened-sane way s sound (a .word) (a .scratch) in
       subst (λ (x : Opened). (outcomeOf σ x ≡ reply m o) × Grown s (sessionAfter σ x) (machineStep m o))
-      (ap (λ (x : Shape). opened way x (a .word) (a .scratch)) (sym (g .shape)))
+      (ap (λ (x : Shape). opened way x (a .word) (a .scratch)) (sym (g .shape)) ∙ sym (presented-opened way σ (a .word) (a .scratch) (g .consistent)))
       (grown-reply s σ m g o sane, grown-after s σ m g o sane)
 
   pub grown-end : (arrivals : List Arrival) (σ : Session) (m : Machine) → Grown s σ m
@@ -198,6 +205,14 @@ reply-refused m (Page number marks k) e h = absurd (told (m .pages number) h)
     told false h′ = let z : _≡_ {A = ℕ} 0 1 = cc in omega arith
 reply-refused m (Bad e′) e h = cc
 
+-- the figures of a session that holds what the machine holds
+grown-pages : (s : Shape) (σ : Session) (m : Machine) → Grown s σ m → (some : ℕ → Bool) → ((p : ℕ) → m .pages p ≡ some p)
+    → (σ .pages ≡ count 1024 some) × (σ .lowest ≡ lowestNot 1024 some)
+unfolding pagesOf lowestOf
+grown-pages s σ m g some same =
+    let each : (p : ℕ) → p < 1024 → marked (σ .taken) p ≡ some p = λ p l. g .agrees .taken p l ∙ same p in
+    (consistent-pages σ (g .consistent) ∙ count-cong 1024 _ _ each, consistent-lowest σ (g .consistent) ∙ lowest-cong 1024 _ _ each)
+
 -- an arrival from a fresh session on is answered as by the machine after those before it
 pub run-reply : (way : Way) (s : Shape) → Sound way s → {arrivals : List Arrival} {answers : List Outcome} {end : Session}
     → Run way (freshOf s) arrivals answers end → (j : ℕ) → j < length arrivals
@@ -209,10 +224,14 @@ pub every-list : (way : Way) (s : Shape) → Sound way s → (arrivals : List Ar
 every-list way s sound arrivals answers end run = record {
   agrees = rw (run-end run) (grown-end way s sound arrivals (freshOf s) emptyMachine (fresh-grown s) .agrees);
   answered = rw (run-answers run) (length-answers way (freshOf s) arrivals);
+  figures = λ m l first σ run′.
+      grown-pages s σ (held way s arrivals m)
+      (rw (run-end run′) (grown-end way s sound (take m arrivals) (freshOf s) emptyMachine (fresh-grown s)))
+      (come way s arrivals m) (held-pages way s arrivals m l);
   refused = refused;
   turned = λ j l e t. run-reply way s sound run j l ∙ ap (reply (machine way s emptyMachine (take j arrivals))) (t .by);
-  never = λ j l h.
-      subst Sane (refused j l Refusal.Overflow h .by) (opened-sane way s sound (arrivalAt arrivals j .word) (arrivalAt arrivals j .scratch)) refl;
+  never = λ j l e by h.
+      subst Sane (refused j l e h .by) (opened-sane way s sound (arrivalAt arrivals j .word) (arrivalAt arrivals j .scratch)) by;
 }
   where
     refused : (j : ℕ) → j < length arrivals → (e : Refusal) → answerAt answers j ≡ Refused e → TurnedDown way s (arrivalAt arrivals j) e

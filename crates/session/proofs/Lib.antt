@@ -1,5 +1,6 @@
 pub mod Arrays
 pub mod Marks
+pub mod Progress
 pub mod Settle
 pub mod Arrive
 pub mod Machine

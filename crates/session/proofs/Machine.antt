@@ -3,20 +3,20 @@ use mathlib.Core.Path.{_≡_, refl, sym, ap, _∙_}
 use mathlib.Core.Bool.{Bool, true, false, cond, _||_, or-false}
 use mathlib.Core.List.{List, [], _∷_}
 use mathlib.Core.Logic.{⊎-elim}
-use Prim.Native.Nat.{ℕ, zero, suc, _+_, _<_}
-use native.Mathlib.Nat.{not-suc-le-zero, le-of-suc-le-suc, add-zero}
+use Prim.Native.Nat.{ℕ, zero, suc, _+_, _<_, _≤_}
+use native.Mathlib.Nat.{not-suc-le-zero, le-of-suc-le-suc, le-of-lt, add-zero}
 use native.Mathlib.Omega.{arith}
 use lib.Dec.{eqb}
 use lib.ListN.{length, take}
 use borrow.Author.Tests.{eq-eqb, ne-eqb, eqb-true}
 use Rattle.parity.specs.Count.{sum}
-use Rattle.parity.proofs.Tests.{either, same-eqb}
+use Rattle.parity.proofs.Tests.{either, same-eqb, any-suc, any-zero}
 use Rattle.parity.proofs.Sums.{sum-cong, sum-add, sum-only}
 use Rattle.gtb.specs.declared.Shape.{Shape}
 use Rattle.session.specs.Session.{countOf}
 use Rattle.session.specs.Arrival.{Way, Opened, Page, Bad}
 use Rattle.session.specs.Recording.{Arrival, openedAt}
-use Rattle.session.specs.Claim.{hasNumber, Machine, machinePage, machineStep, machine}
+use Rattle.session.specs.Claim.{hasNumber, come, emptyMachine, Machine, machinePage, machineStep, machine}
 
 -- the set after a page: the page, and what it held
 fed-pages : (m : Machine) (number : ℕ) (marks : List ℕ) (known : Bool) → m .pages number ≡ known → (p : ℕ)
@@ -76,3 +76,18 @@ pub machine-more : (way : Way) (s : Shape) (m : Machine) (arrivals : List Arriva
 machine-more way s m [] j l = absurd (not-suc-le-zero l)
 machine-more way s m (a ∷ rest) zero l = refl
 machine-more way s m (a ∷ rest) (suc j) l = machine-more way s _ rest j (le-of-suc-le-suc l)
+
+-- the machine after the first j arrivals
+abbrev pub held : Way → Shape → List Arrival → ℕ → Machine
+held way s arrivals j = machine way s emptyMachine (take j arrivals)
+
+-- its set: the pages that have come
+pub held-pages : (way : Way) (s : Shape) (arrivals : List Arrival) (j : ℕ) → j ≤ length arrivals → (p : ℕ)
+    → held way s arrivals j .pages p ≡ come way s arrivals j p
+unfolding come
+held-pages way s arrivals zero l p = sym (any-zero (λ j. hasNumber p (openedAt way s arrivals j)))
+held-pages way s arrivals (suc j) l p =
+    ap (λ (m : Machine). m .pages p) (machine-more way s emptyMachine arrivals j l)
+    ∙ feed-pages (held way s arrivals j) (openedAt way s arrivals j) p
+    ∙ ap (λ (b : Bool). b || hasNumber p (openedAt way s arrivals j)) (held-pages way s arrivals j (le-of-lt l) p)
+    ∙ sym (any-suc j (λ i. hasNumber p (openedAt way s arrivals i)))

@@ -1,13 +1,16 @@
--- What an arrival can bring: a page with a number below 1024 and at most 898 marks, or a refusal that is not 9.
+-- What an arrival can bring: a page with a number below 1024 and at most 898 marks, or a refusal that is neither 9 nor 11.
 use mathlib.Core.Path.{_≡_, refl, ap, _∙_}
 use mathlib.Core.Bool.{Bool, true, false, _&&_}
 use mathlib.Core.List.{List}
+use mathlib.Core.Logic.{⊎-elim}
 use Prim.Native.Nat.{ℕ, _+_, _-_, _*_, _<_, _≤_}
 use native.Mathlib.Nat.{mul-le-mul}
 use native.Mathlib.Omega.{arith}
 use lib.Dec.{eqb}
 use lib.ListN.{length}
-use Rattle.gtb.proofs.Answers.{unless-never, Foreign, nine-foreign}
+use borrow.Author.Tests.{eqb-true}
+use Rattle.parity.proofs.Tests.{or-cases}
+use Rattle.gtb.proofs.Answers.{unless-never, Foreign, late-foreign}
 use Rattle.page.proofs.Refusals.{page-never}
 use Rattle.decoder.specs.Decode.{decodeOf, restored}
 use Rattle.decoder.proofs.Refusals.{decode-never}
@@ -15,7 +18,7 @@ use Rattle.gtb.specs.declared.Shape.{Shape}
 use Rattle.gtb.specs.declared.Refusal.{Refusal}
 use Rattle.gtb.specs.Shape.{lawful, Lawful, infoLength, wordLength, scratchLength, shapeRefusal}
 use Rattle.gtb.specs.Positions.{extractOf}
-use Rattle.gtb.specs.Answer.{unless}
+use Rattle.gtb.specs.Answer.{refusalNumber, unless}
 use Rattle.gtb.proofs.Bounds.{bounds}
 use Rattle.correction.specs.declared.Decoded.{Decoded}
 use Rattle.correction.specs.declared.Decoded.the-variants as decoded
@@ -23,12 +26,19 @@ use Rattle.page.specs.declared.PageRead.{PageRead}
 use Rattle.page.specs.declared.PageRead.the-variants as page
 use Rattle.page.specs.Page.{most, pageOf}
 use Rattle.page.proofs.Pages.{page-facts}
-use Rattle.session.specs.Arrival.{Way, Sound, Opened, Page, Bad, openPage, openWord, opened, clean}
+use Rattle.session.specs.Arrival.{bySession, Way, Sound, Opened, Page, Bad, openPage, openWord, opened, clean}
 
--- a page number that has a place, few marks; never 9
+-- a page number that has a place, few marks; never 9 or 11
 abbrev pub Sane : Opened → Type 0
 Sane (Page number marks k) = (number < 1024) × (length marks ≤ 898)
-Sane (Bad e) = e ≡ Refusal.Overflow → ⊥
+Sane (Bad e) = bySession e ≡ true → ⊥
+
+-- these two are given by none of the tests before the session's
+pub session-foreign : (s : Shape) (e : Refusal) → bySession e ≡ true → Foreign s e
+session-foreign s e h =
+    ⊎-elim (λ (nine : eqb (refusalNumber e) 9 ≡ true). let n = eqb-true (refusalNumber e) 9 nine in late-foreign s e (omega arith) (λ x. omega arith))
+    (λ (eleven : eqb (refusalNumber e) 11 ≡ true). let n = eqb-true (refusalNumber e) 11 eleven in late-foreign s e (omega arith) (λ x. omega arith))
+    (or-cases (eqb (refusalNumber e) 9) (eqb (refusalNumber e) 11) h)
 
 -- K - 2 is at most 30 × 30 - 2
 few-marks : (s : Shape) → Lawful s → most s ≤ 898
@@ -43,21 +53,21 @@ page-sane : (s : Shape) (symbols : List ℕ) (k : ℕ) (r : PageRead) → pageOf
 page-sane s symbols k (page.Page number c) h =
     let f = page-facts s symbols number c h in
     (f .page, omega (arith, few-marks s (f .lawful), f .few, f .length))
-page-sane s symbols k (page.Refused e) h = λ x. page-never s symbols Refusal.Overflow (nine-foreign s) (h ∙ ap page.Refused x)
+page-sane s symbols k (page.Refused e) h = λ x. page-never s symbols e (session-foreign s e x) h
 
-word-sane : (s : Shape) (v : List ℕ) (r : Decoded) → (r ≡ decoded.Refused Refusal.Overflow → ⊥) → Sane (openWord s v r)
+word-sane : (s : Shape) (v : List ℕ) (r : Decoded) → ((e : Refusal) → bySession e ≡ true → r ≡ decoded.Refused e → ⊥) → Sane (openWord s v r)
 word-sane s v (decoded.Corrected k) h = page-sane s (extractOf s v) k (pageOf s (extractOf s v)) refl
-word-sane s v (decoded.Refused e) h = λ x. h (ap decoded.Refused x)
+word-sane s v (decoded.Refused e) h = λ x. h e x refl
 
-unless-sane : (t : Bool) (e : Refusal) (next : Opened) → (t ≡ false → e ≡ Refusal.Overflow → ⊥) → Sane next → Sane (unless t (Bad e) next)
+unless-sane : (t : Bool) (e : Refusal) (next : Opened) → (t ≡ false → bySession e ≡ true → ⊥) → Sane next → Sane (unless t (Bad e) next)
 unless-sane true e next l h = h
 unless-sane false e next l h = l refl
 
 pub opened-sane : (way : Way) (s : Shape) → Sound way s → (word scratch : List ℕ) → Sane (opened way s word scratch)
 unfolding opened
 opened-sane way s sound word scratch =
-    unless-sane (lawful s) (shapeRefusal s) _ (nine-foreign s .shape)
-    (unless-sane (eqb (length word) (wordLength s) && eqb (length scratch) (scratchLength s)) Refusal.Length _ (λ _. nine-foreign s .length)
+    unless-sane (lawful s) (shapeRefusal s) _ (λ no h. session-foreign s (shapeRefusal s) h .shape no refl)
+    (unless-sane (eqb (length word) (wordLength s) && eqb (length scratch) (scratchLength s)) Refusal.Length _ (λ _ h. session-foreign s Refusal.Length h .length refl)
     (word-sane s (way .word s word) (way .answer s word) (sound .never word)))
 
 -- ---- what an arrival read the clean way is never turned down by

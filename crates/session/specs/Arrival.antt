@@ -1,6 +1,6 @@
 -- An arrival (RULES 5). What it brings is opened without the session; the session then decides.
 use mathlib.Core.Path.{_≡_}
-use mathlib.Core.Bool.{Bool, true, false, cond, _&&_}
+use mathlib.Core.Bool.{Bool, true, false, cond, _&&_, _||_}
 use mathlib.Core.List.{List, [], _∷_}
 use Prim.Native.Nat.{ℕ, _-_, _≤_}
 use lib.Dec.{eqb}
@@ -23,7 +23,7 @@ use Rattle.session.specs.declared.Session.{Session}
 use Rattle.session.specs.declared.Outcome.{Outcome}
 use Rattle.session.specs.declared.Outcome.the-variants.{Taken, Again, Refused}
 use Rattle.session.specs.declared.Arrived.{Arrived}
-use Rattle.session.specs.Session.{overflows, recorded}
+use Rattle.session.specs.Session.{consistent, overflows, recorded}
 
 -- an answer's three values: 0 taken, 1 again, 2 refused; page or refusal number; digits changed
 abbrev pub outcomeValues : Outcome → List ℕ
@@ -37,11 +37,15 @@ pub record Way : Type 1 where
   pub word : Shape → List ℕ → List ℕ
   pub Allowed : Shape → (ℕ → ℕ) → Type 0
 
--- it gives, for every stored word and allowed damage, that word and the number of digits changed; it never refuses with 9
+-- refusals that the session alone gives: 9 and 11
+abbrev pub bySession : Refusal → Bool
+bySession e = eqb (refusalNumber e) 9 || eqb (refusalNumber e) 11
+
+-- it gives, for every stored word and allowed damage, that word and the number of digits changed; it never refuses as a session does
 pub record Sound (way : Way) (s : Shape) : Type 0 where
   pub right : (v e : List ℕ) → Codeword s v → Word s e → way .Allowed s (at e)
       → (way .answer s (damaged v e) ≡ decoded.Corrected (weight s (at e))) × (way .word s (damaged v e) ≡ v)
-  pub never : (w : List ℕ) → way .answer s w ≡ decoded.Refused Refusal.Overflow → ⊥
+  pub never : (w : List ℕ) (e : Refusal) → bySession e ≡ true → way .answer s w ≡ decoded.Refused e → ⊥
 
 -- reading clean damage to at most n - 1 digits (RULES 3)
 abbrev pub clean : Way
@@ -62,12 +66,19 @@ abbrev pub openWord : Shape → List ℕ → Decoded → Opened
 openWord s v (decoded.Corrected k) = openPage s (extractOf s v) k (pageOf s (extractOf s v))
 openWord s v (decoded.Refused e) = Bad e
 
--- tests 1, 18, 2 to 8: the word is read, its data digits taken out, the page read
+-- tests 1, 18, 2 to 8, for a session whose figures are right: the word is read, its data digits taken out, the page read
 unfoldable pub opened : Way → Shape → List ℕ → List ℕ → Opened
 opened way s word scratch =
     unless (lawful s) (Bad (shapeRefusal s))
     (unless (eqb (length word) (wordLength s) && eqb (length scratch) (scratchLength s)) (Bad Refusal.Length)
     (openWord s (way .word s word) (way .answer s word)))
+
+-- with test 11, which comes directly after 1 and 18
+unfoldable pub presented : Way → Session → List ℕ → List ℕ → Opened
+presented way σ word scratch =
+    unless (lawful (σ .shape)) (Bad (shapeRefusal (σ .shape)))
+    (unless (consistent σ) (Bad Refusal.Figures)
+    (opened way (σ .shape) word scratch))
 
 -- a marked page is again; then 9
 unfoldable pub outcomeOf : Session → Opened → Outcome
@@ -102,10 +113,18 @@ outcomeScratch scratch (Taken p k) = replicate (length scratch) 0
 outcomeScratch scratch (Again p k) = replicate (length scratch) 0
 outcomeScratch scratch (Refused e) = scratchAfter e scratch
 
--- what an arrival answers and leaves
-pub record Arriving (way : Way) (σ : Session) (word scratch word′ scratch′ : List ℕ) (r : Arrived) : Type 0 where
-  pub outcome : r .outcome ≡ outcomeOf σ (opened way (σ .shape) word scratch)
-  pub values : outcomeValues (r .outcome) ≡ outcomeValues (outcomeOf σ (opened way (σ .shape) word scratch))
-  pub session : r .session ≡ sessionAfter σ (opened way (σ .shape) word scratch)
+-- what an arrival that brings this answers and leaves
+pub record Answering (way : Way) (σ : Session) (o : Opened) (word scratch word′ scratch′ : List ℕ) (r : Arrived) : Type 0 where
+  pub outcome : r .outcome ≡ outcomeOf σ o
+  pub values : outcomeValues (r .outcome) ≡ outcomeValues (outcomeOf σ o)
+  pub session : r .session ≡ sessionAfter σ o
   pub wordLeft : word′ ≡ wordAfter word (way .word (σ .shape) word) (r .outcome)
   pub scratchLeft : scratch′ ≡ outcomeScratch scratch (r .outcome)
+
+-- an arrival
+abbrev pub Arriving : Way → Session → List ℕ → List ℕ → List ℕ → List ℕ → Arrived → Type 0
+Arriving way σ word scratch = Answering way σ (presented way σ word scratch) word scratch
+
+-- an arrival past test 11, for callers whose session is known to be consistent
+abbrev pub Stepping : Way → Session → List ℕ → List ℕ → List ℕ → List ℕ → Arrived → Type 0
+Stepping way σ word scratch = Answering way σ (opened way (σ .shape) word scratch) word scratch

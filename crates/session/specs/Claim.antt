@@ -6,7 +6,7 @@ use mathlib.Core.List.{List, [], _∷_}
 use Prim.Native.Nat.{ℕ, _+_, _<_, _≤_}
 use lib.Dec.{eqb}
 use lib.ListN.{length, getD, take}
-use Rattle.parity.specs.Count.{any, count}
+use Rattle.parity.specs.Count.{any, count, lowestNot}
 use Rattle.gtb.specs.declared.Shape.{Shape}
 use Rattle.gtb.specs.declared.Refusal.{Refusal}
 use Rattle.session.specs.declared.Session.{Session}
@@ -14,7 +14,7 @@ use Rattle.session.specs.declared.Outcome.{Outcome}
 use Rattle.session.specs.declared.Outcome.the-variants.{Taken, Again, Refused}
 use Rattle.session.specs.declared.Arrived.{Arrived}
 use Rattle.session.specs.Session.{freshOf, countOf}
-use Rattle.session.specs.Arrival.{Way, Sound, Opened, Page, Bad, opened, Arriving}
+use Rattle.session.specs.Arrival.{bySession, Way, Sound, Opened, Page, Bad, opened, Arriving}
 use Rattle.session.specs.Recording.{Sheet, sheetAt, Recording, tally, Arrival, arrivalAt, openedAt, TurnedDown, Brings, Fits}
 
 -- ---- a run: sessions and answers, each arrival related to the next by what an arrival ensures
@@ -70,10 +70,13 @@ answerAt answers j = getD answers j (Refused Refusal.Shape)
 pub record EveryList (way : Way) (s : Shape) (arrivals : List Arrival) (answers : List Outcome) (end : Session) : Type 0 where
   pub agrees : Agrees end (machine way s emptyMachine arrivals)
   pub answered : length answers ≡ length arrivals
-  -- refused exactly if what was handed in turns it down, by that number, and never by 9
+  -- after every arrival the figures are the number of different pages that have come unrefused, and the lowest number that has not
+  pub figures : (m : ℕ) → m ≤ length arrivals → (first : List Outcome) (σ : Session) → Run way (freshOf s) (take m arrivals) first σ
+      → (σ .pages ≡ count 1024 (come way s arrivals m)) × (σ .lowest ≡ lowestNot 1024 (come way s arrivals m))
+  -- refused exactly if what was handed in turns it down, by that number, and never by 9 or 11
   pub refused : (j : ℕ) → j < length arrivals → (e : Refusal) → answerAt answers j ≡ Refused e → TurnedDown way s (arrivalAt arrivals j) e
   pub turned : (j : ℕ) → j < length arrivals → (e : Refusal) → TurnedDown way s (arrivalAt arrivals j) e → answerAt answers j ≡ Refused e
-  pub never : (j : ℕ) → j < length arrivals → answerAt answers j ≡ Refused Refusal.Overflow → ⊥
+  pub never : (j : ℕ) → j < length arrivals → (e : Refusal) → bySession e ≡ true → answerAt answers j ≡ Refused e → ⊥
 
 -- the answer is taken
 abbrev pub isTaken : Outcome → Bool

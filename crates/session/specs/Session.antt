@@ -1,11 +1,11 @@
 -- The session, fresh and after a page (RULES 5).
-use mathlib.Core.Bool.{Bool, true, false}
+use mathlib.Core.Bool.{Bool, true, false, _&&_}
 use mathlib.Core.List.{List, [], _∷_}
 use mathlib.Core.Path.{_≡_}
 use Prim.Native.Nat.{ℕ, _+_, _^_}
 use lib.Dec.{eqb, leb, ltb}
 use lib.ListN.{getD, set, replicate}
-use Rattle.parity.specs.Count.{bit, any}
+use Rattle.parity.specs.Count.{bit, any, count, lowestNot}
 use Rattle.parity.specs.Lists.{tabulate}
 use Rattle.gtb.specs.declared.Shape.{Shape}
 use Rattle.gtb.specs.declared.Refusal.{Refusal}
@@ -19,9 +19,28 @@ use Rattle.session.specs.declared.Fresh.{Fresh}
 use Rattle.session.specs.declared.Counted.{Counted}
 use Rattle.session.specs.declared.Counted.the-variants.{Calls, Refused}
 
+-- page p is marked as taken
+abbrev pub marked : List Bool → ℕ → Bool
+marked taken p = getD taken p false
+
+-- how many pages are taken
+unfoldable pub pagesOf : List Bool → ℕ
+pagesOf taken = count 1024 (marked taken)
+
+-- the lowest page number that is not, 1024 if all are
+unfoldable pub lowestOf : List Bool → ℕ
+lowestOf taken = lowestNot 1024 (marked taken)
+
+-- test 11: both figures are what the marks say
+unfoldable pub consistent : Session → Bool
+consistent σ = eqb (σ .pages) (pagesOf (σ .taken)) && eqb (σ .lowest) (lowestOf (σ .taken))
+
+abbrev pub Consistent : Session → Type 0
+Consistent σ = consistent σ ≡ true
+
 -- only no and zeros
 unfoldable pub freshOf : Shape → Session
-freshOf s = record { shape = s; taken = replicate 1024 false; calls = replicate 256 0 }
+freshOf s = record { shape = s; taken = replicate 1024 false; calls = replicate 256 0; pages = 0; lowest = 0 }
 
 -- making one tests 1, then 18
 unfoldable pub freshStatus : Shape → Status
@@ -46,14 +65,20 @@ added calls marks = tabulate 256 (λ f. getD calls f 0 + countOf f marks)
 unfoldable pub overflows : List ℕ → List ℕ → Bool
 overflows calls marks = any 256 (λ f. leb (2 ^ 32) (getD calls f 0 + countOf f marks))
 
+-- the session with these page marks and counts, and the figures that go with the marks
+abbrev pub figured : Shape → List Bool → List ℕ → Session
+figured s taken calls = record { shape = s; taken = taken; calls = calls; pages = pagesOf taken; lowest = lowestOf taken }
+
 -- the number becomes yes, the marks are counted
 unfoldable pub recorded : Session → ℕ → List ℕ → Session
-recorded σ number marks = record { shape = σ .shape; taken = set (σ .taken) number true; calls = added (σ .calls) marks }
+recorded σ number marks = figured (σ .shape) (set (σ .taken) number true) (added (σ .calls) marks)
 
--- a count query tests 1, 18, then 7
+-- a count query tests 1, 18, 11, then 7
 unfoldable pub countedOf : Session → ℕ → Counted
 countedOf σ f =
-    unless (lawful (σ .shape)) (Refused (shapeRefusal (σ .shape))) (unless (ltb f 256) (Refused Refusal.Function) (Calls (getD (σ .calls) f 0)))
+    unless (lawful (σ .shape)) (Refused (shapeRefusal (σ .shape)))
+    (unless (consistent σ) (Refused Refusal.Figures)
+    (unless (ltb f 256) (Refused Refusal.Function) (Calls (getD (σ .calls) f 0))))
 
 -- as one number, a refusal above all counts
 abbrev pub countedNumber : Counted → ℕ

@@ -1,4 +1,5 @@
 // The session: which pages have come, and how often each function was called.
+mod figures;
 pub mod number;
 
 use correction::Decoded;
@@ -12,8 +13,8 @@ use page::PageRead;
 ghost use mathlib.Core.Path.{_≡_};
 ghost use Prim.Native.Nat.{_<_};
 ghost use Rattle.gtb.specs.Answer.{Answered};
-ghost use Rattle.session.specs.Session.{countedOf, countedNumber, Beginning};
-ghost use Rattle.session.specs.Arrival.{clean, Opened, Arriving, isAccepted};
+ghost use Rattle.session.specs.Session.{consistent, Consistent, countedOf, countedNumber, Beginning};
+ghost use Rattle.session.specs.Arrival.{clean, Opened, Arriving, Stepping, isAccepted};
 ghost use Rattle.session.specs.Steps.{Adding, Counts, Functions, Settling, Lent, Restored};
 
 // A session handed in from elsewhere may hold anything, a bad shape too.
@@ -21,6 +22,10 @@ pub struct Session {
     pub shape: Shape,
     pub taken: [bool; Session::PAGES],
     pub calls: [u32; Session::FUNCTIONS],
+    // How many pages are taken.
+    pub pages: u32,
+    // The lowest page number not taken, 1024 if all are.
+    pub lowest: u32,
 }
 
 // The answer of an arrival: page number and symbols changed, or a refusal.
@@ -63,6 +68,8 @@ impl Session {
             shape,
             taken: [false; Session::PAGES],
             calls: [0u32; Session::FUNCTIONS],
+            pages: 0,
+            lowest: 0,
         };
         if gtb::is_lawful(shape) {
             return Fresh {
@@ -76,13 +83,23 @@ impl Session {
         }
     }
 
-    // How often a function was called: tests 1, 18, then 7.
+    // Test 11.
+    fn is_consistent(self) -> bool
+        ensures { λ r. ⌜ r ≡ consistent self ⌝ }
+    {
+        figures::agree(&self.taken, self.pages, self.lowest)
+    }
+
+    // How often a function was called: tests 1, 18, 11, then 7.
     pub fn count(self, function: u32) -> Counted
         ensures { λ r. ⌜ Answered countedNumber (countedOf self function) r ⌝ }
     {
         let shape = self.shape;
         if !gtb::is_lawful(shape) {
             return Counted::Refused(gtb::shape_refusal(shape));
+        }
+        if !self.is_consistent() {
+            return Counted::Refused(Refusal::Figures);
         }
         if function > 255 {
             return Counted::Refused(Refusal::Function);
@@ -92,9 +109,24 @@ impl Session {
         Counted::Calls(calls[at])
     }
 
-    // An arrival. Past tests 1, 18 and 2 it works on a copy, so that a word refused later is still the word that came.
+    // An arrival: tests 1, 18 and 11, then the step.
     pub fn arrive(self, word: &mut [u32], scratch: &mut [u32]) -> Arrived
         ensures { λ r. ⌜ Arriving clean self (now (word .entry)) (now (scratch .entry)) (now (word .exit)) (now (scratch .exit)) r ⌝ }
+    {
+        let shape = self.shape;
+        if !gtb::is_lawful(shape) {
+            return self.refused(gtb::shape_refusal(shape));
+        }
+        if !self.is_consistent() {
+            return self.refused(Refusal::Figures);
+        }
+        self.step(word, scratch)
+    }
+
+    // An arrival at a session whose figures are known to be right. Past tests 1, 18 and 2 it works on a copy, so that a word refused later is still the word that came.
+    pub fn step(self, word: &mut [u32], scratch: &mut [u32]) -> Arrived
+        requires { ⌜ Consistent self ⌝ }
+        ensures { λ r. ⌜ Stepping clean self (now (word .entry)) (now (scratch .entry)) (now (word .exit)) (now (scratch .exit)) r ⌝ }
     {
         let shape = self.shape;
         if !gtb::is_lawful(shape) {
@@ -131,8 +163,8 @@ impl Session {
         copied: &mut [u32],
         symbols: &mut [u32],
     ) -> Arrived
-        requires { ⌜ Lent (self .shape) (now word) (now scratch) (now copied) (now symbols) ⌝ }
-        ensures { λ r. ⌜ Arriving clean self (now (word .entry)) (now (scratch .entry)) (now (word .exit)) (now (scratch .exit)) r ⌝ }
+        requires { ⌜ Consistent self × Lent (self .shape) (now word) (now scratch) (now copied) (now symbols) ⌝ }
+        ensures { λ r. ⌜ Stepping clean self (now (word .entry)) (now (scratch .entry)) (now (word .exit)) (now (scratch .exit)) r ⌝ }
     {
         let shape = self.shape;
         gtb::copy(word, copied);
@@ -154,8 +186,8 @@ impl Session {
         symbols: &mut [u32],
         k: u32,
     ) -> Arrived
-        requires { ⌜ Lent (self .shape) (now word) (now scratch) (now copied) (now symbols) × Restored (self .shape) (now word) (now copied) k ⌝ }
-        ensures { λ r. ⌜ Arriving clean self (now (word .entry)) (now (scratch .entry)) (now (word .exit)) (now (scratch .exit)) r ⌝ }
+        requires { ⌜ Consistent self × Lent (self .shape) (now word) (now scratch) (now copied) (now symbols) × Restored (self .shape) (now word) (now copied) k ⌝ }
+        ensures { λ r. ⌜ Stepping clean self (now (word .entry)) (now (scratch .entry)) (now (word .exit)) (now (scratch .exit)) r ⌝ }
     {
         let shape = self.shape;
         gtb::clear(scratch);
@@ -176,7 +208,7 @@ impl Session {
 
     // The last step, for a page whose every mark is known good: a marked one is again; else its marks are counted in a copy, which is kept only if no count passes its limit.
     fn settled(self, number: u32, corrected: u32, marks: &[u32]) -> Arrived
-        requires { ⌜ (number < 1024) × Functions (now marks) ⌝ }
+        requires { ⌜ Consistent self × (number < 1024) × Functions (now marks) ⌝ }
         ensures { λ r. ⌜ Settling self (Opened.Page number (now (marks .entry)) corrected) r ⌝ }
     {
         let shape = self.shape;
@@ -193,11 +225,14 @@ impl Session {
             return self.refused(Refusal::Overflow);
         }
         taken[at] = true;
+        let lowest = figures::lowest_from(&taken, self.lowest);
         Arrived {
             session: Session {
                 shape,
                 taken,
                 calls,
+                pages: self.pages + 1,
+                lowest,
             },
             outcome: Outcome::Taken(number, corrected),
         }

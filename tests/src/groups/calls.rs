@@ -1,11 +1,11 @@
 //! Calls that nothing is wrong with, and ways to put something wrong.
 
-use crate::call::{to_bytes, Call, Entry};
+use crate::call::{answer_of, to_bytes, After, Call, Entry};
 use crate::capture::{page_numbers, Page};
 use crate::damage::{apply, unmasked};
 use crate::random::Random;
-use crate::reference::session::{Session, SESSION_LEN};
-use crate::reference::shape::Shape;
+use crate::reference::session::{Session, LOWEST_AT, PAGES_AT, SESSION_LEN};
+use crate::reference::shape::{Refusal, Shape};
 use crate::reference::writer::codeword;
 
 pub const ENTRIES: [Entry; 11] = [
@@ -21,6 +21,9 @@ pub const ENTRIES: [Entry; 11] = [
     Entry::HostReadWord,
     Entry::HostReadPage,
 ];
+
+/// Numbers that a yes may cross as.
+pub const YES: [u32; 8] = [1, 1, 2, 255, 256, 1 << 16, 1 << 31, u32::MAX];
 
 /// A call that nothing is wrong with; what it only writes to is full of old numbers. Of the host pair
 /// it has the standard slopes.
@@ -62,6 +65,61 @@ pub fn reshape(call: &mut Call, shape: Shape) {
             *number = other;
         }
     }
+}
+
+/// The call of another shape.
+pub fn reshaped(call: &Call, shape: Shape) -> Call {
+    let mut call = call.clone();
+    reshape(&mut call, shape);
+    call
+}
+
+/// A call that is turned down and leaves all as lent, each entry in its own way: an arrival says so in
+/// its outcome, a count query above 2^32, and the part that holds the marks is empty.
+pub fn turned_down(call: &Call, refusal: Refusal) -> After {
+    let mut after = After { answer: answer_of(Err(refusal)), slices: call.slices.clone() };
+    match call.entry {
+        Entry::Marks => after.answer = 0,
+        Entry::Count => after.answer = (1 << 32) + u64::from(refusal.number()),
+        Entry::Arrive => {
+            after.answer = 0;
+            after.slices[3] = vec![2, refusal.number(), 0];
+        }
+        _ => {}
+    }
+    after
+}
+
+/// The call with a fault that a test after 1 and 18 would find: figures that can't be, a slice of wrong
+/// length, a number too large.
+pub fn later_faults(call: &Call, random: &mut Random) -> Vec<Call> {
+    let mut calls = vec![Call { number: u32::MAX, ..call.clone() }];
+    if call.entry.takes_session() {
+        for at in [PAGES_AT, LOWEST_AT] {
+            let mut call = call.clone();
+            call.slices[0][at] = u32::MAX;
+            calls.push(call);
+        }
+    }
+    for i in (0..call.slices.len()).filter(|&i| !crosses(call.entry, i)) {
+        let mut spoiled = |slice: Vec<u32>| {
+            let mut call = call.clone();
+            call.slices[i] = slice;
+            calls.push(call);
+        };
+        let slice = &call.slices[i];
+        spoiled(vec![u32::MAX; slice.len()]);
+        for length in [0, slice.len().saturating_sub(1), slice.len() + 1] {
+            spoiled(resized(slice, length, random));
+        }
+    }
+    calls
+}
+
+/// What the harness needs to get a call across, so that its length comes first: the session and the
+/// outcome, and both of the lists that are to be of one length.
+pub fn crosses(entry: Entry, i: usize) -> bool {
+    matches!((entry, i), (Entry::Count, 0) | (Entry::Arrive, 0 | 3) | (Entry::Marks, _))
 }
 
 /// The slice cut off or filled up.

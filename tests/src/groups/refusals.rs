@@ -6,6 +6,7 @@ use super::calls::{good, reshape, resized, ENTRIES};
 use crate::call::{to_bytes, Call, Entry};
 use crate::random::Random;
 use crate::reference::page::PAGES;
+use crate::reference::session::{CALLS_AT, LOWEST_AT, MARKS_AT, PAGES_AT, SESSION_LEN};
 use crate::reference::shape::{orders_and_directions, Shape, SHAPE_LEN, SLOPES};
 use crate::report::{Group, Unit, Verdict};
 use crate::shrink::expect;
@@ -66,7 +67,9 @@ fn lengths(q: u32, n: u32, random: &mut Random) -> Verdict {
             let right = slice.len();
             let wrong =
                 [0, 1, right / 4, right.saturating_sub(4), right.saturating_sub(1), right + 1, right + 4, 4 * right];
-            for length in wrong.into_iter().filter(|&length| length != right) {
+            // A session without its figures is too short.
+            let without_figures = (call.entry.takes_session() && i == 0).then_some(SESSION_LEN - 2);
+            for length in wrong.into_iter().chain(without_figures).filter(|&length| length != right) {
                 let mut call = call.clone();
                 call.slices[i] = resized(slice, length, random);
                 expect(&call)?;
@@ -143,7 +146,7 @@ fn several_faults(q: u32, n: u32, random: &mut Random) -> Verdict {
 
 /// One fault of any kind. Two of them may cancel; the reference then says so.
 fn spoil(call: &mut Call, random: &mut Random) {
-    match random.below(6) {
+    match random.below(7) {
         0 => {
             let Shape { q, n, slopes, .. } = call.shape;
             let bad = [Shape::new(9, 2, 8), Shape::new(3, 4, 8), Shape::new(q, n, 33)];
@@ -161,6 +164,7 @@ fn spoil(call: &mut Call, random: &mut Random) {
             call.slices[i] = resized(&call.slices[i].clone(), length, random);
         }
         4 => call.number = random.pick(&[255, 256, PAGES as u32 - 1, PAGES as u32, u32::MAX]),
+        5 if call.entry.takes_session() => spoil_figure(call, random),
         _ => spoil_symbol(call, random),
     }
 }
@@ -170,6 +174,15 @@ fn spoil_slope(call: &mut Call, random: &mut Random) {
     let Shape { q, mut slopes, .. } = call.shape;
     slopes[random.below(SLOPES)] = random.pick(&[q, q + 1, u32::MAX, slopes[0], slopes[SLOPES - 1]]);
     reshape(call, call.shape.with_slopes(slopes));
+}
+
+/// Another figure, or another mark under the same figures.
+fn spoil_figure(call: &mut Call, random: &mut Random) {
+    let at = random.pick(&[PAGES_AT, LOWEST_AT, MARKS_AT, MARKS_AT + 1, CALLS_AT - 1]);
+    let value = random.pick(&[0, 1, 2, PAGES as u32, u32::MAX]);
+    if let Some(number) = call.slices[0].get_mut(at) {
+        *number = value;
+    }
 }
 
 /// A number in a slice that the entry judges: page number, count, mark, tail or any symbol.

@@ -1,11 +1,12 @@
 //! Arrivals in sessions grown from a fresh one and in sessions handed in from elsewhere.
 
+use super::calls::YES;
 use crate::call::{difference, Call, Entry};
 use crate::capture::{page_numbers, recording, Page};
 use crate::damage::{apply, make, unmasked, STYLES};
 use crate::random::Random;
 use crate::reference::page::{FUNCTIONS, PAGES};
-use crate::reference::session::{Outcome, Session, SESSION_LEN};
+use crate::reference::session::{Outcome, Session, CALLS_AT, LOWEST_AT, MARKS_AT, PAGES_AT, SESSION_LEN};
 use crate::reference::shape::{orders_and_directions, Shape, SHAPE_LEN};
 use crate::reference::writer::codeword;
 use crate::report::{Group, Unit, Verdict};
@@ -48,11 +49,7 @@ impl Run {
         for (i, arrival) in self.arrivals.iter().enumerate() {
             let call =
                 Call::new(Entry::Arrive, shape_of(&session), &[&session, &arrival.word, &arrival.scratch, &[9; 3]]);
-            let (expected, mut found) = (call.on_reference(), call.on_library());
-            if session[SHAPE_LEN..][..PAGES].iter().any(|&yes| yes > 1) {
-                // A yes may be any nonzero number; which one an arrival leaves is open.
-                found.slices[0] = Session::from_values(&found.slices[0]).values();
-            }
+            let (expected, found) = (call.on_reference(), call.on_library());
             if let Some(difference) = difference(Entry::Arrive, &expected, &found) {
                 return Err(format!("at arrival {i}, {difference}"));
             }
@@ -77,7 +74,8 @@ impl Case for Run {
         let pages: Vec<usize> = (0..PAGES).filter(|&page| session.taken[page]).collect();
         let calls: Vec<(usize, u32)> = session.calls.into_iter().enumerate().filter(|(_, calls)| *calls > 0).collect();
         let words: Vec<&Vec<u32>> = self.arrivals.iter().map(|arrival| &arrival.word).collect();
-        format!("{:?}, taken {pages:?}, calls {calls:?}, arrivals {words:?}", session.shape)
+        let Session { shape, figures, .. } = session;
+        format!("{shape:?}, {figures:?}, taken {pages:?}, calls {calls:?}, arrivals {words:?}")
     }
 }
 
@@ -158,19 +156,28 @@ fn fits_recording(shape: Shape, pages: &[Page], arrivals: Vec<Arrival>) -> Verdi
     let mut calls = [0; FUNCTIONS];
     pages.iter().flat_map(|page| &page.marks).for_each(|&mark| calls[mark as usize] += 1);
     let taken = outcomes.iter().filter(|outcome| outcome[0] == 0).count();
-    if answer != 0 || session[SHAPE_LEN + PAGES..] != calls || taken != pages.len() {
+    if answer != 0 || session[CALLS_AT..] != calls || taken != pages.len() {
         return Err(format!("{shape:?}: {taken} pages taken of {}; the tally is not the recording's", pages.len()));
+    }
+    let missing = (0..PAGES as u32).find(|&number| pages.iter().all(|page| page.number != number));
+    let figures = [pages.len() as u32, missing.unwrap_or(PAGES as u32)];
+    if session[PAGES_AT..MARKS_AT] != figures {
+        return Err(format!("{shape:?}: the figures {:?}, expected {figures:?}", &session[PAGES_AT..MARKS_AT]));
     }
     Ok(outcomes.len() as u64)
 }
 
-/// Sessions with any pages taken, any nonzero number for yes, and counts near both ends.
+/// Sessions with any pages taken, any nonzero number for yes, and counts near both ends. Few have
+/// figures that disagree; they have their own group.
 fn handed_in(q: u32, n: u32, random: &mut Random) -> Verdict {
     let mut tried = 0;
     for b in [1, 2, 8, 11, 31, 32] {
         for _ in 0..4 {
             let shape = random.shape(q, n, b);
-            let start = any_session(shape, random);
+            let mut start = any_session(shape, random);
+            if random.one_in(8) {
+                disagree(&mut start, random);
+            }
             let number = |random: &mut Random| random.below(page_numbers(shape)) as u32;
             let pages: Vec<Page> = (0..6).map(|_| Page::random(shape, number(random), random)).collect();
             let some = |page: &Page| {
@@ -188,10 +195,13 @@ fn handed_in(q: u32, n: u32, random: &mut Random) -> Verdict {
     Ok(tried)
 }
 
+/// Its figures are right.
 fn any_session(shape: Shape, random: &mut Random) -> Vec<u32> {
-    let yes = [1, 1, 2, 255, 256, 1 << 16, 1 << 31, u32::MAX];
     let mut session = shape.values().to_vec();
-    session.extend((0..PAGES).map(|_| if random.one_in(3) { random.pick(&yes) } else { 0 }));
+    let marks: Vec<u32> = (0..PAGES).map(|_| if random.one_in(3) { random.pick(&YES) } else { 0 }).collect();
+    session.push(marks.iter().filter(|&&mark| mark != 0).count() as u32);
+    session.push(marks.iter().position(|&mark| mark == 0).unwrap_or(PAGES) as u32);
+    session.extend(marks);
     let mut count = || match random.below(3) {
         0 => 0,
         1 => random.number(),
@@ -199,6 +209,17 @@ fn any_session(shape: Shape, random: &mut Random) -> Vec<u32> {
     };
     session.extend((0..FUNCTIONS).map(|_| count()));
     session
+}
+
+/// Another figure, or another mark under the same figures.
+fn disagree(session: &mut [u32], random: &mut Random) {
+    let page = MARKS_AT + random.below(PAGES);
+    let at = random.pick(&[PAGES_AT, LOWEST_AT, page]);
+    session[at] = match session[at] {
+        0 => 1,
+        _ if at == page => 0,
+        figure => random.pick(&[figure - 1, figure + 1]),
+    };
 }
 
 /// A function's count that its marks just fill, and one that they just pass: the latter is refused,
@@ -214,7 +235,9 @@ fn worn(q: u32, n: u32, random: &mut Random) -> Verdict {
             for (left, taken) in [(times, false), (times - 1, false), (times - 1, true), (0, false)] {
                 let mut session = Session::fresh(shape).expect("a lawful shape");
                 session.calls[function as usize] = u32::MAX - left;
-                session.taken[page.number as usize] = taken;
+                if taken {
+                    session.take(page.number);
+                }
                 let arrivals = vec![readable(shape, &page, random), readable(shape, &page, random)];
                 expect(&Run { start: session.values(), arrivals })?;
                 tried += 2;
@@ -236,8 +259,16 @@ fn all_pages(shape: Shape, random: &mut Random) -> Verdict {
 
 fn count_queries(q: u32, n: u32, random: &mut Random) -> Verdict {
     let b = 1 + random.below(32) as u32;
-    let session = any_session(random.shape(q, n, b), random);
+    let right = any_session(random.shape(q, n, b), random);
+    let mut wrong = right.clone();
+    disagree(&mut wrong, random);
     let functions = (0..300).chain([1 << 16, 1 << 31, u32::MAX]);
-    let query = |function| expect(&Call::numbered(Entry::Count, shape_of(&session), function, &[&session]));
-    functions.map(query).try_fold(0, |tried, queried| queried.map(|()| tried + 1))
+    let mut tried = 0;
+    for function in functions {
+        for session in [&right, &wrong] {
+            expect(&Call::numbered(Entry::Count, shape_of(session), function, &[session]))?;
+            tried += 1;
+        }
+    }
+    Ok(tried)
 }

@@ -1,7 +1,7 @@
 //! Slopes that are refused, when, and slopes that don't count; shape slices of a wrong length. What must
 //! come of each call is said here, not asked of the reference, which is held to it like the library.
 
-use super::calls::{good, reshape, resized, ENTRIES};
+use super::calls::{good, later_faults, reshaped, resized, turned_down, ENTRIES};
 use crate::call::{answer_of, difference, After, Call, Entry};
 use crate::random::Random;
 use crate::reference::shape::{orders_and_directions, Refusal, Shape, SHAPE_LEN, SLOPES};
@@ -64,29 +64,6 @@ fn refused_slopes(shape: Shape) -> Vec<Shape> {
     shapes
 }
 
-/// The call of another shape.
-fn reshaped(call: &Call, shape: Shape) -> Call {
-    let mut call = call.clone();
-    reshape(&mut call, shape);
-    call
-}
-
-/// A call that is turned down and leaves all as lent, each entry in its own way: an arrival says so in
-/// its outcome, a count query above 2^32, and the part that holds the marks is empty.
-fn turned_down(call: &Call, refusal: Refusal) -> After {
-    let mut after = After { answer: answer_of(Err(refusal)), slices: call.slices.clone() };
-    match call.entry {
-        Entry::Marks => after.answer = 0,
-        Entry::Count => after.answer = (1 << 32) + u64::from(refusal.number()),
-        Entry::Arrive => {
-            after.answer = 0;
-            after.slices[3] = vec![2, refusal.number(), 0];
-        }
-        _ => {}
-    }
-    after
-}
-
 fn expect(make: Make, call: &Call, expected: &After) -> Result<(), String> {
     let shown = |found| format!("{:?} of shape {:?}: {found}", call.entry, call.shape_values());
     difference(call.entry, expected, &make(call)).map_or(Ok(()), |found| Err(shown(found)))
@@ -125,30 +102,6 @@ fn with_another_fault(make: Make, shape: Shape, entry: Entry, random: &mut Rando
         }
     }
     Ok(tried)
-}
-
-/// The call with a fault that a later test would find: a slice of wrong length, a number too large.
-fn later_faults(call: &Call, random: &mut Random) -> Vec<Call> {
-    let mut calls = vec![Call { number: u32::MAX, ..call.clone() }];
-    for i in (0..call.slices.len()).filter(|&i| !crosses(call.entry, i)) {
-        let mut spoiled = |slice: Vec<u32>| {
-            let mut call = call.clone();
-            call.slices[i] = slice;
-            calls.push(call);
-        };
-        let slice = &call.slices[i];
-        spoiled(vec![u32::MAX; slice.len()]);
-        for length in [0, slice.len().saturating_sub(1), slice.len() + 1] {
-            spoiled(resized(slice, length, random));
-        }
-    }
-    calls
-}
-
-/// What the harness needs to get a call across, so that its length comes first: the session and the
-/// outcome, and both of the lists that are to be of one length.
-fn crosses(entry: Entry, i: usize) -> bool {
-    matches!((entry, i), (Entry::Count, 0) | (Entry::Arrive, 0 | 3) | (Entry::Marks, _))
 }
 
 /// Shapes that agree on what counts: same answers, same words.

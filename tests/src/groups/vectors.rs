@@ -1,7 +1,7 @@
 //! The rules' bench values, and some for other slopes, as calls with what must come of them.
 
 use crate::call::{answer_of, difference, to_bytes, After, Call, Entry};
-use crate::reference::session::SESSION_LEN;
+use crate::reference::session::{CALLS_AT, LOWEST_AT, MARKS_AT, PAGES_AT, SESSION_LEN};
 use crate::reference::shape::{Refusal, Shape, SHAPE_LEN, SLOPES};
 use crate::report::{Group, Unit};
 
@@ -33,7 +33,7 @@ pub fn group(name: &'static str, make: fn(&Call) -> After) -> Group {
 }
 
 fn vectors() -> Vec<Vector> {
-    [positions(), words(), pages(), arrivals(), shapes(), slopes()].into_iter().flatten().collect()
+    [positions(), words(), pages(), arrivals(), figures(), shapes(), slopes()].into_iter().flatten().collect()
 }
 
 /// A call that answers `result` and leaves each slice as said.
@@ -116,9 +116,10 @@ fn arrivals() -> Vec<Vector> {
     let session = |taken: bool| {
         let mut session = fresh_values(B8);
         if taken {
-            session[SHAPE_LEN + 1] = 1;
-            session[SHAPE_LEN + 1024 + 3] = 1;
-            session[SHAPE_LEN + 1024 + 5] = 1;
+            session[PAGES_AT] = 1;
+            session[MARKS_AT + 1] = 1;
+            session[CALLS_AT + 3] = 1;
+            session[CALLS_AT + 5] = 1;
         }
         session
     };
@@ -130,6 +131,42 @@ fn arrivals() -> Vec<Vector> {
         vector("again", arrive(true, &damaged), Ok(0), &[&session(true), &P7_WORD, &[0; 6], &[1, 1, 1]]),
         vector("refused", arrive(true, &masked), Ok(0), &[&session(true), &masked, &[0; 6], &[2, 4, 0]]),
     ]
+}
+
+/// Pages 0, 2 and 3 have come, and now P7's, which is page 1: the lowest number goes from 1 to 4.
+fn figures() -> Vec<Vector> {
+    let session = |pages: u32, lowest: u32| {
+        let mut session = fresh_values(B8);
+        (session[PAGES_AT], session[LOWEST_AT]) = (pages, lowest);
+        [0, 2, 3].into_iter().for_each(|page| session[MARKS_AT + page] = 1);
+        session[CALLS_AT + 5] = 6;
+        session
+    };
+    let scratch = |value: u32| vec![value; B8.scratch_len()];
+    let arrive = |session: &[u32]| Call::new(Entry::Arrive, B8, &[session, &P7_WORD, &scratch(7), &[9; 3]]);
+    let mut after = session(4, 4);
+    after[MARKS_AT + 1] = 1;
+    after[CALLS_AT + 3] = 1;
+    after[CALLS_AT + 5] = 7;
+    let mut vectors =
+        vec![vector("figures 3 1", arrive(&session(3, 1)), Ok(0), &[&after, &P7_WORD, &scratch(0), &[0, 1, 0]])];
+    for (name, pages, lowest) in
+        [("figures 1 3", 1, 3), ("figures 2 1", 2, 1), ("figures 3 0", 3, 0), ("figures 4 4", 4, 4)]
+    {
+        let session = session(pages, lowest);
+        vectors.push(vector(name, arrive(&session), Ok(0), &[&session, &P7_WORD, &scratch(7), &[2, 11, 0]]));
+    }
+    for (name, pages, function, answer) in [
+        ("count, figures 3 1", 3, 5, 6),
+        ("count, figures 2 1", 2, 5, (1 << 32) + 11),
+        ("count of 256, figures 3 1", 3, 256, (1 << 32) + 7),
+        ("count of 256, figures 2 1", 2, 256, (1 << 32) + 11),
+    ] {
+        let call = Call::numbered(Entry::Count, B8, function, &[&session(pages, 1)]);
+        let expected = After { answer, slices: call.slices.clone() };
+        vectors.push(Vector { name, call, expected });
+    }
+    vectors
 }
 
 fn shapes() -> Vec<Vector> {

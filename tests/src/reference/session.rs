@@ -1,16 +1,39 @@
-//! The session: which pages have come, and how often each function was called.
+//! The session: which pages have come, the two figures that follow from them, and how often each
+//! function was called.
 
 use super::page::{read_page, FUNCTIONS, PAGES};
 use super::reader::decode;
 use super::shape::{Refusal, Shape, SHAPE_LEN};
 use super::writer::information;
 
-/// A session as numbers: its shape's, a mark for each page, a count for each function.
-pub const SESSION_LEN: usize = SHAPE_LEN + PAGES + FUNCTIONS;
+/// Where a session as numbers has what: its shape's values first, then the two figures, a mark for each
+/// page, a count for each function.
+pub const PAGES_AT: usize = SHAPE_LEN;
+pub const LOWEST_AT: usize = PAGES_AT + 1;
+pub const MARKS_AT: usize = LOWEST_AT + 1;
+pub const CALLS_AT: usize = MARKS_AT + PAGES;
+pub const SESSION_LEN: usize = CALLS_AT + FUNCTIONS;
+
+/// How many pages are taken, and the lowest page number that is not, 1024 when all are.
+#[derive(Clone, Copy, Debug, PartialEq, Eq)]
+pub struct Figures {
+    pub pages: u32,
+    pub lowest: u32,
+}
+
+impl Figures {
+    /// What the marks say.
+    pub fn of(taken: &[bool; PAGES]) -> Figures {
+        let pages = taken.iter().filter(|&&yes| yes).count();
+        let lowest = taken.iter().position(|&yes| !yes).unwrap_or(PAGES);
+        Figures { pages: pages as u32, lowest: lowest as u32 }
+    }
+}
 
 #[derive(Clone, PartialEq, Eq)]
 pub struct Session {
     pub shape: Shape,
+    pub figures: Figures,
     pub taken: [bool; PAGES],
     pub calls: [u32; FUNCTIONS],
 }
@@ -36,11 +59,28 @@ impl Outcome {
 impl Session {
     pub fn fresh(shape: Shape) -> Result<Session, Refusal> {
         shape.judge()?;
-        Ok(Session { shape, taken: [false; PAGES], calls: [0; FUNCTIONS] })
+        let figures = Figures { pages: 0, lowest: 0 };
+        Ok(Session { shape, figures, taken: [false; PAGES], calls: [0; FUNCTIONS] })
+    }
+
+    /// Tests 1, 18 and 11, with which every entry begins that is given a session.
+    fn judge(&self) -> Result<(), Refusal> {
+        self.shape.judge()?;
+        if self.figures == Figures::of(&self.taken) {
+            Ok(())
+        } else {
+            Err(Refusal::Figures)
+        }
+    }
+
+    /// Turns a page to yes; the figures follow.
+    pub fn take(&mut self, page: u32) {
+        self.taken[page as usize] = true;
+        self.figures = Figures::of(&self.taken);
     }
 
     pub fn count(&self, function: u32) -> Result<u32, Refusal> {
-        self.shape.judge()?;
+        self.judge()?;
         self.calls.get(function as usize).copied().ok_or(Refusal::Function)
     }
 
@@ -49,8 +89,8 @@ impl Session {
     }
 
     fn try_arrive(&mut self, word: &mut [u32], scratch: &mut [u32]) -> Result<Outcome, Refusal> {
+        self.judge()?;
         let shape = self.shape;
-        shape.judge()?;
         if word.len() != shape.word_len() || scratch.len() != shape.scratch_len() {
             return Err(Refusal::Length);
         }
@@ -65,13 +105,14 @@ impl Session {
             return Ok(Outcome::Again { page, corrected });
         }
         self.calls = add_marks(self.calls, &data[2..2 + head.marks])?;
-        self.taken[page as usize] = true;
+        self.take(page);
         word.copy_from_slice(&restored);
         Ok(Outcome::Taken { page, corrected })
     }
 
     pub fn values(&self) -> Vec<u32> {
         let mut values = self.shape.values().to_vec();
+        values.extend([self.figures.pages, self.figures.lowest]);
         values.extend(self.taken.map(u32::from));
         values.extend(self.calls);
         values
@@ -79,12 +120,11 @@ impl Session {
 
     /// From exactly SESSION_LEN numbers; any nonzero mark is a yes.
     pub fn from_values(values: &[u32]) -> Session {
-        let (shape, rest) = values.split_at(SHAPE_LEN);
-        let (taken, calls) = rest.split_at(PAGES);
         Session {
-            shape: Shape::from_values(shape),
-            taken: std::array::from_fn(|page| taken[page] != 0),
-            calls: std::array::from_fn(|function| calls[function]),
+            shape: Shape::from_values(&values[..SHAPE_LEN]),
+            figures: Figures { pages: values[PAGES_AT], lowest: values[LOWEST_AT] },
+            taken: std::array::from_fn(|page| values[MARKS_AT + page] != 0),
+            calls: std::array::from_fn(|function| values[CALLS_AT + function]),
         }
     }
 }

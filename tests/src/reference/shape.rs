@@ -22,6 +22,7 @@ pub enum Refusal {
     Tail = 8,
     Overflow = 9,
     Syntax = 10,
+    Figures = 11,
     Slope = 18,
 }
 

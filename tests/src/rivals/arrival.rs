@@ -2,7 +2,7 @@
 
 use super::refused;
 use crate::reference::page::{read_page, FUNCTIONS, PAGES};
-use crate::reference::session::{Outcome, SESSION_LEN};
+use crate::reference::session::{Figures, Outcome, SESSION_LEN};
 use crate::reference::shape::{Refusal, Shape, SHAPE_LEN};
 
 /// A reader, and what takes the information symbols out of a word.
@@ -14,16 +14,26 @@ pub struct Way<'a> {
 
 pub struct State {
     pub shape: Shape,
+    pub figures: Figures,
     pub taken: [bool; PAGES],
     pub calls: [u32; FUNCTIONS],
 }
 
 impl State {
     pub fn fresh(shape: Shape) -> State {
-        State { shape, taken: [false; PAGES], calls: [0; FUNCTIONS] }
+        let figures = Figures { pages: 0, lowest: 0 };
+        State { shape, figures, taken: [false; PAGES], calls: [0; FUNCTIONS] }
     }
 
-    /// The word is restored only if the arrival is not refused.
+    /// An arrival at a session from elsewhere: test 11 after 1 and 18.
+    fn arrive_tested(&mut self, way: Way, word: &mut [u32], scratch: &mut [u32]) -> Outcome {
+        if self.shape.lawful() && self.figures != Figures::of(&self.taken) {
+            return Outcome::Refused(Refusal::Figures);
+        }
+        self.arrive(way, word, scratch)
+    }
+
+    /// The word is restored only if the arrival is not refused. The figures are taken to be right.
     pub fn arrive(&mut self, way: Way, word: &mut [u32], scratch: &mut [u32]) -> Outcome {
         let shape = self.shape;
         if let Err(refusal) = shape.judge() {
@@ -71,6 +81,10 @@ impl State {
         }
         self.calls = calls;
         self.taken[page as usize] = true;
+        self.figures.pages += 1;
+        while self.taken.get(self.figures.lowest as usize) == Some(&true) {
+            self.figures.lowest += 1;
+        }
         Outcome::Taken { page, corrected }
     }
 }
@@ -82,15 +96,18 @@ pub fn arrive(way: Way, session: &mut [u32], word: &mut [u32], scratch: &mut [u3
         return refused(Refusal::Length);
     }
     let (shape, rest) = session.split_at_mut(SHAPE_LEN);
+    let (figures, rest) = rest.split_at_mut(2);
     let (taken, calls) = rest.split_at_mut(PAGES);
     let mut state = State::fresh(Shape::from_values(shape));
+    state.figures = Figures { pages: figures[0], lowest: figures[1] };
     for (yes, &number) in state.taken.iter_mut().zip(&*taken) {
         *yes = number != 0;
     }
     state.calls.copy_from_slice(calls);
-    let answer = state.arrive(way, word, scratch);
+    let answer = state.arrive_tested(way, word, scratch);
     outcome.copy_from_slice(&answer.values());
     if let Outcome::Taken { .. } = answer {
+        figures.copy_from_slice(&[state.figures.pages, state.figures.lowest]);
         for (number, &yes) in taken.iter_mut().zip(&state.taken) {
             *number = u32::from(yes);
         }

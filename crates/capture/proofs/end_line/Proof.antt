@@ -12,14 +12,14 @@ use Rattle.capture.proofs.end_line.Tie as tie
 slice-aggregate-judge : tie.Need-slice-aggregate-judge
 slice-aggregate-judge c =
     let few : c .before .before .if1 .end < 16384 = ⊎-elim (λ x. omega arith) (λ x. omega arith) (c .before .before .if1 .came) in
-    sym (length-take-le _ _ (omega (arith, c .before .before .before .before .before .before .pre .0)))
+    sym (length-take-le _ _ (omega (arith, c .before .before .before .before .before .before .pre .1)))
 
 judge-requires : tie.Need-judge-requires
 judge-requires c κs =
     let start = c .before .before .before .before .before .before .before in
     let end = c .before .before .before .if1 .end in
     let few : end < 16384 = ⊎-elim (λ x. omega arith) (λ x. omega arith) (c .before .before .before .if1 .came) in
-    (rw (length-take-le end (start .args .line .now) (omega (arith, start .pre .0))) few, start .pre .1)
+    (start .pre .0, rw (length-take-le end (start .args .line .now) (omega (arith, start .pre .1))) few, start .pre .2)
 
 put-answer-requires : tie.Need-put-answer-requires
 put-answer-requires c κs = search needs
@@ -33,7 +33,7 @@ same-length-2 c = search needs
 returns : tie.Need-returns
 returns c =
     let end : End _ _ = ⊎-elim (λ x. end-short (x .0 .taken) (x .1)) (λ x. end-long (x .0 .left) (x .1)) (c .before .before .before .before .before .before .before .before .before .before .before .if1 .came) in
-    line-ended _ end (c .before .before .before .before .before .before .before .judge .ensures .0) (c .before .before .before .before .before .before .before .judge .ensures .1) (c .before .before .put-answer .ensures .0) (c .before .before .put-answer .ensures .1)
+    line-ended _ (c .before .before .before .before .before .before .before .before .before .before .before .before .before .before .before .pre .0) end (c .before .before .before .before .before .before .before .judge .ensures .0) (c .before .before .before .before .before .before .before .judge .ensures .1) (c .before .before .put-answer .ensures .0) (c .before .before .put-answer .ensures .1)
 
 pub end-line-spec : {M : Type 1} → statement M
 end-line-spec =

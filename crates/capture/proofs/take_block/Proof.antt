@@ -16,7 +16,7 @@ abbrev μ-loop : tie.MeasureT-loop
 μ-loop block line₀ scratch₀ out₀ reader₀ from₀ line scratch out reader from = length block - from
 
 loop-holds : tie.Need-loop-holds Inv-loop μ-loop
-loop-holds c = reading-begins _ _ _ _ _ refl (c .before .before .before .before .pre .1) (c .before .before .before .before .pre .2) (c .before .before .before .before .pre .3)
+loop-holds c = reading-begins _ _ _ _ _ (c .before .before .before .before .pre .0) refl (c .before .before .before .before .pre .2) (c .before .before .before .before .pre .3) (c .before .before .before .before .pre .4)
 
 find-newline-requires : tie.Need-find-newline-requires Inv-loop μ-loop
 find-newline-requires c κs = (c .loop .inv .low, le-refl _)
@@ -44,17 +44,17 @@ same-length-3 c = search needs
 
 returns : tie.Need-returns Inv-loop μ-loop
 returns c =
-    let taken = block-taken (c .before .before .before .before .before .before .before .loop .inv) (c .before .before .before .before .before .before .find-newline .ensures) (c .before .before .before .append .ensures) (c .if1 .taken) (c .before .before .before .before .before .before .before .before .before .before .before .before .pre .0) in
-    record { fed = taken .fed; within = taken .within; line = taken .line; room = taken .room; size = taken .size }
+    let taken = block-taken (c .before .before .before .before .before .before .before .loop .inv) (c .before .before .before .before .before .before .find-newline .ensures) (c .before .before .before .append .ensures) (c .if1 .taken) (c .before .before .before .before .before .before .before .before .before .before .before .before .pre .1) in
+    record { fed = taken .fed; figures = taken .figures; within = taken .within; line = taken .line; room = taken .room; size = taken .size }
 
 end-line-requires : tie.Need-end-line-requires Inv-loop μ-loop
 end-line-requires c κs =
     let inv = c .before .before .before .before .before .before .before .before .before .before .loop .inv in
     let found = c .before .before .before .before .before .before .before .before .before .find-newline .ensures in
-    (c .before .before .before .before .before .before .append .ensures .size, inv .scratch-size, omega (arith, inv .few, inv .out-size, found .low, found .high, c .before .before .before .before .before .before .before .before .before .before .before .before .before .before .before .pre .0, c .before .before .before .if1 .left))
+    (inv .figures, c .before .before .before .before .before .before .append .ensures .size, inv .scratch-size, omega (arith, inv .few, inv .out-size, found .low, found .high, c .before .before .before .before .before .before .before .before .before .before .before .before .before .before .before .pre .1, c .before .before .before .if1 .left))
 
 add-from : tie.Need-add-from Inv-loop μ-loop
-add-from c = omega (arith, c .before .before .before .before .before .before .before .before .before .before .before .before .before .before .find-newline .ensures .high, c .before .before .before .before .before .before .before .before .before .before .before .before .before .before .before .before .before .before .before .before .pre .0)
+add-from c = omega (arith, c .before .before .before .before .before .before .before .before .before .before .before .before .before .before .find-newline .ensures .high, c .before .before .before .before .before .before .before .before .before .before .before .before .before .before .before .before .before .before .before .before .pre .1)
 
 loop-less : tie.Need-loop-less Inv-loop μ-loop
 loop-less c =

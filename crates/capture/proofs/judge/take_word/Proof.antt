@@ -19,7 +19,7 @@ enum-told : tie.Need-enum-told
 enum-told c = search needs
 
 returns : tie.Need-returns
-returns c = (worded-none _ _ (content-none _ (c .before .before .parse .ensures .refused (c .enum-told .given .1))), c .before .before .before .before .before .before .pre)
+returns c = (worded-none _ _ (content-none _ (c .before .before .parse .ensures .refused (c .enum-told .given .1))), c .before .before .before .before .before .before .pre .1)
 
 room-for-requires : tie.Need-room-for-requires
 room-for-requires c κs = search needs
@@ -29,19 +29,19 @@ array-borrow-prefix-values c =
     let cut : Cut _ _ = ⊎-elim (λ x. cut-few (x .0 .taken) (x .1)) (λ x. cut-many (x .0 .left) (x .1)) (c .before .before .if1 .came) in
     omega (arith, c .before .before .before .before .before .before .parse .ensures .size, cut .most)
 
-slice-aggregate-arrive : tie.Need-slice-aggregate-arrive
-slice-aggregate-arrive c =
+slice-aggregate-step : tie.Need-slice-aggregate-step
+slice-aggregate-step c =
     let cut : Cut _ _ = ⊎-elim (λ x. cut-few (x .0 .taken) (x .1)) (λ x. cut-many (x .0 .left) (x .1)) (c .before .before .before .if1 .came) in
     sym (length-take-le _ _ (omega (arith, c .before .before .before .before .before .before .before .parse .ensures .size, cut .most)))
 
-slice-relend-prefix-arrive : tie.Need-slice-relend-prefix-arrive
-slice-relend-prefix-arrive c = search needs
+slice-relend-prefix-step : tie.Need-slice-relend-prefix-step
+slice-relend-prefix-step c = search needs
 
-slice-aggregate-arrive-2 : tie.Need-slice-aggregate-arrive-2
-slice-aggregate-arrive-2 c = sym (length-take-le _ _ (omega (arith, c .before .before .room-for .ensures .few, c .before .before .before .before .before .before .before .before .before .before .before .before .pre)))
+slice-aggregate-step-2 : tie.Need-slice-aggregate-step-2
+slice-aggregate-step-2 c = sym (length-take-le _ _ (omega (arith, c .before .before .room-for .ensures .few, c .before .before .before .before .before .before .before .before .before .before .before .before .pre .1)))
 
-arrive-requires : tie.Need-arrive-requires
-arrive-requires c κs = search needs
+step-requires : tie.Need-step-requires
+step-requires c κs = c .before .before .before .before .before .before .before .before .before .before .before .before .pre .0
 
 same-length : tie.Need-same-length
 same-length c = search needs
@@ -50,11 +50,11 @@ returns-2 : tie.Need-returns-2
 returns-2 c =
     let parsed = c .before .before .before .before .before .before .before .before .before .before .before .before .before .parse .ensures in
     let room = c .before .before .before .before .before .before .before .room-for .ensures in
-    let arrival = c .before .before .before .before .arrive .ensures in
+    let arrival = c .before .before .before .before .step .ensures in
     let scratch = c .before .before .before .before .before .before .before .before .before .before .before .before .before .before .before .before .before .args .scratch .now in
     let cut : Cut _ _ = ⊎-elim (λ x. cut-few (x .0 .taken) (x .1)) (λ x. cut-many (x .0 .left) (x .1)) (c .before .before .before .before .before .before .before .before .before .if1 .came) in (
-      worded-arrived _ (parsed .accepted _ (c .before .before .before .before .before .before .before .before .before .before .before .count .given .1)) (parsed .size) cut room scratch (c .before .before .before .before .before .before .before .before .before .before .before .before .before .before .before .before .before .pre) arrival,
-      scratch-kept scratch _ (c .before .before .before .before .before .before .before .before .before .before .before .before .before .before .before .before .before .pre) (room .few) arrival,
+      worded-arrived _ (parsed .accepted _ (c .before .before .before .before .before .before .before .before .before .before .before .count .given .1)) (parsed .size) cut room scratch (c .before .before .before .before .before .before .before .before .before .before .before .before .before .before .before .before .before .pre .1) arrival,
+      scratch-kept scratch _ (c .before .before .before .before .before .before .before .before .before .before .before .before .before .before .before .before .before .pre .1) (room .few) arrival,
     )
 
 pub take-word-spec : {M : Type 1} → statement M
@@ -67,9 +67,9 @@ take-word-spec =
     returns
     room-for-requires
     array-borrow-prefix-values
-    slice-aggregate-arrive
-    slice-relend-prefix-arrive
-    slice-aggregate-arrive-2
-    arrive-requires
+    slice-aggregate-step
+    slice-relend-prefix-step
+    slice-aggregate-step-2
+    step-requires
     same-length
     returns-2)

@@ -37,8 +37,16 @@ part-load-calls-end c = search needs
 load-calls-requires : tie.Need-load-calls-requires
 load-calls-requires c κs = search needs
 
+shared-slice-read-t16 : tie.Need-shared-slice-read-t16
+shared-slice-read-t16 c = search needs
+
+shared-slice-read-t18 : tie.Need-shared-slice-read-t18
+shared-slice-read-t18 c = search needs
+
 returns : tie.Need-returns
-returns c = loaded (c .before .before .before .before .before .before .before .args .values .now) (c .before .before .before .before .load-shape .ensures) (c .before .before .load-taken .ensures) (c .load-calls .ensures)
+returns c =
+    let parts = c .before .before in
+    loaded (parts .before .before .before .before .before .before .before .args .values .now) (parts .before .before .before .before .load-shape .ensures) (parts .before .before .load-taken .ensures) (parts .load-calls .ensures)
 
 pub load-spec : {M : Type 1} → statement M
 load-spec =
@@ -54,4 +62,6 @@ load-spec =
     part-load-calls-start
     part-load-calls-end
     load-calls-requires
+    shared-slice-read-t16
+    shared-slice-read-t18
     returns)

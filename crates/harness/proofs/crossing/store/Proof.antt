@@ -1,11 +1,14 @@
--- `harness::crossing::store` meets its contract: the counts fill what the shape and the marks leave.
-use mathlib.Core.Path.{sym, _∙_}
+-- `harness::crossing::store` meets its contract: the counts fill what the shape, the figures and the marks leave.
+use mathlib.Core.Path.{_≡_, sym, _∙_}
+use Prim.Native.Nat.{_-_}
 use native.Mathlib.Nat.{le-of-eq}
 use native.Mathlib.Omega.{arith}
+use lib.ListN.{length}
 use lib.Seq.{length-take-le}
 use borrow.Author.Needs.{needs}
+use borrow.Rule.Slice.PartMut.{same-len-mid}
 use Rattle.session.proofs.Arrays.{counts}
-use Rattle.harness.proofs.Crossings.{counts-room, stored}
+use Rattle.harness.proofs.Crossings.{paged-size, figured-size, begun, begun-size, counts-room, stored}
 use Rattle.harness.proofs.crossing.store.Statement.{statement}
 use Rattle.harness.proofs.crossing.store.Tie as tie
 
@@ -18,6 +21,19 @@ slice-aggregate-store-shape c = sym (length-take-le 10 (c .before .before .befor
 store-shape-requires : tie.Need-store-shape-requires
 store-shape-requires c κs = length-take-le 10 (c .before .before .before .before .before .args .values .now) (omega arith)
 
+-- the shape's values are ten
+ten : (c : tie.After-store-shape) → length (c .store-shape .last .1 .0) ≡ 10
+ten c = c .store-shape .kept .1 .0 ∙ length-take-le 10 (c .before .before .before .before .before .before .args .values .now) (omega arith)
+
+slice-write-values : tie.Need-slice-write-values
+slice-write-values c = search needs
+
+slice-write-values-2 : tie.Need-slice-write-values-2
+slice-write-values-2 c =
+    let head = c .before .before in
+    let start = head .before .before .before .before .before .before in
+    omega (arith, paged-size (start .args .values .now) (head .store-shape .last .1 .0) (start .args .session) (start .pre) (ten head))
+
 sub-store-taken : tie.Need-sub-store-taken
 sub-store-taken c = search needs
 
@@ -25,7 +41,10 @@ part-store-taken-start : tie.Need-part-store-taken-start
 part-store-taken-start c = search needs
 
 part-store-taken-end : tie.Need-part-store-taken-end
-part-store-taken-end c = search needs
+part-store-taken-end c =
+    let head = c .before .before in
+    let start = head .before .before .before .before .before .before in
+    omega (arith, figured-size (start .args .values .now) (head .store-shape .last .1 .0) (start .args .session) (start .pre) (ten head))
 
 store-taken-requires : tie.Need-store-taken-requires
 store-taken-requires c κs = search needs
@@ -33,33 +52,46 @@ store-taken-requires c κs = search needs
 slice-aggregate-copy : tie.Need-slice-aggregate-copy
 slice-aggregate-copy c = search needs
 
+-- all values are still there
+all-begun : (c : tie.After-store-taken) → length (begun (c .before .before .before .before .before .before .before .before .before .before .args .values .now) (c .before .before .before .before .store-shape .last .1 .0) (c .before .before .before .before .before .before .before .before .before .before .args .session) (c .store-taken .last .1 .0)) ≡ 1292
+all-begun c =
+    let head = c .before .before .before .before in
+    let start = head .before .before .before .before .before .before in
+    begun-size (start .args .values .now) (head .store-shape .last .1 .0) (start .args .session) (start .pre) (ten head) (c .store-taken .last .1 .0) (c .store-taken .kept .1 .0)
+
 sub-copy : tie.Need-sub-copy
-sub-copy c = search needs
+sub-copy c = omega (arith, all-begun (c .before .before .before))
 
 part-copy-start : tie.Need-part-copy-start
-part-copy-start c = search needs
+part-copy-start c = omega (arith, all-begun (c .before .before .before))
 
 part-copy-end : tie.Need-part-copy-end
 part-copy-end c = search needs
 
 copy-requires : tie.Need-copy-requires
 copy-requires c κs =
-    let start = c .before .before .before .before .before .before .before .before .before .before .before .before .before .before in
-    let head = c .before .before .before .before .before .before .before .before .store-shape in
-    let marks = c .before .before .before .before .store-taken in
+    let marks = c .before .before .before .before in
+    let head = marks .before .before .before .before in
+    let start = head .before .before .before .before .before .before in
     le-of-eq
     (counts (start .args .session .calls) _ (start .good .0 .1 .1 .1 .1 .0) .size
-    ∙ sym (counts-room (start .args .values .now) (head .last .1 .0) (marks .last .1 .0) (start .pre) (head .kept .1 .0 ∙ length-take-le 10 (start .args .values .now) (omega arith)) (marks .kept .1 .0)))
+    ∙ sym (counts-room (start .args .values .now) (head .store-shape .last .1 .0) (start .args .session) (start .pre) (ten head) (marks .store-taken .last .1 .0) (marks .store-taken .kept .1 .0)))
 
 same-length : tie.Need-same-length
-same-length c = search needs
+same-length c =
+    let marks = c .before .before .before .before .before .before .before in
+    let head = marks .before .before .before .before in
+    let start = head .before .before .before .before .before .before in
+    let now = begun (start .args .values .now) (head .store-shape .last .1 .0) (start .args .session) (marks .store-taken .last .1 .0) in
+    let copied = c .before .before .copy in
+    same-len-mid 1036 (length now - 1036) now (copied .last .1 .0) (copied .kept .1 .0) ∙ all-begun marks ∙ sym (start .pre)
 
 returns : tie.Need-returns
 returns c =
-    let start = c .before .before .before .before .before .before .before .before .before .before .before .before .before .before .before .before .before in
-    let head = c .before .before .before .before .before .before .before .before .before .before .before .store-shape in
-    let marks = c .before .before .before .before .before .before .before .store-taken in
-    stored (start .args .values .now) _ _ (start .pre) (head .kept .1 .0 ∙ length-take-le 10 (start .args .values .now) (omega arith)) (marks .kept .1 .0) (start .args .session) (head .ensures) (marks .ensures)
+    let marks = c .before .before .before .before .before .before .before in
+    let head = marks .before .before .before .before in
+    let start = head .before .before .before .before .before .before in
+    stored (start .args .values .now) _ (start .args .session) (start .pre) (ten head) _ (marks .store-taken .kept .1 .0) (head .store-shape .ensures) (marks .store-taken .ensures)
     (counts (start .args .session .calls) _ (start .good .0 .1 .1 .1 .1 .0) .size) (c .before .before .copy .ensures)
 
 pub store-spec : {M : Type 1} → statement M
@@ -69,6 +101,8 @@ store-spec =
     slice-relend-prefix-store-shape
     slice-aggregate-store-shape
     store-shape-requires
+    slice-write-values
+    slice-write-values-2
     sub-store-taken
     part-store-taken-start
     part-store-taken-end

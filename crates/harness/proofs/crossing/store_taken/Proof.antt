@@ -7,7 +7,8 @@ use native.Mathlib.Omega.{arith}
 use lib.ListN.{length, take, drop, length-set}
 use borrow.Author.Needs.{needs}
 use Rattle.parity.specs.Count.{bit}
-use Rattle.harness.proofs.Crossings.{bit-byte, crossed, all-crossed}
+use Rattle.session.proofs.Progress.{bit-byte}
+use Rattle.harness.proofs.Crossings.{crossed, all-crossed}
 use Rattle.harness.proofs.crossing.store_taken.Statement.{statement}
 use Rattle.harness.proofs.crossing.store_taken.Tie as tie
 

@@ -19,8 +19,8 @@ start c = clearing c .before .before .before .before .before .before .before
 looked : (c : tie.After-read-page)
     → Looked (start c .args .self) (start c .args .word .now) (start c .args .scratch .now) (start c .args .copied .now) (start c .args .symbols .now) (start c .args .k) (clearing c .clear .last .0) (gathering c .gather .last .1 .1 .0) (c .read-page .result)
 looked c = record {
-  lent = start c .pre .0;
-  restored = start c .pre .1;
+  lent = start c .pre .1;
+  restored = start c .pre .2;
   cleared = clearing c .clear .ensures;
   gathered = gathering c .gather .ensures;
   page = c .read-page .ensures .answer;
@@ -60,7 +60,10 @@ part-settled-end : tie.Need-part-settled-end
 part-settled-end c = let p = c .before .before in open-room (looked (p .before .before)) (p .number .given .1)
 
 settled-requires : tie.Need-settled-requires
-settled-requires c κs = let p = c .before .before .before in open-asks (looked (p .before .before)) (p .number .given .1)
+settled-requires c κs =
+    let p = c .before .before .before in
+    let asks = open-asks (looked (p .before .before)) (p .number .given .1) in
+    (start (p .before .before) .pre .0, asks .0, asks .1)
 
 accepts-requires : tie.Need-accepts-requires
 accepts-requires c κs = search needs

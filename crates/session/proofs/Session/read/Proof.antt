@@ -33,7 +33,8 @@ open-requires : tie.Need-open-requires
 open-requires c κs =
     let k = c .before .before .before .before .before in
     let d = k .before .before .before .before in
-    read-good (start d .args .self) (start d .pre) (copying d .copy .ensures) (d .decode .ensures) (k .k .given .1)
+    let good = read-good (start d .args .self) (start d .pre .1) (copying d .copy .ensures) (d .decode .ensures) (k .k .given .1) in
+    (start d .pre .0, good .0, good .1)
 
 same-length : tie.Need-same-length
 same-length c = search needs
@@ -48,7 +49,7 @@ returns : tie.Need-returns
 returns c =
     let e = c .before .before .before .before .before .before in
     let d = e .before .before .before .before in
-    read-bad (start d .args .self) (start d .pre) (copying d .copy .ensures) (d .decode .ensures) (e .e .given .1) (c .before .before .before .clear .ensures)
+    read-bad (start d .args .self) (start d .pre .1) (copying d .copy .ensures) (d .decode .ensures) (e .e .given .1) (c .before .before .before .clear .ensures)
     (c .refused .ensures)
 
 same-length-4 : tie.Need-same-length-4

@@ -1,0 +1,366 @@
+//! The two figures beside the page marks: in sessions from elsewhere, where they agree and where not,
+//! and in sessions grown from a fresh one. What must come of each call is said here, by a plain set of
+//! page numbers, not asked of the reference, which is held to it like the library.
+
+use super::calls::{good, later_faults, reshaped, resized, turned_down, YES};
+use crate::call::{answer_of, brief, difference, After, Call, Entry};
+use crate::capture::{page_numbers, Page};
+use crate::damage::{make, unmasked, Style};
+use crate::random::Random;
+use crate::reference::page::{FUNCTIONS, PAGES};
+use crate::reference::session::{CALLS_AT, MARKS_AT, PAGES_AT, SESSION_LEN};
+use crate::reference::shape::{orders_and_directions, Refusal, Shape};
+use crate::reference::writer::codeword;
+use crate::report::{Group, Unit, Verdict};
+use std::collections::BTreeSet;
+
+/// The reference or the library.
+type Make = fn(&Call) -> After;
+
+/// The pages that have come.
+type Come = BTreeSet<u32>;
+
+/// All page numbers, and the lowest number not taken where all are.
+const ALL: u32 = PAGES as u32;
+
+/// The group for whichever makes the calls.
+pub fn group(name: &'static str, make: Make) -> Group {
+    let mut group = Group::new(name, Unit::Calls);
+    for (q, n) in orders_and_directions() {
+        group.test(format!("that disagree, ({q}, {n})"), move |random| disagreeing(make, q, n, random));
+        group.test(format!("with another fault, ({q}, {n})"), move |random| with_another_fault(make, q, n, random));
+        group.test(format!("that agree, ({q}, {n})"), move |random| agreeing(make, q, n, random));
+        for order in ORDERS {
+            group.test(format!("grown, {order:?}, ({q}, {n})"), move |random| {
+                let b = random.pick(&[3, 8, 11, 32]);
+                grown(make, random.shape(q, n, b), 24, order, random)
+            });
+        }
+    }
+    for (q, n, b) in [(3, 2, 10), (3, 2, 32), (3, 3, 16), (5, 3, 11)] {
+        for order in ORDERS {
+            group.test(format!("all pages, {order:?}, ({q}, {n}, {b})"), move |random| {
+                grown(make, random.shape(q, n, b), PAGES, order, random)
+            });
+        }
+    }
+    group
+}
+
+/// The numbers from 0 on that are all there, in order, come before it.
+fn lowest_missing(come: &Come) -> u32 {
+    come.iter().zip(0..).take_while(|(&page, number)| page == *number).count() as u32
+}
+
+fn figures(come: &Come) -> [u32; 2] {
+    [come.len() as u32, lowest_missing(come)]
+}
+
+/// A session as it crosses.
+fn session(shape: Shape, figures: [u32; 2], marks: &[u32], calls: &[u32]) -> Vec<u32> {
+    [&shape.values()[..], &figures, marks, calls].concat()
+}
+
+/// Each yes crosses as 1.
+fn plain_marks(come: &Come) -> Vec<u32> {
+    let mut marks = vec![0; PAGES];
+    come.iter().for_each(|&page| marks[page as usize] = 1);
+    marks
+}
+
+/// Each yes crosses as any nonzero number.
+fn any_marks(come: &Come, random: &mut Random) -> Vec<u32> {
+    plain_marks(come).into_iter().map(|mark| mark * random.pick(&YES)).collect()
+}
+
+/// Counts that a page's marks don't fill.
+fn any_calls(random: &mut Random) -> Vec<u32> {
+    (0..FUNCTIONS).map(|_| random.number() >> (1 + random.below(31))).collect()
+}
+
+/// Sets of pages from none to all: single ones, all but single ones, runs, runs with holes, any.
+fn sets(random: &mut Random) -> Vec<Come> {
+    let any = random.below(PAGES) as u32;
+    let mut sets = vec![Come::new(), (0..ALL).collect()];
+    for page in [0, 1, 2, 511, ALL - 1, any] {
+        sets.push(Come::from([page]));
+        sets.push((0..ALL).filter(|&other| other != page).collect());
+        sets.push((0..page).collect());
+        sets.push((page..ALL).collect());
+    }
+    for step in [2, 3, 8] {
+        sets.push((0..ALL).filter(|page| page % step == 0).collect());
+        sets.push((0..ALL).filter(|page| page % step != 0).collect());
+    }
+    for most in [any, ALL] {
+        sets.push((0..most).filter(|_| random.one_in(2)).collect());
+        sets.push((0..most).filter(|_| random.one_in(16)).collect());
+        sets.push((0..most).filter(|_| !random.one_in(16)).collect());
+    }
+    sets
+}
+
+/// Figures that are not those of the set: off by one, swapped, zero, full, of another set, far away,
+/// and right but for the upper bits.
+fn wrong_figures(come: &Come, marks: &[u32]) -> Vec<[u32; 2]> {
+    let [pages, lowest] = figures(come);
+    let sum = marks.iter().fold(0, |sum: u32, &mark| sum.wrapping_add(mark));
+    let next = (lowest + 1..ALL).find(|page| !come.contains(page)).unwrap_or(ALL);
+    let after_last = come.last().map_or(0, |page| page + 1);
+    let around = |right: u32| {
+        let near = [right.wrapping_sub(1), right + 1, 0, 1, 2, ALL - 1, ALL, ALL + 1, u32::MAX];
+        near.into_iter().chain([8, 10, 16, 31].map(|bit| right ^ 1 << bit))
+    };
+    let mut wrong = vec![[lowest, pages], [0, 0], [0, 1], [ALL, ALL], [u32::MAX, u32::MAX]];
+    wrong.extend([[pages + 1, lowest + 1], [pages.wrapping_sub(1), lowest.wrapping_sub(1)], [pages + 1, next]]);
+    wrong.extend(around(pages).chain([lowest, sum, ALL - pages]).map(|other| [other, lowest]));
+    wrong.extend(around(lowest).chain([pages, next, after_last]).map(|other| [pages, other]));
+    wrong.retain(|&other| other != [pages, lowest]);
+    wrong
+}
+
+/// Calls of both entries that take a session, with this one.
+fn calls_with(session: &[u32], shape: Shape, random: &mut Random) -> [Call; 2] {
+    [Entry::Count, Entry::Arrive].map(|entry| {
+        let mut call = good(entry, shape, random);
+        call.slices[0] = session.to_vec();
+        call
+    })
+}
+
+fn expect(make: Make, call: &Call, expected: &After) -> Result<(), String> {
+    let shown = |found| {
+        let part = |range| brief(call.slices[0].get(range).unwrap_or(&[]));
+        let (figures, marks) = (part(PAGES_AT..MARKS_AT), part(MARKS_AT..CALLS_AT));
+        format!("{:?} of {:?}, figures {figures}: {found}; marks {marks:.1000}", call.entry, call.shape)
+    };
+    difference(call.entry, expected, &make(call)).map_or(Ok(()), |found| Err(shown(found)))
+}
+
+/// Nothing else is wrong: 11, and all is as lent, the scratch too.
+fn disagreeing(make: Make, q: u32, n: u32, random: &mut Random) -> Verdict {
+    let mut tried = 0;
+    for come in sets(random) {
+        let b = random.pick(&[1, 2, 8, 10, 11, 31, 32]);
+        let (shape, calls) = (random.shape(q, n, b), any_calls(random));
+        let marks = if random.one_in(2) { plain_marks(&come) } else { any_marks(&come, random) };
+        let lent = calls_with(&session(shape, figures(&come), &marks, &calls), shape, random);
+        for [pages, lowest] in wrong_figures(&come, &marks) {
+            for mut call in lent.clone() {
+                call.slices[0][PAGES_AT..MARKS_AT].copy_from_slice(&[pages, lowest]);
+                expect(make, &call, &turned_down(&call, Refusal::Figures))?;
+                tried += 1;
+            }
+        }
+    }
+    Ok(tried)
+}
+
+/// Wrong figures beside something else: 1 and 18 come before them, everything else after. A session or
+/// an outcome of wrong length doesn't get across.
+fn with_another_fault(make: Make, q: u32, n: u32, random: &mut Random) -> Verdict {
+    let mut tried = 0;
+    let b = random.pick(&[1, 2, 8, 10, 11, 31, 32]);
+    let shape = random.shape(q, n, b);
+    for come in sets(random) {
+        let marks = any_marks(&come, random);
+        let wrong = random.pick(&wrong_figures(&come, &marks));
+        for call in calls_with(&session(shape, wrong, &marks, &any_calls(random)), shape, random) {
+            let mut cases = vec![];
+            for unlawful in [Shape { q: 9, ..shape }, Shape { n: 9, ..shape }, Shape { b: 33, ..shape }] {
+                cases.push((reshaped(&call, unlawful), Refusal::Shape));
+                cases.push((reshaped(&call, bad_slope(unlawful, shape, random)), Refusal::Shape));
+            }
+            cases.push((reshaped(&call, bad_slope(shape, shape, random)), Refusal::Slope));
+            cases.extend(later_faults(&call, random).into_iter().map(|call| (call, Refusal::Figures)));
+            for (call, refusal) in cases {
+                expect(make, &call, &turned_down(&call, refusal))?;
+                tried += 1;
+            }
+            for call in that_cannot_cross(&call, random) {
+                let mut expected = turned_down(&call, Refusal::Length);
+                if call.entry == Entry::Arrive {
+                    expected = After { answer: answer_of(Err(Refusal::Length)), slices: call.slices.clone() };
+                }
+                expect(make, &call, &expected)?;
+                tried += 1;
+            }
+        }
+    }
+    Ok(tried)
+}
+
+/// The shape with a slope that is too large, or stands twice, among those that count for `lawful`.
+fn bad_slope(shape: Shape, lawful: Shape, random: &mut Random) -> Shape {
+    let mut slopes = shape.slopes;
+    let last = lawful.own_slopes().len() - 1;
+    let bad = random.pick(&[lawful.q, u32::MAX, slopes[0]]);
+    slopes[last] = if last == 0 { lawful.q } else { bad };
+    shape.with_slopes(slopes)
+}
+
+/// The call with its session or its outcome too short or too long.
+fn that_cannot_cross(call: &Call, random: &mut Random) -> Vec<Call> {
+    let mut calls = vec![];
+    let mut with_length = |i: usize, length: usize| {
+        let mut call = call.clone();
+        call.slices[i] = resized(&call.slices[i], length, random);
+        calls.push(call);
+    };
+    [0, SESSION_LEN - 2, SESSION_LEN - 1, SESSION_LEN + 1].into_iter().for_each(|length| with_length(0, length));
+    if call.entry == Entry::Arrive {
+        [0, 2, 4].into_iter().for_each(|length| with_length(3, length));
+    }
+    calls
+}
+
+/// Right figures: a count query is answered, a page that has come is again, another is taken and the
+/// figures follow, unless a count is full. The lowest page not taken comes too, whatever is taken next to it.
+fn agreeing(make: Make, q: u32, n: u32, random: &mut Random) -> Verdict {
+    let mut tried = 0;
+    for come in sets(random) {
+        let b = random.pick(&[1, 2, 8, 10, 11, 31, 32]);
+        let (shape, calls) = (random.shape(q, n, b), any_calls(random));
+        let marks = if random.one_in(2) { plain_marks(&come) } else { any_marks(&come, random) };
+        let session = session(shape, figures(&come), &marks, &calls);
+        for function in [0, 255, 256, random.below(300) as u32, u32::MAX] {
+            let call = Call::numbered(Entry::Count, shape, function, &[&session]);
+            let mut expected = turned_down(&call, Refusal::Function);
+            if let Some(&calls) = calls.get(function as usize) {
+                expected.answer = calls.into();
+            }
+            expect(make, &call, &expected)?;
+            tried += 1;
+        }
+        let any = random.below(page_numbers(shape)) as u32;
+        let numbers = [lowest_missing(&come), 0, come.last().copied().unwrap_or(0), any];
+        for number in numbers.into_iter().filter(|&number| (number as usize) < page_numbers(shape)) {
+            let page = Page::random(shape, number, random);
+            let (call, weight) = readable(shape, &session, &page, random);
+            expect(make, &call, &after_arrival(&call, &page, weight, &mut come.clone()))?;
+            tried += 1;
+            if let Some(&function) = page.marks.last().filter(|_| !come.contains(&number)) {
+                let mut worn = call.clone();
+                worn.slices[0][CALLS_AT + function as usize] = u32::MAX;
+                let mut expected = turned_down(&worn, Refusal::Overflow);
+                expected.slices[2].fill(0);
+                expect(make, &worn, &expected)?;
+                tried += 1;
+            }
+        }
+    }
+    Ok(tried)
+}
+
+/// The arrival of a page with damage that reading undoes, and how many symbols it changes.
+fn readable(shape: Shape, session: &[u32], page: &Page, random: &mut Random) -> (Call, u32) {
+    let weight = random.below(shape.n as usize);
+    let error = unmasked(shape, weight, random);
+    let word = page.damaged(shape, &error);
+    let scratch = random.numbers(shape.scratch_len());
+    (Call::new(Entry::Arrive, shape, &[session, &word, &scratch, &[9; 3]]), error.len() as u32)
+}
+
+/// What the arrival of this page leaves where these have come. The page is one of them from then on.
+fn after_arrival(call: &Call, page: &Page, weight: u32, come: &mut Come) -> After {
+    let mut slices = call.slices.clone();
+    let again = !come.insert(page.number);
+    if !again {
+        let mut calls = slices[0][CALLS_AT..].to_vec();
+        page.marks.iter().for_each(|&mark| calls[mark as usize] += 1);
+        slices[0] = session(call.shape, figures(come), &plain_marks(come), &calls);
+    }
+    slices[1] = page.codeword(call.shape);
+    slices[2].fill(0);
+    slices[3] = vec![u32::from(again), page.number, weight];
+    After { answer: 0, slices }
+}
+
+/// In which order the pages of a recording come.
+#[derive(Clone, Copy, Debug)]
+enum Order {
+    Rising,
+    Falling,
+    Shuffled,
+    /// All but every eighth, then these: each makes the lowest number jump.
+    Holes,
+}
+
+const ORDERS: [Order; 4] = [Order::Rising, Order::Falling, Order::Shuffled, Order::Holes];
+
+fn numbers(order: Order, count: u32, random: &mut Random) -> Vec<u32> {
+    let mut numbers: Vec<u32> = (0..count).collect();
+    match order {
+        Order::Rising => {}
+        Order::Falling => numbers.reverse(),
+        Order::Shuffled => random.shuffle(&mut numbers),
+        Order::Holes => numbers.sort_by_key(|number| number % 8 == 0),
+    }
+    numbers
+}
+
+/// The first pages come to a fresh session, some of them again later, refused words between. After each
+/// arrival the session is what the pages say that have come; 11 never comes.
+fn grown(make: Make, shape: Shape, count: usize, order: Order, random: &mut Random) -> Verdict {
+    let fresh = Call::new(Entry::Fresh, shape, &[&random.numbers(SESSION_LEN)]);
+    let blank = session(shape, [0, 0], &[0; PAGES], &[0; FUNCTIONS]);
+    expect(make, &fresh, &After { answer: 0, slices: vec![blank.clone()] })?;
+    let (mut session, mut come, mut pages, mut tried) = (blank, Come::new(), vec![], 1);
+    for number in numbers(order, count.min(page_numbers(shape)) as u32, random) {
+        pages.push(Page::random(shape, number, random));
+        let repeats = random.below(3);
+        let arriving = (0..=repeats).map(|i| if i == 0 { pages.len() - 1 } else { random.below(pages.len()) });
+        for i in arriving.collect::<Vec<usize>>() {
+            let (call, weight) = readable(shape, &session, &pages[i], random);
+            let expected = after_arrival(&call, &pages[i], weight, &mut come);
+            expect(make, &call, &expected)?;
+            session = expected.slices[0].clone();
+        }
+        let (function, calls) = (number % 256, session[CALLS_AT + number as usize % 256]);
+        let query = Call::numbered(Entry::Count, shape, function, &[&session]);
+        expect(make, &query, &After { answer: calls.into(), slices: query.slices.clone() })?;
+        let refused = refused(shape, &session, &pages[pages.len() - 1], random);
+        let after = make(&refused);
+        let [kind, refusal, _] = after.slices[3][..] else { return Err("an outcome of another length".into()) };
+        if kind != 2 || refusal == Refusal::Figures.number() || after.slices[0] != session {
+            return Err(format!("{shape:?}, pages {come:?}: a word to be refused has {kind} {refusal}"));
+        }
+        tried += 3 + repeats as u64;
+    }
+    let expected = figures(&(0..count.min(page_numbers(shape)) as u32).collect());
+    let found = &session[PAGES_AT..MARKS_AT];
+    if found != expected {
+        return Err(format!("{shape:?}: the last figures are {found:?}, expected {expected:?}"));
+    }
+    Ok(tried)
+}
+
+/// The arrival of a word that nothing can be made of: a wrong length, a wide symbol, a page with
+/// something wrong, or two equal errors on one check, where the width has room for it.
+fn refused(shape: Shape, session: &[u32], page: &Page, random: &mut Random) -> Call {
+    let (mut call, _) = readable(shape, session, page, random);
+    let most = shape.most_marks() as u32;
+    let mut data = page.symbols(shape);
+    let last = data.len() - 1;
+    match random.below(8) {
+        0 => call.slices[1].push(0),
+        1 => call.slices[2].push(0),
+        2 => call.slices[2].truncate(1),
+        3 if shape.b < 32 => call.slices[1][0] = shape.largest() + 1,
+        4 if shape.b > 10 => {
+            data[0] = ALL;
+            call.slices[1] = codeword(shape, &data);
+        }
+        5 if shape.largest() > most => {
+            data[1] = most + 1;
+            call.slices[1] = codeword(shape, &data);
+        }
+        6 if page.marks.len() < most as usize => {
+            data[last] = 1;
+            call.slices[1] = codeword(shape, &data);
+        }
+        7 => call.slices[1] = page.damaged(shape, &make(Style::Masked, shape, 2, random)),
+        _ => call.slices[1].truncate(1),
+    }
+    call
+}
