@@ -2,7 +2,7 @@
 
 use crate::damage::{apply, make, unmasked, Error, Style};
 use crate::random::Random;
-use crate::reference::page::{page_symbols, FUNCTIONS, PAGES};
+use crate::reference::page::{page_symbols, FUNCTIONS, IDLE, PAGES};
 use crate::reference::program::tally;
 use crate::reference::shape::Shape;
 use crate::reference::writer::codeword;
@@ -16,7 +16,7 @@ pub struct Page {
 impl Page {
     /// A page that the shape's width can hold.
     pub fn random(shape: Shape, number: u32, random: &mut Random) -> Page {
-        let most = shape.most_marks().min(shape.largest() as usize);
+        let most = most_marks(shape);
         let count = match random.below(8) {
             0 => 0,
             1 => most,
@@ -25,6 +25,26 @@ impl Page {
         let functions = FUNCTIONS.min(shape.largest() as usize + 1).min(1 << random.below(9));
         let marks = (0..count).map(|_| random.below(functions) as u32).collect();
         Page { number, marks }
+    }
+
+    /// A page whose marks come in runs of one function each, every second run idle.
+    pub fn in_runs(shape: Shape, number: u32, random: &mut Random) -> Page {
+        let count = random.below(most_marks(shape) + 1);
+        let mut idle = random.one_in(2);
+        let mut marks = vec![];
+        while marks.len() < count {
+            let function = if idle { IDLE } else { counted(shape, random) };
+            let longest = random.pick(&[1, 4, 16, 64]);
+            marks.extend(vec![function; 1 + random.below(longest)]);
+            idle = !idle;
+        }
+        marks.truncate(count);
+        Page { number, marks }
+    }
+
+    /// The functions of the marks that count, one for each of them, in order.
+    pub fn calls(&self) -> impl DoubleEndedIterator<Item = usize> + '_ {
+        self.marks.iter().filter(|&&mark| mark != IDLE).map(|&mark| mark as usize)
     }
 
     pub fn symbols(&self, shape: Shape) -> Vec<u32> {
@@ -47,12 +67,34 @@ pub fn page_numbers(shape: Shape) -> usize {
     PAGES.min((shape.largest() as usize).saturating_add(1))
 }
 
+/// How many marks of a page the shape's width can hold the number of.
+pub fn most_marks(shape: Shape) -> usize {
+    shape.most_marks().min(shape.largest() as usize)
+}
+
+/// A function whose marks count, often the first or the last that the shape's width can hold.
+pub fn counted(shape: Shape, random: &mut Random) -> u32 {
+    let last = shape.largest().min(FUNCTIONS as u32 - 1);
+    let any = 1 + random.below(last as usize) as u32;
+    random.pick(&[1, last, any])
+}
+
 /// Up to `count` pages with different numbers.
 pub fn recording(shape: Shape, count: usize, random: &mut Random) -> Vec<Page> {
+    recording_of(shape, count, Page::random, random)
+}
+
+/// The same, each page made by `page`.
+pub fn recording_of(
+    shape: Shape,
+    count: usize,
+    page: fn(Shape, u32, &mut Random) -> Page,
+    random: &mut Random,
+) -> Vec<Page> {
     let mut numbers: Vec<u32> = (0..page_numbers(shape) as u32).collect();
     random.shuffle(&mut numbers);
     numbers.truncate(count);
-    numbers.into_iter().map(|number| Page::random(shape, number, random)).collect()
+    numbers.into_iter().map(|number| page(shape, number, random)).collect()
 }
 
 /// Lines 1 to 3.

@@ -5,6 +5,7 @@ mod calls;
 pub mod codec;
 mod faults;
 pub mod figures;
+pub mod idle;
 #[cfg(not(feature = "reference-only"))]
 pub mod pages;
 pub mod reference;

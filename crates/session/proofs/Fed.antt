@@ -1,6 +1,6 @@
 -- The session against the plain machine: they hold the same after every arrival, from a fresh session on.
 use mathlib.Core.Path.{_≡_, refl, sym, ap, ap₂, _∙_, subst}
-use mathlib.Core.Bool.{Bool, true, false, cond, _||_, or-false}
+use mathlib.Core.Bool.{Bool, true, false, cond, _&&_, _||_, or-false}
 use mathlib.Core.List.{List, [], _∷_}
 use mathlib.Core.Logic.{⊎-elim}
 use Prim.Native.Nat.{ℕ, zero, suc, _+_, _*_, _^_, _<_, _≤_}
@@ -20,7 +20,7 @@ use Rattle.gtb.specs.declared.Refusal.{Refusal}
 use Rattle.session.specs.declared.Session.{Session}
 use Rattle.session.specs.declared.Outcome.{Outcome}
 use Rattle.session.specs.declared.Outcome.the-variants.{Taken, Again, Refused}
-use Rattle.session.specs.Session.{marked, pagesOf, lowestOf, Consistent, freshOf, countOf, added, overflows, recorded}
+use Rattle.session.specs.Session.{marked, pagesOf, lowestOf, Consistent, freshOf, isCall, countOf, added, overflows, recorded}
 use Rattle.session.specs.Arrival.{Way, Sound, Opened, Page, Bad, opened, presented, outcomeOf, sessionBy, sessionAfter}
 use Rattle.session.specs.Recording.{Arrival, openedAt, arrivalAt, TurnedDown}
 use Rattle.session.specs.Claim.{Run, stop, step, come, Machine, emptyMachine, machinePage, machineStep, machine, Agrees, answerAt, EveryList, answerTo}
@@ -57,7 +57,7 @@ reply m (Bad e) = Refused e
 count-le : (f : ℕ) (marks : List ℕ) → countOf f marks ≤ length marks
 unfolding countOf
 count-le f [] = le-refl 0
-count-le f (x ∷ marks) = let l = bit-le (eqb x f) in let ih = count-le f marks in omega arith
+count-le f (x ∷ marks) = let l = bit-le (eqb x f && isCall x) in let ih = count-le f marks in omega arith
 
 weight-le : (b : Bool) → cond b 898 0 ≤ 898
 weight-le true = lit≤ tt

@@ -1,5 +1,5 @@
 -- The session, fresh and after a page (RULES 5).
-use mathlib.Core.Bool.{Bool, true, false, _&&_}
+use mathlib.Core.Bool.{Bool, true, false, not, _&&_}
 use mathlib.Core.List.{List, [], _∷_}
 use mathlib.Core.Path.{_≡_}
 use Prim.Native.Nat.{ℕ, _+_, _^_}
@@ -52,12 +52,16 @@ pub record Beginning (s : Shape) (r : Fresh) : Type 0 where
   pub status : r .status ≡ freshStatus s
   pub number : statusNumber (r .status) ≡ statusNumber (freshStatus s)
 
--- how many of the marks are for function f
+-- a mark that is a call: 0 is the idle loop (N5)
+abbrev pub isCall : ℕ → Bool
+isCall m = not (eqb m 0)
+
+-- how many of the marks are calls of function f, so none of function 0
 unfoldable pub countOf : ℕ → List ℕ → ℕ
 countOf f [] = 0
-countOf f (m ∷ marks) = bit (eqb m f) + countOf f marks
+countOf f (m ∷ marks) = bit (eqb m f && isCall m) + countOf f marks
 
--- each mark adds 1 to its function's count
+-- each call adds 1 to its function's count
 unfoldable pub added : List ℕ → List ℕ → List ℕ
 added calls marks = tabulate 256 (λ f. getD calls f 0 + countOf f marks)
 

@@ -239,7 +239,7 @@ impl Session {
     }
 }
 
-// Adds each mark to its function's count; false where a count would pass its limit.
+// Adds each mark that is a call to its function's count; false where a count would pass its limit. A mark 0 is the idle loop.
 fn add_marks(calls: &mut [u32; Session::FUNCTIONS], marks: &[u32]) -> bool
     requires { ⌜ Counts (now calls) × Functions (now marks) ⌝ }
     ensures { λ r. ⌜ Adding (now (calls .entry)) (now (marks .entry)) (now (calls .exit)) r ⌝ }
@@ -248,10 +248,11 @@ fn add_marks(calls: &mut [u32; Session::FUNCTIONS], marks: &[u32]) -> bool
     while i < marks.len() {
         let f = marks[i] as usize;
         let k = calls[f];
-        if k == 4294967295 {
+        let call = (f != 0) as u32;
+        if k > 4294967295 - call {
             return false;
         }
-        calls[f] = k + 1;
+        calls[f] = k + call;
         i += 1;
     }
     true

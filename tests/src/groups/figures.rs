@@ -15,10 +15,10 @@ use crate::report::{Group, Unit, Verdict};
 use std::collections::BTreeSet;
 
 /// The reference or the library.
-type Make = fn(&Call) -> After;
+pub(super) type Make = fn(&Call) -> After;
 
 /// The pages that have come.
-type Come = BTreeSet<u32>;
+pub(super) type Come = BTreeSet<u32>;
 
 /// All page numbers, and the lowest number not taken where all are.
 const ALL: u32 = PAGES as u32;
@@ -52,29 +52,29 @@ fn lowest_missing(come: &Come) -> u32 {
     come.iter().zip(0..).take_while(|(&page, number)| page == *number).count() as u32
 }
 
-fn figures(come: &Come) -> [u32; 2] {
+pub(super) fn figures(come: &Come) -> [u32; 2] {
     [come.len() as u32, lowest_missing(come)]
 }
 
 /// A session as it crosses.
-fn session(shape: Shape, figures: [u32; 2], marks: &[u32], calls: &[u32]) -> Vec<u32> {
+pub(super) fn session(shape: Shape, figures: [u32; 2], marks: &[u32], calls: &[u32]) -> Vec<u32> {
     [&shape.values()[..], &figures, marks, calls].concat()
 }
 
 /// Each yes crosses as 1.
-fn plain_marks(come: &Come) -> Vec<u32> {
+pub(super) fn plain_marks(come: &Come) -> Vec<u32> {
     let mut marks = vec![0; PAGES];
     come.iter().for_each(|&page| marks[page as usize] = 1);
     marks
 }
 
 /// Each yes crosses as any nonzero number.
-fn any_marks(come: &Come, random: &mut Random) -> Vec<u32> {
+pub(super) fn any_marks(come: &Come, random: &mut Random) -> Vec<u32> {
     plain_marks(come).into_iter().map(|mark| mark * random.pick(&YES)).collect()
 }
 
 /// Counts that a page's marks don't fill.
-fn any_calls(random: &mut Random) -> Vec<u32> {
+pub(super) fn any_calls(random: &mut Random) -> Vec<u32> {
     (0..FUNCTIONS).map(|_| random.number() >> (1 + random.below(31))).collect()
 }
 
@@ -239,9 +239,10 @@ fn agreeing(make: Make, q: u32, n: u32, random: &mut Random) -> Verdict {
             let (call, weight) = readable(shape, &session, &page, random);
             expect(make, &call, &after_arrival(&call, &page, weight, &mut come.clone()))?;
             tried += 1;
-            if let Some(&function) = page.marks.last().filter(|_| !come.contains(&number)) {
+            let last = page.calls().next_back();
+            if let Some(function) = last.filter(|_| !come.contains(&number)) {
                 let mut worn = call.clone();
-                worn.slices[0][CALLS_AT + function as usize] = u32::MAX;
+                worn.slices[0][CALLS_AT + function] = u32::MAX;
                 let mut expected = turned_down(&worn, Refusal::Overflow);
                 expected.slices[2].fill(0);
                 expect(make, &worn, &expected)?;
@@ -253,7 +254,7 @@ fn agreeing(make: Make, q: u32, n: u32, random: &mut Random) -> Verdict {
 }
 
 /// The arrival of a page with damage that reading undoes, and how many symbols it changes.
-fn readable(shape: Shape, session: &[u32], page: &Page, random: &mut Random) -> (Call, u32) {
+pub(super) fn readable(shape: Shape, session: &[u32], page: &Page, random: &mut Random) -> (Call, u32) {
     let weight = random.below(shape.n as usize);
     let error = unmasked(shape, weight, random);
     let word = page.damaged(shape, &error);
@@ -262,12 +263,12 @@ fn readable(shape: Shape, session: &[u32], page: &Page, random: &mut Random) -> 
 }
 
 /// What the arrival of this page leaves where these have come. The page is one of them from then on.
-fn after_arrival(call: &Call, page: &Page, weight: u32, come: &mut Come) -> After {
+pub(super) fn after_arrival(call: &Call, page: &Page, weight: u32, come: &mut Come) -> After {
     let mut slices = call.slices.clone();
     let again = !come.insert(page.number);
     if !again {
         let mut calls = slices[0][CALLS_AT..].to_vec();
-        page.marks.iter().for_each(|&mark| calls[mark as usize] += 1);
+        page.calls().for_each(|function| calls[function] += 1);
         slices[0] = session(call.shape, figures(come), &plain_marks(come), &calls);
     }
     slices[1] = page.codeword(call.shape);

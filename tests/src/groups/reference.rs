@@ -1,5 +1,7 @@
 //! The reference against the rules' own statements, and its reader against trying everything.
 
+use super::idle::CAPTURES;
+use crate::capture::heading;
 use crate::damage::{apply, make, unmasked, STYLES};
 use crate::random::Random;
 use crate::reference::brute::{all_explained, all_words, explanations, Explanation};
@@ -28,6 +30,7 @@ pub fn group() -> Group {
         group.test(format!("sampled words of ({q}, {n}, {b})"), move |random| sampled(q, n, b, random));
     }
     group.test("the rules' capture", |_| example());
+    group.test("captures with idle marks", |_| idle_captures());
     group
 }
 
@@ -131,4 +134,13 @@ fn example() -> Verdict {
     let output = "outcome page fixed\ntaken 1 0\nagain 1 1\nrefused 4 0\nfunction calls\n3 1\n5 1\n";
     require(tally(input.as_bytes()) == output.as_bytes(), "the rules' output")?;
     Ok(1)
+}
+
+fn idle_captures() -> Verdict {
+    for (words, below) in CAPTURES {
+        let input = heading(Shape::new(3, 2, 8)) + words;
+        let output = format!("outcome page fixed\n{below}");
+        require(tally(input.as_bytes()) == output.as_bytes(), &format!("{words:?} has {below:?}"))?;
+    }
+    Ok(CAPTURES.len() as u64)
 }

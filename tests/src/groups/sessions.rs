@@ -154,7 +154,7 @@ fn fits_recording(shape: Shape, pages: &[Page], arrivals: Vec<Arrival>) -> Verdi
     let run = Run { start, arrivals };
     let Ok((session, outcomes)) = run.follow() else { return expect(&run).map(|()| 0) };
     let mut calls = [0; FUNCTIONS];
-    pages.iter().flat_map(|page| &page.marks).for_each(|&mark| calls[mark as usize] += 1);
+    pages.iter().flat_map(Page::calls).for_each(|function| calls[function] += 1);
     let taken = outcomes.iter().filter(|outcome| outcome[0] == 0).count();
     if answer != 0 || session[CALLS_AT..] != calls || taken != pages.len() {
         return Err(format!("{shape:?}: {taken} pages taken of {}; the tally is not the recording's", pages.len()));
@@ -230,11 +230,11 @@ fn worn(q: u32, n: u32, random: &mut Random) -> Verdict {
         for _ in 0..4 {
             let shape = random.shape(q, n, b);
             let page = Page::random(shape, random.below(page_numbers(shape)) as u32, random);
-            let Some(&function) = page.marks.last() else { continue };
-            let times = page.marks.iter().filter(|&&mark| mark == function).count() as u32;
+            let Some(function) = page.calls().next_back() else { continue };
+            let times = page.calls().filter(|&other| other == function).count() as u32;
             for (left, taken) in [(times, false), (times - 1, false), (times - 1, true), (0, false)] {
                 let mut session = Session::fresh(shape).expect("a lawful shape");
-                session.calls[function as usize] = u32::MAX - left;
+                session.calls[function] = u32::MAX - left;
                 if taken {
                     session.take(page.number);
                 }
@@ -247,10 +247,10 @@ fn worn(q: u32, n: u32, random: &mut Random) -> Verdict {
     Ok(tried)
 }
 
-/// The largest recording there is, each page twice.
+/// The largest recording there is, each page twice. A quarter of the marks is idle.
 fn all_pages(shape: Shape, random: &mut Random) -> Verdict {
     let mut page =
-        |number| Page { number, marks: (0..shape.most_marks()).map(|_| random.below(3) as u32 * 127).collect() };
+        |number| Page { number, marks: (0..shape.most_marks()).map(|_| random.below(4) as u32 * 85).collect() };
     let pages: Vec<Page> = (0..PAGES as u32).map(&mut page).collect();
     let mut arrivals: Vec<Arrival> = pages.iter().chain(&pages).map(|page| readable(shape, page, random)).collect();
     random.shuffle(&mut arrivals);

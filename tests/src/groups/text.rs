@@ -1,7 +1,8 @@
 //! Malformed text of every kind through the linked program.
 
 use super::faults::{bad_lines, first_lines, long_lines, second_lines, third_lines, zeros, GOOD};
-use crate::capture::{heading, line, recording, text, word_lines};
+use super::idle;
+use crate::capture::{heading, line, recording, recording_of, text, word_lines, Page};
 use crate::process::Program;
 use crate::random::Random;
 use crate::reference::program::tally;
@@ -18,6 +19,8 @@ pub fn group(program: &Program) -> Group {
         group.test(name, move |random| body(&program, random));
     };
     test("the rules' capture", |program, _| example(program));
+    test("captures with idle marks", |program, _| idle_captures(program));
+    test("recordings with idle marks", idle_recordings);
     test("line 1", |program, _| headings(program, &first_lines()));
     test("line 2", |program, _| headings(program, &second_lines()));
     test("line 3", |program, _| headings(program, &third_lines()));
@@ -83,6 +86,34 @@ fn example(program: &Program) -> Verdict {
     expect_output(program, input.as_bytes(), output)?;
     expect_output(program, heading(SHAPE).as_bytes(), "outcome page fixed\nfunction calls\n")?;
     Ok(2)
+}
+
+fn idle_captures(program: &Program) -> Verdict {
+    for (words, below) in idle::CAPTURES {
+        let input = heading(SHAPE) + words;
+        expect_output(program, input.as_bytes(), &format!("outcome page fixed\n{below}"))?;
+    }
+    Ok(idle::CAPTURES.len() as u64)
+}
+
+/// The list is that of a plain tally of the recording.
+fn idle_recordings(program: &Program, random: &mut Random) -> Verdict {
+    let rounds = 40;
+    for _ in 0..rounds {
+        let shape = random.pick(&[SHAPE, Shape::new(5, 2, 1), Shape::new(5, 3, 16), Shape::new(17, 4, 32)]);
+        let count = random.below(20);
+        let pages = recording_of(shape, count, Page::in_runs, random);
+        let input = text(shape, &pages, random).into_bytes();
+        let mut list = String::from("function calls\n");
+        for (function, calls) in idle::tally(&pages).iter().enumerate().filter(|(_, calls)| **calls > 0) {
+            list += &format!("{function} {calls}\n");
+        }
+        if !program.run(&input)?.ends_with(list.as_bytes()) {
+            return Err(format!("the list is not {list:?}, the tally of {pages:?}"));
+        }
+        expect(&Capture { program, input })?;
+    }
+    Ok(rounds)
 }
 
 /// Inputs with a fault in lines 1 to 3, and its number.

@@ -13,9 +13,12 @@ const P4_WORD: [u32; 9] = [3, 6, 5, 5, 3, 6, 6, 5, 3];
 const P5_WORD: [u32; 9] = [3, 6, 5, 2, 2, 6, 6, 5, 3];
 const P6_WORD: [u32; 9] = [3, 6, 5, 2, 4, 6, 6, 5, 3];
 const P7_WORD: [u32; 9] = [5, 2, 7, 3, 1, 2, 6, 3, 5];
+/// Page 2 with the marks 0 and 5, page 4 with the marks 0 and 0.
+const IDLE_5_WORD: [u32; 9] = [5, 2, 7, 0, 2, 2, 5, 0, 5];
+const IDLE_WORD: [u32; 9] = [6, 4, 2, 6, 4, 2, 0, 0, 0];
 
 struct Vector {
-    name: &'static str,
+    name: String,
     call: Call,
     expected: After,
 }
@@ -23,29 +26,26 @@ struct Vector {
 /// The group for the reference or for the library, whichever makes the calls.
 pub fn group(name: &'static str, make: fn(&Call) -> After) -> Group {
     let mut group = Group::new(name, Unit::Calls);
-    for vector in vectors() {
-        group.test(vector.name, move |_| {
-            let Vector { call, expected, .. } = &vector;
-            difference(call.entry, expected, &make(call)).map_or(Ok(1), Err)
-        });
+    for Vector { name, call, expected } in vectors() {
+        group.test(name, move |_| difference(call.entry, &expected, &make(&call)).map_or(Ok(1), Err));
     }
     group
 }
 
 fn vectors() -> Vec<Vector> {
-    [positions(), words(), pages(), arrivals(), figures(), shapes(), slopes()].into_iter().flatten().collect()
+    [positions(), words(), pages(), arrivals(), idle(), figures(), shapes(), slopes()].into_iter().flatten().collect()
 }
 
 /// A call that answers `result` and leaves each slice as said.
-fn vector(name: &'static str, call: Call, result: Result<u32, Refusal>, slices: &[&[u32]]) -> Vector {
+fn vector(name: impl Into<String>, call: Call, result: Result<u32, Refusal>, slices: &[&[u32]]) -> Vector {
     let slices = slices.iter().map(|slice| slice.to_vec()).collect();
-    Vector { name, call, expected: After { answer: answer_of(result), slices } }
+    Vector { name: name.into(), call, expected: After { answer: answer_of(result), slices } }
 }
 
 /// A call that leaves every slice as it was.
-fn unchanging(name: &'static str, call: Call, result: Result<u32, Refusal>) -> Vector {
+fn unchanging(name: impl Into<String>, call: Call, result: Result<u32, Refusal>) -> Vector {
     let expected = After { answer: answer_of(result), slices: call.slices.clone() };
-    Vector { name, call, expected }
+    Vector { name: name.into(), call, expected }
 }
 
 /// Extraction from a word whose symbols are their own positions.
@@ -78,6 +78,8 @@ fn words() -> Vec<Vector> {
         unchanging("P6", decode(&P6_WORD), Err(Refusal::Uncorrectable)),
         unchanging("P6 for the host", host(&P6_WORD), Err(Refusal::Uncorrectable)),
         vector("P7", encode(B8, &[1, 2, 3, 5]), Ok(0), &[&[1, 2, 3, 5], &[0; 6], &P7_WORD]),
+        vector("marks 0 5", encode(B8, &[2, 2, 0, 5]), Ok(0), &[&[2, 2, 0, 5], &[0; 6], &IDLE_5_WORD]),
+        vector("marks 0 0", encode(B8, &[4, 2, 0, 0]), Ok(0), &[&[4, 2, 0, 0], &[0; 6], &IDLE_WORD]),
     ]
 }
 
@@ -99,6 +101,9 @@ fn pages() -> Vec<Vector> {
         unchanging("P10 1024", read(B11, &[1024, 0, 0, 0]), Err(Refusal::Page)),
         vector("P10 1023 written", write(B11, 1023, &[]), Ok(0), &[&[], &[1023, 0, 0, 0]]),
         unchanging("P10 1024 written", write(B11, 1024, &[]), Err(Refusal::Page)),
+        unchanging("marks 0 5 read", read(B8, &[2, 2, 0, 5]), Ok(2 * 1024 + 2)),
+        unchanging("marks 0 0 for the host", host(B8, &[4, 2, 0, 0]), Ok(4 * 1024 + 2)),
+        vector("marks 0 0 written", write(B8, 4, &[0, 0]), Ok(0), &[&[0, 0], &[4, 2, 0, 0]]),
         unchanging("mark 255", read(B9, &[1, 1, 255, 0]), Ok(1025)),
         unchanging("mark 256", read(B9, &[1, 1, 256, 0]), Err(Refusal::Function)),
         vector("mark 255 written", write(B9, 1, &[255]), Ok(0), &[&[255], &[1, 1, 255, 0]]),
@@ -133,6 +138,38 @@ fn arrivals() -> Vec<Vector> {
     ]
 }
 
+/// Pages with idle marks come to sessions with counts of functions 0 and 5: the former stays as it is,
+/// and only the latter can make it 9.
+fn idle() -> Vec<Vector> {
+    let session = |taken: Option<usize>, idle: u32, calls: u32| {
+        let mut session = fresh_values(B8);
+        if let Some(page) = taken {
+            session[PAGES_AT] = 1;
+            session[MARKS_AT + page] = 1;
+        }
+        (session[CALLS_AT], session[CALLS_AT + 5]) = (idle, calls);
+        session
+    };
+    let arrive = |session: &[u32], word: &[u32]| Call::new(Entry::Arrive, B8, &[session, word, &[7; 6], &[9; 3]]);
+    let mut vectors = vec![];
+    for idle in [0, 5, u32::MAX - 1, u32::MAX] {
+        let mut test = |name: &str, before: Vec<u32>, word: &[u32], after: Vec<u32>, outcome: [u32; 3]| {
+            let name = format!("{name}, {idle} of function 0");
+            vectors.push(vector(name, arrive(&before, word), Ok(0), &[&after, word, &[0; 6], &outcome]));
+        };
+        let before = |calls: u32| session(None, idle, calls);
+        let after = |page: usize, calls: u32| session(Some(page), idle, calls);
+        test("marks 0 5", before(6), &IDLE_5_WORD, after(2, 7), [0, 2, 0]);
+        test("marks 0 5 fill", before(u32::MAX - 1), &IDLE_5_WORD, after(2, u32::MAX), [0, 2, 0]);
+        test("marks 0 5 pass", before(u32::MAX), &IDLE_5_WORD, before(u32::MAX), [2, 9, 0]);
+        test("marks 0 0", before(6), &IDLE_WORD, after(4, 6), [0, 4, 0]);
+        test("marks 0 0 beside a full count", before(u32::MAX), &IDLE_WORD, after(4, u32::MAX), [0, 4, 0]);
+        let query = Call::numbered(Entry::Count, B8, 0, &[&session(Some(4), idle, 1)]);
+        vectors.push(unchanging(format!("count of function 0, {idle}"), query, Ok(idle)));
+    }
+    vectors
+}
+
 /// Pages 0, 2 and 3 have come, and now P7's, which is page 1: the lowest number goes from 1 to 4.
 fn figures() -> Vec<Vector> {
     let session = |pages: u32, lowest: u32| {
@@ -164,7 +201,7 @@ fn figures() -> Vec<Vector> {
     ] {
         let call = Call::numbered(Entry::Count, B8, function, &[&session(pages, 1)]);
         let expected = After { answer, slices: call.slices.clone() };
-        vectors.push(Vector { name, call, expected });
+        vectors.push(Vector { name: name.into(), call, expected });
     }
     vectors
 }

@@ -5,6 +5,9 @@ use super::shape::{Refusal, Shape};
 pub const PAGES: usize = 1024;
 pub const FUNCTIONS: usize = 256;
 
+/// The mark that stands for a return to the idle loop. It is lawful in a page and no call.
+pub const IDLE: u32 = 0;
+
 /// A page number and the number of marks.
 #[derive(Clone, Copy, Debug, PartialEq, Eq)]
 pub struct Head {

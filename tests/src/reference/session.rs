@@ -1,7 +1,7 @@
 //! The session: which pages have come, the two figures that follow from them, and how often each
 //! function was called.
 
-use super::page::{read_page, FUNCTIONS, PAGES};
+use super::page::{read_page, FUNCTIONS, IDLE, PAGES};
 use super::reader::decode;
 use super::shape::{Refusal, Shape, SHAPE_LEN};
 use super::writer::information;
@@ -129,9 +129,9 @@ impl Session {
     }
 }
 
-/// Each mark adds 1 to its function's count, unless one count would pass 2^32 - 1.
+/// Each mark but the idle ones adds 1 to its function's count, unless one count would pass 2^32 - 1.
 fn add_marks(mut calls: [u32; FUNCTIONS], marks: &[u32]) -> Result<[u32; FUNCTIONS], Refusal> {
-    for &mark in marks {
+    for &mark in marks.iter().filter(|&&mark| mark != IDLE) {
         let count = &mut calls[mark as usize];
         *count = count.checked_add(1).ok_or(Refusal::Overflow)?;
     }

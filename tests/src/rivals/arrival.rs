@@ -1,7 +1,7 @@
 //! An arrival over one of the two readers.
 
 use super::refused;
-use crate::reference::page::{read_page, FUNCTIONS, PAGES};
+use crate::reference::page::{read_page, FUNCTIONS, IDLE, PAGES};
 use crate::reference::session::{Figures, Outcome, SESSION_LEN};
 use crate::reference::shape::{Refusal, Shape, SHAPE_LEN};
 
@@ -74,7 +74,8 @@ impl State {
         }
         let mut calls = self.calls;
         for &mark in &data[2..2 + head.marks] {
-            match calls[mark as usize].checked_add(1) {
+            // An idle mark adds nothing, at no cost of a branch.
+            match calls[mark as usize].checked_add(u32::from(mark != IDLE)) {
                 Some(count) => calls[mark as usize] = count,
                 None => return Outcome::Refused(Refusal::Overflow),
             }

@@ -3,6 +3,10 @@ use borrow.Author.Needs.{needs}
 use native.Mathlib.Omega.{arith}
 use Prim.Native.Nat.{ℕ, _+_, _-_, _^_, _<_}
 use lib.ListN.{length, getD}
+use Rattle.parity.specs.Count.{bit}
+use Rattle.session.specs.Session.{isCall}
+use Rattle.parity.proofs.Sums.{bit-le}
+use Rattle.session.proofs.Progress.{bit-byte}
 use Rattle.session.proofs.Marks.{Turn, turn-none, turn-more, turn-full, turn-all}
 use Rattle.session.proofs.add_marks.Statement.{statement}
 use Rattle.session.proofs.add_marks.Tie as tie
@@ -25,8 +29,8 @@ abbrev head : tie.Else1 Inv-loop μ-loop → tie.At-loop Inv-loop μ-loop
 head c = c .before .before .before .before
 
 -- the count of its mark is below the limit
-room : (c : tie.Else1 Inv-loop μ-loop) → getD (head c .loop .calls) (mark-at (head c)) 0 + 1 < 2 ^ 32
-room c = omega (arith, head c .loop .inv .below (mark-at (head c)), c .if1 .left)
+room : (c : tie.Else1 Inv-loop μ-loop) → getD (head c .loop .calls) (mark-at (head c)) 0 + bit (isCall (mark-at (head c))) < 2 ^ 32
+room c = omega (arith, c .if1 .left, bit-byte (isCall (mark-at (head c))), bit-le (isCall (mark-at (head c))))
 
 loop-holds : tie.Need-loop-holds Inv-loop μ-loop
 loop-holds c = turn-none (c .pre .0) (c .pre .1)
@@ -46,12 +50,20 @@ mul-k c = omega (arith, mark (c .before))
 element-copy-out-k : tie.Need-element-copy-out-k Inv-loop μ-loop
 element-copy-out-k c = mark (c .before)
 
+-- a mark adds at most 1
+cast-call : tie.Need-cast-call Inv-loop μ-loop
+cast-call c = search needs
+
+sub-if1 : tie.Need-sub-if1 Inv-loop μ-loop
+sub-if1 c = let m = mark-at (c .before .before .before) in omega (arith, bit-byte (isCall m), bit-le (isCall m))
+
 returns : tie.Need-returns Inv-loop μ-loop
 returns c =
-    turn-full (c .before .before .before .before .loop .inv) (c .before .before .before .loop-test .taken) (omega (arith, c .if1 .taken))
+    let at = c .before .before .before .before in
+    turn-full (at .loop .inv) (c .before .before .before .loop-test .taken) (omega (arith, c .if1 .taken, bit-byte (isCall (mark-at at)), bit-le (isCall (mark-at at))))
 
 add-calls : tie.Need-add-calls Inv-loop μ-loop
-add-calls c = record { fits = room c }
+add-calls c = omega (arith, room c, bit-byte (isCall (mark-at (head c))))
 
 mul-calls : tie.Need-mul-calls Inv-loop μ-loop
 mul-calls c = omega (arith, mark (c .before .before .before))
@@ -66,8 +78,7 @@ loop-less : tie.Need-loop-less Inv-loop μ-loop
 loop-less c = omega arith
 
 loop-again : tie.Need-loop-again Inv-loop μ-loop
-loop-again c =
-    turn-more (head c .loop .inv) (c .before .before .before .loop-test .taken) (room c)
+loop-again c = rw (bit-byte (isCall (mark-at (head c)))) (turn-more (head c .loop .inv) (c .before .before .before .loop-test .taken) (room c))
 
 returns-2 : tie.Need-returns-2 Inv-loop μ-loop
 returns-2 c = turn-all (c .before .loop .inv) (c .loop-test .left)
@@ -84,6 +95,8 @@ add-marks-spec =
     cast-f
     mul-k
     element-copy-out-k
+    cast-call
+    sub-if1
     returns
     add-calls
     mul-calls
