@@ -3,7 +3,7 @@ use mathlib.Core.Path.{_≡_, refl}
 use Rattle.parity.specs.Xor.{_⊕_, xorSum, when}
 use Rattle.parity.specs.Count.{bit, sum, count, any, all, firstValue}
 use Rattle.parity.specs.Lists.{tabulate}
-use Rattle.gtb.specs.Shape.{orders, isOrder, lawful, slopeOf, scratchLength, regular, sloped, shapeRefusal, fitsSlope}
+use Rattle.gtb.specs.Shape.{orders, isOrder, lawful, slopeOf, keptChecks, scratchLength, regular, sloped, shapeRefusal, fitsSlope}
 use Rattle.gtb.specs.Square.{lineOf, narrow, syndrome, silentTest}
 use Rattle.correction.specs.Error.{mended}
 use Rattle.gtb.specs.Positions.{infoPosition, extractOf}
@@ -19,13 +19,13 @@ use Rattle.capture.specs.Feed.{start, feed, closing, outputOf}
 
 pub example : outputOf (ascii "q n b\n3 2 8\nword\n5 2 7 3 1 2 6 3 5\n12 2 7 3 1 2 6 3 5\n1 0 0 0 1 0 0 0 0\n")
     ≡ ascii "outcome page fixed\ntaken 1 0\nagain 1 1\nrefused 4 0\nfunction calls\n3 1\n5 1\n"
-unfolding outputOf closing feed start judgedOf arrived fault passed lineContent callsText callsFrom outcomeLine contentOf small valuesIn outcomeText countText outcomeName sameBytes spell decimal sessionAfter outcomeOf opened recorded overflows added countOf freshStatus freshOf marksOf pageOf zeros functions decodeOf correctable silentTest restored mended errorAt firstValue alone located extractOf infoPosition syndrome narrow lineOf slopeOf lawful regular sloped fitsSlope isOrder orders scratchLength tabulate all any count sum bit when xorSum _⊕_
+unfolding outputOf closing feed start judgedOf arrived fault passed lineContent callsText callsFrom outcomeLine contentOf small valuesIn outcomeText countText outcomeName sameBytes spell decimal sessionAfter outcomeOf opened recorded overflows added countOf freshStatus freshOf marksOf pageOf zeros functions decodeOf correctable silentTest restored mended errorAt firstValue alone located extractOf infoPosition syndrome narrow lineOf slopeOf lawful regular sloped fitsSlope isOrder orders scratchLength keptChecks tabulate all any count sum bit when xorSum _⊕_
 example = refl
 
 -- idle marks count for nothing: page 2 has the marks 0 and 5, page 4 nothing but idle
 pub idle-example : outputOf (ascii "q n b\n3 2 8\nword\n5 2 7 0 2 2 5 0 5\n6 4 2 6 4 2 0 0 0\n")
     ≡ ascii "outcome page fixed\ntaken 2 0\ntaken 4 0\nfunction calls\n5 1\n"
-unfolding outputOf closing feed start judgedOf arrived fault passed lineContent callsText callsFrom outcomeLine contentOf small valuesIn outcomeText countText outcomeName sameBytes spell decimal sessionAfter outcomeOf opened recorded overflows added countOf freshStatus freshOf marksOf pageOf zeros functions decodeOf correctable silentTest restored mended errorAt firstValue alone located extractOf infoPosition syndrome narrow lineOf slopeOf lawful regular sloped fitsSlope isOrder orders scratchLength tabulate all any count sum bit when xorSum _⊕_
+unfolding outputOf closing feed start judgedOf arrived fault passed lineContent callsText callsFrom outcomeLine contentOf small valuesIn outcomeText countText outcomeName sameBytes spell decimal sessionAfter outcomeOf opened recorded overflows added countOf freshStatus freshOf marksOf pageOf zeros functions decodeOf correctable silentTest restored mended errorAt firstValue alone located extractOf infoPosition syndrome narrow lineOf slopeOf lawful regular sloped fitsSlope isOrder orders scratchLength keptChecks tabulate all any count sum bit when xorSum _⊕_
 idle-example = refl
 
 -- one fault alone: a shape outside its lists, before the third line is looked at

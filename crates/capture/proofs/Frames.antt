@@ -84,7 +84,7 @@ judged-held t {buffer} {line} {held} {end} e h =
     (either (ltb held 16384))
 
 pub line-ended : (reader : Reader) {buffer out scratch′ out′ : List ℕ} {j : Judged} {end at : ℕ} → Consistent (reader .tally .session) → End (reader .held) end
-    → j ≡ judgedOf (reader .tally) (take end buffer) → length scratch′ ≡ 7688
+    → j ≡ judgedOf (reader .tally) (take end buffer) → length scratch′ ≡ 7471
     → Appended out (reader .at) (answerText (j .answer)) out′ at → at ≤ reader .at + 30
     → LineEnded reader buffer out scratch′ out′ (record { tally = j .tally; held = 0; at = at })
 line-ended reader {buffer = buffer} {out = out} {out′ = out′} {j = j} {end = end} {at = at} right e is room a few =
@@ -112,11 +112,11 @@ pub record Reading (reader₀ : Reader) (buffer₀ block buffer scratch out : Li
   pub low : from ≤ length block
   pub few : reader .at ≤ 30 * from
   pub buffer-size : length buffer ≡ 16384
-  pub scratch-size : length scratch ≡ 7688
+  pub scratch-size : length scratch ≡ 7471
   pub out-size : length out ≡ 491584
 
 -- none yet
-pub reading-begins : (reader : Reader) (buffer block scratch out : List ℕ) → Consistent (reader .tally .session) → reader .at ≡ 0 → length buffer ≡ 16384 → length scratch ≡ 7688 → length out ≡ 491584
+pub reading-begins : (reader : Reader) (buffer block scratch out : List ℕ) → Consistent (reader .tally .session) → reader .at ≡ 0 → length buffer ≡ 16384 → length scratch ≡ 7471 → length out ≡ 491584
     → Reading reader buffer block buffer scratch out reader 0
 reading-begins reader buffer block scratch out right none b s o =
     record {

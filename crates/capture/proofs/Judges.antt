@@ -150,7 +150,7 @@ pub cut-many : {count size : ℕ} → 1024 ≤ count → size ≡ 1024 → Cut c
 cut-many l e = record { few = λ m. omega arith; many = λ _. e; most = omega arith }
 
 pub worded-arrived : (σ : Session) {line stored : List ℕ} {count size room : ℕ} → Stored line stored count → length stored ≡ 1024 → Cut count size → Room (σ .shape) room
-    → (scratch : List ℕ) → length scratch ≡ 7688 → {word′ scratch′ : List ℕ} {a : Arrived} → Stepping clean σ (take size stored) (take room scratch) word′ scratch′ a
+    → (scratch : List ℕ) → length scratch ≡ 7471 → {word′ scratch′ : List ℕ} {a : Arrived} → Stepping clean σ (take size stored) (take room scratch) word′ scratch′ a
     → record { tally = record { phase = Words; session = a .session }; answer = Line (a .outcome) } ≡ worded σ (contentOf line)
 unfolding arrived
 worded-arrived σ {line} {stored} {count} {size} {room} h full cut r scratch long arr =
@@ -170,8 +170,8 @@ scratch-length x (outcome.Taken p k) = length-replicate (length x) 0
 scratch-length x (outcome.Again p k) = length-replicate (length x) 0
 scratch-length x (outcome.Refused e) = scratch-size e x
 
-pub scratch-kept : {σ : Session} {word word′ scratch′ : List ℕ} {a : Arrived} (scratch : List ℕ) (room : ℕ) → length scratch ≡ 7688 → room ≤ 7688
-    → Stepping clean σ word (take room scratch) word′ scratch′ a → length (scratch′ ++ drop room scratch) ≡ 7688
+pub scratch-kept : {σ : Session} {word word′ scratch′ : List ℕ} {a : Arrived} (scratch : List ℕ) (room : ℕ) → length scratch ≡ 7471 → room ≤ 7471
+    → Stepping clean σ word (take room scratch) word′ scratch′ a → length (scratch′ ++ drop room scratch) ≡ 7471
 scratch-kept {a = a} scratch room long few arr =
     rw (length-append, arr .scratchLeft, scratch-length (take room scratch) (a .outcome), length-take-le room scratch (omega arith), length-drop) (omega arith)
 

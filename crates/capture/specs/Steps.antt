@@ -34,7 +34,7 @@ pub record Extended (buffer : List ℕ) (held : ℕ) (bytes buffer′ : List ℕ
 -- room for the scratch of a shape, none for one outside the lists
 pub record Room (s : Shape) (r : ℕ) : Type 0 where
   pub exact : lawful s ≡ true → r ≡ scratchLength s
-  pub few : r ≤ 7688
+  pub few : r ≤ 7471
 
 -- the line so far is judged, and the answer written
 pub record LineEnded (reader : Reader) (buffer out scratch′ out′ : List ℕ) (r : Reader) : Type 0 where
@@ -45,7 +45,7 @@ pub record LineEnded (reader : Reader) (buffer out scratch′ out′ : List ℕ)
   pub empty : r .held ≡ 0
   pub short : r .at ≤ reader .at + 30
   pub size : length out′ ≡ length out
-  pub room : length scratch′ ≡ 7688
+  pub room : length scratch′ ≡ 7471
 
 -- a block is fed: the tally, the line so far, and the output from the start of its buffer on
 pub record FedBy (fed : Fed) (buffer′ out′ : List ℕ) (r : Reader) : Type 0 where
@@ -58,7 +58,7 @@ pub record BlockTaken (reader : Reader) (buffer block buffer′ scratch′ out�
   pub figures : Consistent (r .tally .session)
   pub within : r .at ≤ 491584
   pub line : length buffer′ ≡ 16384
-  pub room : length scratch′ ≡ 7688
+  pub room : length scratch′ ≡ 7471
   pub size : length out′ ≡ 491584
 
 -- the output at the end of the input; `whole` says that no line was begun

@@ -95,8 +95,8 @@ fn room_for(shape: Shape) -> usize
 
 // A word line. No word has 1024 values, so that of a longer line the first 1024 stand for all. The session's figures are right, so that no word pays for their test.
 fn take_word(session: Session, line: &[u8], scratch: &mut [u32]) -> Judged
-    requires { ⌜ Consistent session × (length (now scratch) ≡ 7688) ⌝ }
-    ensures { λ r. ⌜ (r ≡ worded session (contentOf (now (line .entry)))) × (length (now (scratch .exit)) ≡ 7688) ⌝ }
+    requires { ⌜ Consistent session × (length (now scratch) ≡ 7471) ⌝ }
+    ensures { λ r. ⌜ (r ≡ worded session (contentOf (now (line .entry)))) × (length (now (scratch .exit)) ≡ 7471) ⌝ }
 {
     let mut values = [0u32; 1024];
     let Parsed::Values(count) = lines::parse(line, &mut values) else {
@@ -124,8 +124,8 @@ fn take_word(session: Session, line: &[u8], scratch: &mut [u32]) -> Judged
 }
 
 pub fn judge(tally: Tally, line: &[u8], scratch: &mut [u32]) -> Judged
-    requires { ⌜ Consistent (tally .session) × (length (now line) < 16384) × (length (now scratch) ≡ 7688) ⌝ }
-    ensures { λ r. ⌜ (r ≡ judgedOf tally (now (line .entry))) × (length (now (scratch .exit)) ≡ 7688) ⌝ }
+    requires { ⌜ Consistent (tally .session) × (length (now line) < 16384) × (length (now scratch) ≡ 7471) ⌝ }
+    ensures { λ r. ⌜ (r ≡ judgedOf tally (now (line .entry))) × (length (now (scratch .exit)) ≡ 7471) ⌝ }
 {
     let phase = tally.phase;
     let session = tally.session;

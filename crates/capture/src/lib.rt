@@ -92,7 +92,7 @@ fn append(line: &mut [u8], held: usize, bytes: &[u8]) -> usize
 
 // Judges the line so far and writes the answer. One too long is malformed, as an empty one is.
 fn end_line(reader: Reader, line: &[u8], scratch: &mut [u32], out: &mut [u8]) -> Reader
-    requires { ⌜ Consistent (reader .tally .session) × (length (now line) ≡ 16384) × (length (now scratch) ≡ 7688) × (reader .at + 40 ≤ length (now out)) ⌝ }
+    requires { ⌜ Consistent (reader .tally .session) × (length (now line) ≡ 16384) × (length (now scratch) ≡ 7471) × (reader .at + 40 ≤ length (now out)) ⌝ }
     ensures { λ r. ⌜ LineEnded reader (now (line .entry)) (now (out .entry)) (now (scratch .exit)) (now (out .exit)) r ⌝ }
 {
     let held = reader.held;
@@ -113,7 +113,7 @@ pub fn take_block(
     scratch: &mut [u32],
     out: &mut [u8],
 ) -> Reader
-    requires { ⌜ Consistent (reader .tally .session) × (length (now block) ≤ 16384) × (length (now line) ≡ 16384) × (length (now scratch) ≡ 7688) × (length (now out) ≡ 491584) ⌝ }
+    requires { ⌜ Consistent (reader .tally .session) × (length (now block) ≤ 16384) × (length (now line) ≡ 16384) × (length (now scratch) ≡ 7471) × (length (now out) ≡ 491584) ⌝ }
     ensures { λ r. ⌜ BlockTaken reader (now (line .entry)) (now (block .entry)) (now (line .exit)) (now (scratch .exit)) (now (out .exit)) r ⌝ }
 {
     let mut reader = reader;

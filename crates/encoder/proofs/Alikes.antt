@@ -5,7 +5,7 @@ use Prim.Native.Nat.{ℕ}
 use Rattle.gtb.specs.declared.Shape.{Shape}
 use Rattle.gtb.specs.declared.Refusal.{Refusal}
 use Rattle.gtb.specs.declared.Status.the-variants.{Done, Refused}
-use Rattle.gtb.specs.Shape.{scratchLength}
+use Rattle.gtb.specs.Shape.{keptChecks, scratchLength}
 use Rattle.gtb.specs.Square.{narrow}
 use Rattle.gtb.specs.Answer.{unless}
 use Rattle.gtb.specs.Alike.{reslope, Alike}
@@ -15,7 +15,7 @@ use Rattle.encoder.proofs.Answers.{sized}
 
 pub status-alike : (s : Shape) (slopes : List ℕ) → Alike s slopes → (symbols scratch word given : List ℕ)
     → statusOf (reslope s slopes) symbols scratch word given ≡ statusOf s symbols scratch word given
-unfolding statusOf scratchLength
+unfolding statusOf scratchLength keptChecks
 status-alike s slopes alike symbols scratch word given = λ i.
     unless (lawful-alike s slopes alike i) (Refused (refusal-alike s slopes alike i))
     (unless (sized s symbols scratch word) (Refused Refusal.Length) (unless (narrow (s .b) given) (Refused Refusal.Width) Done))

@@ -2,11 +2,11 @@
 use mathlib.Core.Path.{_≡_, refl, sym, ap, _∙_}
 use mathlib.Core.Bool.{Bool, true, false, _&&_}
 use mathlib.Core.List.{List}
-use Prim.Native.Nat.{ℕ}
+use Prim.Native.Nat.{ℕ, _+_, _*_, _/_}
 use lib.Dec.{eqb}
 use lib.ListN.{length, replicate}
-use borrow.Author.Tests.{eqb-true}
-use Rattle.parity.proofs.Tests.{and-left, and-right}
+use borrow.Author.Tests.{eqb-true, ne-eqb}
+use Rattle.parity.proofs.Tests.{and-left, and-right, and-no-left, and-no-right}
 use Rattle.gtb.specs.declared.Shape.{Shape}
 use Rattle.gtb.specs.declared.Refusal.{Refusal}
 use Rattle.gtb.specs.declared.Status.{Status}
@@ -15,6 +15,7 @@ use Rattle.gtb.specs.Shape.{lawful, shapeRefusal, Lawful, wordLength, infoLengt
 use Rattle.gtb.specs.Square.{narrow}
 use Rattle.gtb.specs.Positions.{extractOf, Encodes}
 use Rattle.gtb.specs.Answer.{statusNumber, scratchAfter}
+use Rattle.gtb.proofs.Kept.{old-scratch}
 use Rattle.gtb.proofs.Answers.{same-refusal, never-done, never-refused, unless-done}
 use Rattle.encoder.specs.Contract.{statusOf, Encoding, Extraction}
 use Rattle.encoder.specs.Steps.{Tested}
@@ -31,6 +32,13 @@ module _ (s : Shape) (symbols scratch word given : List ℕ) where
   pub status-length : lawful s ≡ true → sized s symbols scratch word ≡ false → statusOf s symbols scratch word given ≡ Refused Refusal.Length
   unfolding statusOf
   status-length h z = rw (h, z)
+
+  -- among these the scratch of before N7
+  pub status-old : Lawful s → length scratch ≡ s .n * s .q * ((s .q * s .q + 31) / 32) → statusOf s symbols scratch word given ≡ Refused Refusal.Length
+  status-old h e =
+      status-length h
+      (and-no-left (eqb (length word) (wordLength s))
+      (and-no-right (eqb (length symbols) (infoLength s)) (ne-eqb (length scratch) (scratchLength s) (λ z. old-scratch s h (sym e ∙ z)))))
 
   pub status-width : lawful s ≡ true → sized s symbols scratch word ≡ true → narrow (s .b) given ≡ false → statusOf s symbols scratch word given ≡ Refused Refusal.Width
   unfolding statusOf

@@ -17,4 +17,5 @@ pub mod Information
 pub mod Silence
 pub mod Codewords
 pub mod Positions
+pub mod Kept
 pub mod Crossing

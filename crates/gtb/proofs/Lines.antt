@@ -65,14 +65,15 @@ line-lt s h zero j lt lj = rw line-zero (div-lt-iff-lt-mul (positive s h) .1 lj)
 line-lt s h (suc t) j lt lj = rw line-suc (mod-lt _ (positive s h))
 
 -- each position is on one line of each direction
+pub line-only : (s : Shape) → Lawful s → (t j : ℕ) → t < s .n → j < wordLength s → Only (s .q) (λ L. eqb (lineOf s t j) L) (lineOf s t j)
+line-only s h t j lt lj = record {
+  below = line-lt s h t j lt lj;
+  passes = eq-eqb (lineOf s t j) (lineOf s t j) refl;
+  alone = λ L l e. sym (eqb-true _ L e);
+}
+
 pub one-line : (s : Shape) → Lawful s → (t j : ℕ) → t < s .n → j < wordLength s → count (s .q) (λ L. eqb (lineOf s t j) L) ≡ 1
-one-line s h t j lt lj =
-    only-count _ _ (lineOf s t j)
-    (record {
-      below = line-lt s h t j lt lj;
-      passes = eq-eqb (lineOf s t j) (lineOf s t j) refl;
-      alone = λ L l e. sym (eqb-true _ L e);
-    })
+one-line s h t j lt lj = only-count _ _ (lineOf s t j) (line-only s h t j lt lj)
 
 -- each line has q positions: in direction 0 one in each column, in the others one in each row
 pub check-size : (s : Shape) → Lawful s → (t L : ℕ) → t < s .n → L < s .q → count (wordLength s) (λ j. eqb (lineOf s t j) L) ≡ s .q

@@ -2,6 +2,7 @@ pub mod Shape
 pub mod Alike
 pub mod Square
 pub mod Positions
+pub mod Kept
 pub mod Answer
 pub mod Sweep
 pub mod Rows

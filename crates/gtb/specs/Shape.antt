@@ -59,9 +59,13 @@ wordLength s = s .q * s .q
 abbrev pub infoLength : Shape → ℕ
 infoLength s = (s .q - 1) * (s .q + 1 - s .n)
 
--- the scratch: n × q rows of N bits, 32 to a value
+-- the checks that are kept, n × q - n + 1: in each direction but the first one follows from the others (N7)
+unfoldable pub keptChecks : Shape → ℕ
+keptChecks s = s .n * s .q - s .n + 1
+
+-- the scratch: one row of N bits a kept check, 32 to a value
 unfoldable pub scratchLength : Shape → ℕ
-scratchLength s = s .n * s .q * ((s .q * s .q + 31) / 32)
+scratchLength s = keptChecks s * ((s .q * s .q + 31) / 32)
 
 -- the slope of direction t, from 1 on: number t of the list
 unfoldable pub slopeOf : Shape → ℕ → ℕ

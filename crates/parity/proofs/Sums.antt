@@ -144,3 +144,7 @@ pub count-not : (n : ℕ) (p : ℕ → Bool) → count n p + count n (λ i. not 
 unfolding count sum
 count-not zero p = refl
 count-not (suc n) p = let ih = count-not n p in let h = bit-not (p n) in omega arith
+
+-- all pass
+pub count-all : (n : ℕ) (p : ℕ → Bool) → ((i : ℕ) → i < n → p i ≡ true) → count n p ≡ n
+count-all n p h = omega (arith, count-not n p, count-none n (λ i. not (p i)) (λ i l. ap not (h i l)))

@@ -8,7 +8,7 @@ use lib.ListN.{length, getD}
 use Rattle.gtb.specs.declared.Shape.{Shape}
 use Rattle.gtb.specs.declared.Refusal.{Refusal}
 use Rattle.gtb.specs.declared.Status.the-variants as status
-use Rattle.gtb.specs.Shape.{wordLength, scratchLength}
+use Rattle.gtb.specs.Shape.{wordLength, keptChecks, scratchLength}
 use Rattle.gtb.specs.Positions.{extractOf}
 use Rattle.gtb.specs.Answer.{unless}
 use Rattle.gtb.specs.Alike.{reslope, Alike}
@@ -49,7 +49,7 @@ module _ (s : Shape) (slopes : List ℕ) (alike : Alike s slopes) where
 
   -- the same is opened
   pub opened-alike : (word scratch : List ℕ) → opened clean (reslope s slopes) word scratch ≡ opened clean s word scratch
-  unfolding opened scratchLength
+  unfolding opened scratchLength keptChecks
   opened-alike word scratch = λ i.
       unless (lawful-alike s slopes alike i) (Bad (refusal-alike s slopes alike i))
       (unless (eqb (length word) (wordLength s) && eqb (length scratch) (scratchLength s)) (Bad Refusal.Length) (reads i))

@@ -5,6 +5,7 @@ pub mod Settle
 pub mod Arrive
 pub mod Machine
 pub mod Openings
+pub mod Lengths
 pub mod Fed
 pub mod Fits
 pub mod Demand

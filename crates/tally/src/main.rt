@@ -12,10 +12,10 @@ fn buffer() -> [u8; 16384]
 }
 
 // Room for the longest scratch.
-fn scratch_buffer() -> [u32; 7688]
-    ensures { λ r. ⌜ length r ≡ 7688 ⌝ }
+fn scratch_buffer() -> [u32; 7471]
+    ensures { λ r. ⌜ length r ≡ 7471 ⌝ }
 {
-    [0; 7688]
+    [0; 7471]
 }
 
 // Room for the output of a block.

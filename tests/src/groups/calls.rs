@@ -122,6 +122,11 @@ pub fn crosses(entry: Entry, i: usize) -> bool {
     matches!((entry, i), (Entry::Count, 0) | (Entry::Arrive, 0 | 3) | (Entry::Marks, _))
 }
 
+/// The scratch's length before request N7: a row for every check.
+pub fn old_scratch_len(shape: Shape) -> usize {
+    shape.checks() * shape.row_len()
+}
+
 /// The slice cut off or filled up.
 pub fn resized(slice: &[u32], length: usize, random: &mut Random) -> Vec<u32> {
     let mut slice = slice.to_vec();

@@ -2,12 +2,12 @@
 //! call is compared whole, so that the lent slices and the scratch are too. Slopes alone are the
 //! matter of another group.
 
-use super::calls::{good, reshape, resized, ENTRIES};
-use crate::call::{to_bytes, Call, Entry};
+use super::calls::{good, old_scratch_len, reshape, resized, ENTRIES};
+use crate::call::{answer_of, to_bytes, Call, Entry};
 use crate::random::Random;
 use crate::reference::page::PAGES;
 use crate::reference::session::{CALLS_AT, LOWEST_AT, MARKS_AT, PAGES_AT, SESSION_LEN};
-use crate::reference::shape::{orders_and_directions, Shape, SHAPE_LEN, SLOPES};
+use crate::reference::shape::{orders_and_directions, Refusal, Shape, SHAPE_LEN, SLOPES};
 use crate::report::{Group, Unit, Verdict};
 use crate::shrink::expect;
 
@@ -22,6 +22,7 @@ pub fn group() -> Group {
     }
     for (q, n) in orders_and_directions() {
         group.test(format!("lengths of ({q}, {n})"), move |random| lengths(q, n, random));
+        group.test(format!("scratch of ({q}, {n})"), move |random| scratch_lengths(q, n, random));
         group.test(format!("widths of ({q}, {n})"), move |random| widths(q, n, random));
         group.test(format!("several faults, ({q}, {n})"), move |random| several_faults(q, n, random));
     }
@@ -78,6 +79,37 @@ fn lengths(q: u32, n: u32, random: &mut Random) -> Verdict {
         }
     }
     Ok(tried)
+}
+
+/// A scratch as long as before request N7, and one value too short or too long: 2, and nothing else is
+/// touched.
+fn scratch_lengths(q: u32, n: u32, random: &mut Random) -> Verdict {
+    let mut tried = 0;
+    for entry in [Entry::Encode, Entry::Extract, Entry::Arrive] {
+        let shape = random.shape(q, n, 11);
+        let right = shape.scratch_len();
+        for length in [old_scratch_len(shape), right - 1, right + 1] {
+            let mut call = good(entry, shape, random);
+            let scratch = call.slices.iter_mut().zip(entry.slice_names()).find(|(_, name)| **name == "scratch");
+            scratch.expect("an entry that is lent one").0.resize(length, 7);
+            expect(&call)?;
+            if !is_refused_by_length(&call) {
+                return Err(format!("{entry:?} of {shape:?} takes a scratch of {length}"));
+            }
+            tried += 1;
+        }
+    }
+    Ok(tried)
+}
+
+/// 2, with everything as lent; an arrival says so in its outcome.
+fn is_refused_by_length(call: &Call) -> bool {
+    let (after, mut left) = (call.on_library(), call.slices.clone());
+    if call.entry == Entry::Arrive {
+        left[3] = vec![2, 2, 0];
+        return after.answer == 0 && after.slices == left;
+    }
+    after.answer == answer_of(Err(Refusal::Length)) && after.slices == left
 }
 
 /// The host pair with every number of bytes up to twice the right one and more.

@@ -1,6 +1,6 @@
 //! Arrivals in sessions grown from a fresh one and in sessions handed in from elsewhere.
 
-use super::calls::YES;
+use super::calls::{old_scratch_len, YES};
 use crate::call::{difference, Call, Entry};
 use crate::capture::{page_numbers, recording, Page};
 use crate::damage::{apply, make, unmasked, STYLES};
@@ -119,6 +119,7 @@ fn anything(shape: Shape, page: &Page, random: &mut Random) -> Arrival {
     match random.below(16) {
         0 => arrival.scratch.truncate(shape.scratch_len() - 1),
         1 => arrival.scratch.push(7),
+        2 => arrival.scratch.resize(old_scratch_len(shape), 7),
         _ => {}
     }
     arrival

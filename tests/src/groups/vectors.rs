@@ -33,7 +33,10 @@ pub fn group(name: &'static str, make: fn(&Call) -> After) -> Group {
 }
 
 fn vectors() -> Vec<Vector> {
-    [positions(), words(), pages(), arrivals(), idle(), figures(), shapes(), slopes()].into_iter().flatten().collect()
+    [positions(), words(), old_scratch(), pages(), arrivals(), idle(), figures(), shapes(), slopes()]
+        .into_iter()
+        .flatten()
+        .collect()
 }
 
 /// A call that answers `result` and leaves each slice as said.
@@ -56,8 +59,8 @@ fn positions() -> Vec<Vector> {
         Call::new(Entry::Extract, shape, &[&word, &scratch, data])
     };
     vec![
-        vector("P1", extract(B8, &[9; 4]), Ok(0), &[&word, &[0; 6], &[4, 5, 7, 8]]),
-        vector("P2", extract(Shape::new(3, 3, 8), &[9; 2]), Ok(0), &[&word, &[0; 9], &[7, 8]]),
+        vector("P1", extract(B8, &[9; 4]), Ok(0), &[&word, &[0; 5], &[4, 5, 7, 8]]),
+        vector("P2", extract(Shape::new(3, 3, 8), &[9; 2]), Ok(0), &[&word, &[0; 7], &[7, 8]]),
     ]
 }
 
@@ -70,16 +73,30 @@ fn words() -> Vec<Vector> {
     let decode = |word: &[u32]| Call::new(Entry::Decode, B3, &[word]);
     let host = |word: &[u32]| Call::new(Entry::HostReadWord, B3, &[&to_bytes(word)]);
     vec![
-        vector("P3", p3, Ok(0), &[&[3, 5, 6, 7], &[0; 6], &[7, 5, 2, 6, 3, 5, 1, 6, 7]]),
-        vector("P4", encode(B3, &[5, 3]), Ok(0), &[&[5, 3], &[0; 9], &P4_WORD]),
+        vector("P3", p3, Ok(0), &[&[3, 5, 6, 7], &[0; 5], &[7, 5, 2, 6, 3, 5, 1, 6, 7]]),
+        vector("P4", encode(B3, &[5, 3]), Ok(0), &[&[5, 3], &[0; 7], &P4_WORD]),
         unchanging("P4 read", decode(&P4_WORD), Ok(0)),
         vector("P5", decode(&P5_WORD), Ok(2), &[&P4_WORD]),
         vector("P5 for the host", host(&P5_WORD), Ok(2), &[&to_bytes(&P4_WORD)]),
         unchanging("P6", decode(&P6_WORD), Err(Refusal::Uncorrectable)),
         unchanging("P6 for the host", host(&P6_WORD), Err(Refusal::Uncorrectable)),
-        vector("P7", encode(B8, &[1, 2, 3, 5]), Ok(0), &[&[1, 2, 3, 5], &[0; 6], &P7_WORD]),
-        vector("marks 0 5", encode(B8, &[2, 2, 0, 5]), Ok(0), &[&[2, 2, 0, 5], &[0; 6], &IDLE_5_WORD]),
-        vector("marks 0 0", encode(B8, &[4, 2, 0, 0]), Ok(0), &[&[4, 2, 0, 0], &[0; 6], &IDLE_WORD]),
+        vector("P7", encode(B8, &[1, 2, 3, 5]), Ok(0), &[&[1, 2, 3, 5], &[0; 5], &P7_WORD]),
+        vector("marks 0 5", encode(B8, &[2, 2, 0, 5]), Ok(0), &[&[2, 2, 0, 5], &[0; 5], &IDLE_5_WORD]),
+        vector("marks 0 0", encode(B8, &[4, 2, 0, 0]), Ok(0), &[&[4, 2, 0, 0], &[0; 5], &IDLE_WORD]),
+    ]
+}
+
+/// Extraction and writing of P4 and an arrival of P7, each with the scratch that was right before
+/// request N7.
+fn old_scratch() -> Vec<Vector> {
+    let extract = Call::new(Entry::Extract, B3, &[&P4_WORD, &[7; 9], &[9; 2]]);
+    let encode = Call::new(Entry::Encode, B3, &[&[5, 3], &[7; 9], &[1; 9]]);
+    let session = fresh_values(B8);
+    let arrive = Call::new(Entry::Arrive, B8, &[&session, &P7_WORD, &[7; 6], &[9; 3]]);
+    vec![
+        unchanging("P4 extracted, old scratch", extract, Err(Refusal::Length)),
+        unchanging("P4, old scratch", encode, Err(Refusal::Length)),
+        vector("taken, old scratch", arrive, Ok(0), &[&session, &P7_WORD, &[7; 6], &[2, 2, 0]]),
     ]
 }
 
@@ -128,13 +145,13 @@ fn arrivals() -> Vec<Vector> {
         }
         session
     };
-    let arrive = |taken: bool, word: &[u32]| Call::new(Entry::Arrive, B8, &[&session(taken), word, &[7; 6], &[9; 3]]);
+    let arrive = |taken: bool, word: &[u32]| Call::new(Entry::Arrive, B8, &[&session(taken), word, &[7; 5], &[9; 3]]);
     let damaged = [12, 2, 7, 3, 1, 2, 6, 3, 5];
     let masked = [1, 0, 0, 0, 1, 0, 0, 0, 0];
     vec![
-        vector("taken", arrive(false, &P7_WORD), Ok(0), &[&session(true), &P7_WORD, &[0; 6], &[0, 1, 0]]),
-        vector("again", arrive(true, &damaged), Ok(0), &[&session(true), &P7_WORD, &[0; 6], &[1, 1, 1]]),
-        vector("refused", arrive(true, &masked), Ok(0), &[&session(true), &masked, &[0; 6], &[2, 4, 0]]),
+        vector("taken", arrive(false, &P7_WORD), Ok(0), &[&session(true), &P7_WORD, &[0; 5], &[0, 1, 0]]),
+        vector("again", arrive(true, &damaged), Ok(0), &[&session(true), &P7_WORD, &[0; 5], &[1, 1, 1]]),
+        vector("refused", arrive(true, &masked), Ok(0), &[&session(true), &masked, &[0; 5], &[2, 4, 0]]),
     ]
 }
 
@@ -150,12 +167,12 @@ fn idle() -> Vec<Vector> {
         (session[CALLS_AT], session[CALLS_AT + 5]) = (idle, calls);
         session
     };
-    let arrive = |session: &[u32], word: &[u32]| Call::new(Entry::Arrive, B8, &[session, word, &[7; 6], &[9; 3]]);
+    let arrive = |session: &[u32], word: &[u32]| Call::new(Entry::Arrive, B8, &[session, word, &[7; 5], &[9; 3]]);
     let mut vectors = vec![];
     for idle in [0, 5, u32::MAX - 1, u32::MAX] {
         let mut test = |name: &str, before: Vec<u32>, word: &[u32], after: Vec<u32>, outcome: [u32; 3]| {
             let name = format!("{name}, {idle} of function 0");
-            vectors.push(vector(name, arrive(&before, word), Ok(0), &[&after, word, &[0; 6], &outcome]));
+            vectors.push(vector(name, arrive(&before, word), Ok(0), &[&after, word, &[0; 5], &outcome]));
         };
         let before = |calls: u32| session(None, idle, calls);
         let after = |page: usize, calls: u32| session(Some(page), idle, calls);
@@ -233,8 +250,8 @@ fn sloped(shape: Shape, first: &[u32]) -> Shape {
 /// row 0 is another.
 fn slopes() -> Vec<Vector> {
     let written = |name, first: &[u32], word: &[u32]| {
-        let call = Call::new(Entry::Encode, sloped(B3, first), &[&[5, 3], &[7; 9], &[1; 9]]);
-        vector(name, call, Ok(0), &[&[5, 3], &[0; 9], word])
+        let call = Call::new(Entry::Encode, sloped(B3, first), &[&[5, 3], &[7; 7], &[1; 9]]);
+        vector(name, call, Ok(0), &[&[5, 3], &[0; 7], word])
     };
     let decode = |first: &[u32], word: &[u32]| Call::new(Entry::Decode, sloped(B3, first), &[word]);
     let fresh = |shape: Shape| Call::new(Entry::Fresh, shape, &[&[5; SESSION_LEN]]);
@@ -243,13 +260,13 @@ fn slopes() -> Vec<Vector> {
     let mirrored = [5, 3, 6, 3, 6, 5, 6, 5, 3];
     let sheared = [6, 5, 3, 6, 5, 3, 6, 5, 3];
     let by_slope_1 = [1, 6, 7, 3, 1, 2, 6, 3, 5];
-    let p7 = Call::new(Entry::Encode, sloped(B8, &[1]), &[&[1, 2, 3, 5], &[7; 6], &[1; 9]]);
+    let p7 = Call::new(Entry::Encode, sloped(B8, &[1]), &[&[1, 2, 3, 5], &[7; 5], &[1; 9]]);
     vec![
         written("slopes 1 0", &[1, 0], &P4_WORD),
         written("slopes 0 2", &[0, 2], &mirrored),
         written("slopes 2 0", &[2, 0], &mirrored),
         written("slopes 1 2", &[1, 2], &sheared),
-        vector("slope 1", p7, Ok(0), &[&[1, 2, 3, 5], &[0; 6], &by_slope_1]),
+        vector("slope 1", p7, Ok(0), &[&[1, 2, 3, 5], &[0; 5], &by_slope_1]),
         vector("slopes 1 2 read", decode(&[1, 2], &[6, 5, 3, 6, 5, 3, 6, 1, 3]), Ok(1), &[&sheared]),
         unchanging("P4 by slopes 1 2", decode(&[1, 2], &P4_WORD), Err(Refusal::Uncorrectable)),
         accepted("shape 3 3 3, slopes 2 1", sloped(B3, &[2, 1])),

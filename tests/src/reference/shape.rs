@@ -115,8 +115,14 @@ impl Shape {
         (self.n * self.q) as usize
     }
 
+    /// S, the values of u32 that hold N bits.
+    pub fn row_len(self) -> usize {
+        self.word_len().div_ceil(32)
+    }
+
+    /// A row for each check, but for the last of every direction from 1 on (request N7).
     pub fn scratch_len(self) -> usize {
-        self.checks() * self.word_len().div_ceil(32)
+        (self.checks() - (self.n as usize - 1)) * self.row_len()
     }
 
     /// The most marks that a page can hold.

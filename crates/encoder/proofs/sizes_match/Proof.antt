@@ -1,11 +1,12 @@
 -- `encoder::sizes_match` meets its contract: each test is one of the contract's.
 use mathlib.Core.Path.{sym, ap, _∙_}
 use mathlib.Core.Bool.{Bool, _&&_}
+use native.Mathlib.Omega.{arith}
 use lib.Dec.{eqb}
 use borrow.Author.Needs.{needs}
 use borrow.Author.Tests.{eq-eqb, ne-eqb}
 use Rattle.parity.proofs.Tests.{and-both, and-no-left, and-no-right}
-use Rattle.gtb.specs.Shape.{wordLength, infoLength}
+use Rattle.gtb.specs.Shape.{wordLength, infoLength, scratchLength}
 use Rattle.encoder.proofs.sizes_match.Statement.{statement}
 use Rattle.encoder.proofs.sizes_match.Tie as tie
 
@@ -23,7 +24,7 @@ returns-2 c =
     let a = c .before .before .before .before .args in
     sym
     (and-no-left (eqb (a .word) (wordLength (a .shape)))
-    (and-no-right (eqb (a .symbols) (infoLength (a .shape))) (ne-eqb _ _ (λ e. c .if2 .taken (e ∙ sym (c .before .scratch-length .ensures))))))
+    (and-no-right (eqb (a .symbols) (infoLength (a .shape))) (ne-eqb (a .scratch) (scratchLength (a .shape)) (λ e. omega (arith, c .if2 .taken, c .before .scratch-length .ensures)))))
 
 word-length-requires : tie.Need-word-length-requires
 word-length-requires c κs = search needs
@@ -36,7 +37,7 @@ returns-3 c =
     ap (eqb (a .word)) (c .word-length .ensures)
     ∙ sym
     (ap (λ (x : Bool). x && eqb (a .word) (wordLength (a .shape)))
-    (and-both (eq-eqb _ _ (scratch .before .if1 .left ∙ symbols .info-length .ensures)) (eq-eqb _ _ (c .before .if2 .left ∙ scratch .scratch-length .ensures))))
+    (and-both (eq-eqb _ _ (scratch .before .if1 .left ∙ symbols .info-length .ensures)) (eq-eqb (a .scratch) (scratchLength (a .shape)) (omega (arith, c .before .if2 .left, scratch .scratch-length .ensures)))))
 
 pub sizes-match-spec : {M : Type 1} → statement M
 sizes-match-spec =

@@ -11,7 +11,7 @@ use Rattle.tally.proofs.main.Tie as tie
 
 abbrev Inv-loop : tie.InvT-loop
 Inv-loop block₀ line₀ scratch₀ out₀ names reader₀ left₀ block line scratch out reader left =
-    (length block ≡ 16384) × (length line ≡ 16384) × (length scratch ≡ 7688) × (length out ≡ 491584) × Consistent (reader .tally .session)
+    (length block ≡ 16384) × (length line ≡ 16384) × (length scratch ≡ 7471) × (length out ≡ 491584) × Consistent (reader .tally .session)
 
 abbrev μ-loop : tie.MeasureT-loop
 μ-loop block₀ line₀ scratch₀ out₀ names reader₀ left₀ block line scratch out reader left = left

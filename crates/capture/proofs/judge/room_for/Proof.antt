@@ -2,7 +2,6 @@
 use mathlib.Core.Path.{sym, _∙_}
 use native.Mathlib.Omega.{arith}
 use Rattle.parity.proofs.Tests.{clash}
-use Rattle.gtb.specs.Shape.{scratchLength}
 use Rattle.gtb.proofs.Sizes.{sizes}
 use borrow.Author.Needs.{needs}
 use Rattle.capture.proofs.judge.room_for.Statement.{statement}
@@ -15,7 +14,6 @@ scratch-length-requires : tie.Need-scratch-length-requires
 scratch-length-requires c κs = sym (c .before .is-lawful .ensures) ∙ c .if1 .taken
 
 returns : tie.Need-returns
-unfolding scratchLength
 returns c =
     let l = sym (c .before .before .is-lawful .ensures) ∙ c .before .if1 .taken in
     record { exact = λ t. c .scratch-length .ensures; few = rw (c .scratch-length .ensures) (sizes _ l .scratch) }

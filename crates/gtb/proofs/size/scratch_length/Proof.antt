@@ -1,4 +1,6 @@
 -- `gtb::size::scratch_length` meets its contract.
+use mathlib.Core.Path.{ap}
+use Prim.Native.Nat.{ℕ, _+_, _*_, _/_}
 use borrow.Author.Needs.{needs}
 use native.Mathlib.Omega.{arith}
 use Rattle.gtb.specs.Shape.{scratchLength}
@@ -9,25 +11,28 @@ use Rattle.gtb.proofs.size.scratch_length.Tie as tie
 cast-q : tie.Need-cast-q
 cast-q c = search needs
 
-cast-n : tie.Need-cast-n
-cast-n c = search needs
+kept-checks-requires : tie.Need-kept-checks-requires
+kept-checks-requires c κs = search needs
 
 mul-result : tie.Need-mul-result
 mul-result c = let b = sizes (c .before .before .args .shape) (c .before .before .pre) in omega arith
 
-mul-result-2 : tie.Need-mul-result-2
-mul-result-2 c = let b = sizes (c .before .before .args .shape) (c .before .before .pre) in omega arith
-
 add-result : tie.Need-add-result
 add-result c = let b = sizes (c .before .before .args .shape) (c .before .before .pre) in omega arith
 
-mul-result-3 : tie.Need-mul-result-3
-mul-result-3 c = let b = sizes (c .before .before .args .shape) (c .before .before .pre) in omega arith
+mul-result-2 : tie.Need-mul-result-2
+unfolding scratchLength
+mul-result-2 c =
+    let s = c .before .before .args .shape in
+    let b = sizes s (c .before .before .pre) in
+    omega (arith, ap (λ (k : ℕ). k * ((s .q * s .q + 31) / 32)) (c .kept-checks .ensures))
 
 returns : tie.Need-returns
 unfolding scratchLength
-returns c = search needs
+returns c =
+    let s = c .before .before .args .shape in
+    ap (λ (k : ℕ). k * ((s .q * s .q + 31) / 32)) (c .kept-checks .ensures)
 
 pub scratch-length-spec : {M : Type 1} → statement M
 scratch-length-spec =
-    tie.close (tie.spec cast-q cast-n mul-result mul-result-2 add-result mul-result-3 returns)
+    tie.close (tie.spec cast-q kept-checks-requires mul-result add-result mul-result-2 returns)
