@@ -1,0 +1,9 @@
+pub mod Pairs
+pub mod Level
+pub mod Six
+pub mod Distance
+pub mod Bits
+pub mod Even
+pub mod Hexagon
+pub mod Eight
+pub mod Examples

@@ -1,0 +1,26 @@
+-- How far codewords are apart, and how many erasures that allows.
+use mathlib.Core.Path.{_≡_}
+use mathlib.Core.Bool.{Bool, false, not, cond}
+use mathlib.Core.List.{List}
+use Prim.Native.Nat.{ℕ, _+_, _<_, _≤_}
+use lib.Dec.{eqb, ltb}
+use Rattle.parity.specs.Count.{count}
+use Rattle.gtb.specs.declared.Shape.{Shape}
+use Rattle.gtb.specs.Shape.{wordLength}
+use Rattle.gtb.specs.Square.{at, Codeword}
+
+-- at how many places two words of the shape differ
+unfoldable pub differences : Shape → List ℕ → List ℕ → ℕ
+differences s v w = count (wordLength s) (λ j. not (eqb (at v j) (at w j)))
+
+-- so far apart are different codewords at least: n + 1, and four for two directions, six for more
+unfoldable pub apart : ℕ → ℕ
+apart n = cond (ltb n 3) 4 (cond (ltb n 6) 6 (n + 1))
+
+-- different codewords of a shape are that far apart
+pub record Distance (s : Shape) : Type 0 where
+  pub least : (v w : List ℕ) → Codeword s v → Codeword s w → (v ≡ w → ⊥) → apart (s .n) ≤ differences s v w
+
+-- the places of a list leave no choice: two codewords that are the same off the marked places are the same
+pub record Sure (s : Shape) (marked : ℕ → Bool) : Type 0 where
+  pub one : (v w : List ℕ) → Codeword s v → Codeword s w → ((j : ℕ) → j < wordLength s → marked j ≡ false → at v j ≡ at w j) → v ≡ w

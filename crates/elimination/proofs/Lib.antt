@@ -1,0 +1,7 @@
+pub mod Sums
+pub mod Systems
+pub mod Reductions
+pub mod Ends
+pub mod Cells
+pub mod Columns
+pub mod Outcomes

@@ -1,0 +1,45 @@
+-- `elimination::eliminate` meets its contract.
+use borrow.Author.Needs.{needs}
+use Rattle.elimination.proofs.Outcomes.{answer-none, answer-several, answer-one}
+use Rattle.elimination.proofs.eliminate.Statement.{statement}
+use Rattle.elimination.proofs.eliminate.Tie as tie
+
+reduce-requires : tie.Need-reduce-requires
+reduce-requires c κs = search needs
+
+find-value-requires : tie.Need-find-value-requires
+find-value-requires c κs = search needs
+
+same-length : tie.Need-same-length
+same-length c = search needs
+
+returns : tie.Need-returns
+returns c =
+    let f = c .before in answer-none (f .before .before .before .before .reduce .ensures) (f .find-value .ensures) (c .if1 .taken)
+
+same-length-2 : tie.Need-same-length-2
+same-length-2 c = search needs
+
+returns-2 : tie.Need-returns-2
+returns-2 c =
+    let f = c .before .before in answer-several (f .before .before .before .before .reduce .ensures) (f .find-value .ensures) (c .before .if1 .left) (c .if2 .taken)
+
+same-length-3 : tie.Need-same-length-3
+same-length-3 c = search needs
+
+returns-3 : tie.Need-returns-3
+returns-3 c =
+    let f = c .before .before in answer-one (f .before .before .before .before .reduce .ensures) (f .find-value .ensures) (c .before .if1 .left) (c .if2 .left)
+
+pub eliminate-spec : {M : Type 1} → statement M
+eliminate-spec =
+    tie.close
+    (tie.spec
+    reduce-requires
+    find-value-requires
+    same-length
+    returns
+    same-length-2
+    returns-2
+    same-length-3
+    returns-3)

@@ -1,0 +1,4 @@
+pub mod System
+pub mod Packed
+pub mod Outcome
+pub mod Steps
