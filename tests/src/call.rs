@@ -1,5 +1,6 @@
 //! One call of one entry, made of the reference or of the library, with all that it leaves behind.
 
+use crate::reference::filler::fill;
 use crate::reference::page::{read_page, write_page};
 use crate::reference::reader::decode;
 use crate::reference::session::{Outcome, Session, SESSION_LEN};
@@ -11,6 +12,7 @@ pub enum Entry {
     Encode,
     Extract,
     Decode,
+    Fill,
     ReadPage,
     Marks,
     WritePage,
@@ -28,6 +30,7 @@ impl Entry {
             Entry::Encode => &["data", "scratch", "word"],
             Entry::Extract => &["word", "scratch", "data"],
             Entry::Decode | Entry::HostReadWord => &["word"],
+            Entry::Fill => &["places", "word", "scratch"],
             Entry::ReadPage | Entry::HostReadPage => &["data"],
             Entry::Marks => &["data", "marks"],
             Entry::WritePage => &["marks", "data"],
@@ -100,6 +103,14 @@ impl Call {
         self.lent_shape.clone().unwrap_or_else(|| self.shape.values().to_vec())
     }
 
+    /// Everything that is lent.
+    pub fn text(&self) -> String {
+        let slices = self.entry.slice_names().iter().zip(&self.slices);
+        let slices: Vec<String> = slices.map(|(name, slice)| format!("{name} {}", brief(slice))).collect();
+        let shape = brief(&self.shape_values());
+        format!("{:?} of shape {shape}, number {}, {}", self.entry, self.number, slices.join(", "))
+    }
+
     pub fn on_reference(&self) -> After {
         let values = self.shape_values();
         if self.entry.takes_shape() && values.len() != SHAPE_LEN {
@@ -115,6 +126,7 @@ impl Call {
             (Entry::Encode, [data, scratch, word]) => answer_of(encode(shape, data, scratch, word).map(|()| 0)),
             (Entry::Extract, [word, scratch, data]) => answer_of(extract(shape, word, scratch, data).map(|()| 0)),
             (Entry::Decode, [word]) => answer_of(decode(shape, word)),
+            (Entry::Fill, [places, word, scratch]) => answer_of(fill(shape, places, word, scratch)),
             (Entry::ReadPage, [data]) => answer_of(page_answer(shape, data)),
             (Entry::Marks, [data, marks]) => answer_of(marks_part(shape, data, marks)),
             (Entry::WritePage, [marks, data]) => answer_of(write_page(shape, self.number, marks, data).map(|()| 0)),

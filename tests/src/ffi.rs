@@ -30,6 +30,16 @@ extern "C" {
         data_len: usize,
     ) -> u32;
     fn harness_decode(shape: *const u32, shape_len: usize, word: *mut u32, word_len: usize) -> u32;
+    fn harness_fill(
+        shape: *const u32,
+        shape_len: usize,
+        places: *const u32,
+        places_len: usize,
+        word: *mut u32,
+        word_len: usize,
+        scratch: *mut u32,
+        scratch_len: usize,
+    ) -> u32;
     fn harness_read_page(shape: *const u32, shape_len: usize, data: *const u32, data_len: usize) -> u32;
     fn harness_marks(
         shape: *const u32,
@@ -105,6 +115,21 @@ pub fn extract(shape: &[u32], word: &[u32], scratch: &mut [u32], data: &mut [u32
 
 pub fn decode(shape: &[u32], word: &mut [u32]) -> u32 {
     unsafe { harness_decode(shape.as_ptr(), shape.len(), word.as_mut_ptr(), word.len()) }
+}
+
+pub fn fill(shape: &[u32], places: &[u32], word: &mut [u32], scratch: &mut [u32]) -> u32 {
+    unsafe {
+        harness_fill(
+            shape.as_ptr(),
+            shape.len(),
+            places.as_ptr(),
+            places.len(),
+            word.as_mut_ptr(),
+            word.len(),
+            scratch.as_mut_ptr(),
+            scratch.len(),
+        )
+    }
 }
 
 pub fn read_page(shape: &[u32], data: &[u32]) -> u32 {

@@ -3,6 +3,7 @@
 mod calls;
 #[cfg(not(feature = "reference-only"))]
 pub mod codec;
+pub mod erasures;
 mod faults;
 pub mod figures;
 pub mod idle;

@@ -1,6 +1,6 @@
 //! Calls of the proved library, compared with the reference.
 
-use crate::call::{brief, difference, After, Call, Entry};
+use crate::call::{difference, After, Call, Entry};
 use crate::ffi;
 use crate::shrink::{with_zeros, Case};
 
@@ -18,6 +18,9 @@ impl Call {
                 ffi::extract(shape, word.lend(), scratch.lend(), data.lend()).into()
             }
             (Entry::Decode, [word]) => ffi::decode(shape, word.lend()).into(),
+            (Entry::Fill, [places, word, scratch]) => {
+                ffi::fill(shape, places.lend(), word.lend(), scratch.lend()).into()
+            }
             (Entry::ReadPage, [data]) => ffi::read_page(shape, data.lend()).into(),
             (Entry::Marks, [data, marks]) => ffi::marks(shape, data.lend(), marks.lend()).into(),
             (Entry::WritePage, [marks, data]) => ffi::write_page(shape, self.number, marks.lend(), data.lend()).into(),
@@ -51,10 +54,7 @@ impl Case for Call {
     }
 
     fn describe(&self) -> String {
-        let slices = self.entry.slice_names().iter().zip(&self.slices);
-        let slices: Vec<String> = slices.map(|(name, slice)| format!("{name} {}", brief(slice))).collect();
-        let shape = brief(&self.shape_values());
-        format!("{:?} of shape {shape}, number {}, {}", self.entry, self.number, slices.join(", "))
+        self.text()
     }
 }
 

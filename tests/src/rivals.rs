@@ -3,6 +3,7 @@
 //! standard ones, so only shapes with these are for them.
 
 pub mod arrival;
+pub mod elimination;
 pub mod straightforward;
 pub mod tuned;
 
@@ -42,6 +43,23 @@ fn judge_writing(shape: Shape, data: &[u32], scratch: &mut [u32], word: &[u32]) 
     }
     scratch.fill(0);
     (!fit(shape, data)).then_some(Refusal::Width)
+}
+
+/// Tests 1, 18, 2, 3 and 12 of filling in. The scratch is cleared as soon as the lengths are right.
+fn judge_filling(shape: Shape, places: &[u32], word: &[u32], scratch: &mut [u32]) -> Option<Refusal> {
+    if let Err(refusal) = shape.judge() {
+        return Some(refusal);
+    }
+    if (word.len(), scratch.len()) != (shape.word_len(), shape.scratch_len()) {
+        return Some(Refusal::Length);
+    }
+    scratch.fill(0);
+    if !fit(shape, word) {
+        return Some(Refusal::Width);
+    }
+    let rising = places.windows(2).all(|pair| pair[0] < pair[1]);
+    let below = places.last().is_none_or(|&last| (last as usize) < word.len());
+    (!(rising && below)).then_some(Refusal::Places)
 }
 
 /// One OR over all symbols is faster than a test of each.

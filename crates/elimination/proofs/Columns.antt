@@ -55,7 +55,7 @@ joined-as {S} {s = s} e′ {old} {values} h same = record {
 }
 
 -- a test at i alone
-single : (f : ℕ → Bool) (i : ℕ) {b : Bool} → f i ≡ b → (t : ℕ) → (eqb t i && f t) ≡ (eqb t i && b)
+pub single : (f : ℕ → Bool) (i : ℕ) {b : Bool} → f i ≡ b → (t : ℕ) → (eqb t i && f t) ≡ (eqb t i && b)
 single f i {b} h t =
     ⊎-elim (λ (y : eqb t i ≡ true). ap (λ (c : Bool). eqb t i && c) (ap f (eqb-true t i y) ∙ h))
     (λ (n : eqb t i ≡ false). and-no-left (f t) n ∙ sym (and-no-left b n))
@@ -72,7 +72,7 @@ single-yes f i h t = single f i h t ∙ and-true (eqb t i)
     and-true false = refl
 
 -- the rows below i, and row i
-rows-more : (f : ℕ → Bool) (t i : ℕ) → (ltb t (i + 1) && f t) ≡ xor (ltb t i && f t) (eqb t i && f t)
+pub rows-more : (f : ℕ → Bool) (t i : ℕ) → (ltb t (i + 1) && f t) ≡ xor (ltb t i && f t) (eqb t i && f t)
 unfolding xor
 rows-more f t i =
     elim (decLt t i) [

@@ -56,6 +56,9 @@ refusal-small Refusal.Tail = lit≤ tt
 refusal-small Refusal.Overflow = lit≤ tt
 refusal-small Refusal.Syntax = lit≤ tt
 refusal-small Refusal.Figures = lit≤ tt
+refusal-small Refusal.Places = lit≤ tt
+refusal-small Refusal.Unfillable = lit≤ tt
+refusal-small Refusal.Ambiguous = lit≤ tt
 refusal-small Refusal.Slope = lit≤ tt
 
 -- a refusal leaves a scratch of the same length

@@ -44,7 +44,7 @@ module _ (s : Shape) (h : Lawful s) (f : ℕ → ℕ) where
   }
 
 -- ---- the kept checks say as much as all
-first-kept : (s : Shape) (L : ℕ) → isKept s 0 L ≡ true
+pub first-kept : (s : Shape) (L : ℕ) → isKept s 0 L ≡ true
 unfolding isKept
 first-kept s L = refl
 
@@ -53,7 +53,7 @@ unfolding isKept
 later-kept s t L = ap (λ (b : Bool). b || ltb (L + 1) (s .q)) (ne-eqb (suc t) 0 (λ e. omega arith))
 
 -- all but the last of a direction are kept
-low-kept : (s : Shape) (t L : ℕ) → L < s .q - 1 → isKept s t L ≡ true
+pub low-kept : (s : Shape) (t L : ℕ) → L < s .q - 1 → isKept s t L ≡ true
 low-kept s zero L l = first-kept s L
 low-kept s (suc t) L l = later-kept s t L ∙ lt-ltb (L + 1) (s .q) (omega arith)
 
@@ -82,7 +82,7 @@ module _ (s : Shape) (h : Lawful s) (f : ℕ → ℕ) (k : KeptSilent s f) where
 
 -- ---- the kept checks by number
 -- the number of the check of line L in direction t
-abbrev numberOf : Shape → ℕ → ℕ → ℕ
+abbrev pub numberOf : Shape → ℕ → ℕ → ℕ
 numberOf s zero L = L
 numberOf s (suc t) L = suc t * (s .q - 1) + L + 1
 
@@ -130,7 +130,7 @@ module _ (s : Shape) (h : Lawful s) where
       moved t L l = rw (later-direction t L l, later-line t L l) (later t L l)
 
   -- of the last checks only that of direction 0
-  last-kept : (t : ℕ) → isKept s t (s .q - 1) ≡ eqb t 0
+  pub last-kept : (t : ℕ) → isKept s t (s .q - 1) ≡ eqb t 0
   last-kept zero = first-kept s (s .q - 1)
   last-kept (suc t) =
       later-kept s t (s .q - 1) ∙ le-ltb (s .q - 1 + 1) (s .q) (omega arith) ∙ sym (ne-eqb (suc t) 0 (λ e. omega arith))
@@ -167,25 +167,25 @@ module _ (s : Shape) (h : Lawful s) where
       below : (t L : ℕ) → L < s .q - 1 → numberOf s (suc t) L < keptChecks s → suc t < s .n
       below t L l lt = subst (λ (x : ℕ). x < s .n) (digits-div (suc t) l) (div-lt-iff-lt-mul others .1 (omega (arith, kept-checks)))
 
-  kept-found : (t L : ℕ) → t < s .n → L < s .q → isKept s t L ≡ true
-      → (i : ℕ) × (i < keptChecks s) × (keptDirection s i ≡ t) × (keptLine s i ≡ L)
-  kept-found zero L lt l e =
+  pub kept-number : (t L : ℕ) → t < s .n → L < s .q → isKept s t L ≡ true
+      → (numberOf s t L < keptChecks s) × (keptDirection s (numberOf s t L) ≡ t) × (keptLine s (numberOf s t L) ≡ L)
+  kept-number zero L lt l e =
       let few : 0 * (s .q - 1) + (L - 1) < s .n * (s .q - 1) = digits-lt lt (omega (arith, others)) in
-      (L, omega (arith, kept-checks), first-direction L l, first-line L l)
-  kept-found (suc t) L lt l e =
+      (omega (arith, kept-checks), first-direction L l, first-line L l)
+  kept-number (suc t) L lt l e =
       let low : L + 1 < s .q = ltb-true (L + 1) (s .q) (sym (later-kept s t L) ∙ e) in
       let less : L < s .q - 1 = omega arith in
       let few : suc t * (s .q - 1) + L < s .n * (s .q - 1) = digits-lt lt less in
-      (numberOf s (suc t) L, omega (arith, kept-checks), later-direction t L less, later-line t L less)
+      (omega (arith, kept-checks), later-direction t L less, later-line t L less)
 
-  kept-back : (i : ℕ) → numberOf s (keptDirection s i) (keptLine s i) ≡ i
+  pub kept-back : (i : ℕ) → numberOf s (keptDirection s i) (keptLine s i) ≡ i
   kept-back = by-check (λ i t L. numberOf s t L ≡ i) (λ L l. refl) (λ t L l. refl)
 
   pub kept-rows : KeptRows s
   kept-rows = record {
     number = kept-total;
     kept = kept-place;
-    found = kept-found;
+    found = λ t L lt l e. let (few, direction, line) = kept-number t L lt l e in (numberOf s t L, few, direction, line);
     once = λ i k li lk et eL. sym (kept-back i) ∙ ap₂ (numberOf s) et eL ∙ kept-back k;
   }
 

@@ -20,6 +20,9 @@ refusalNumber Refusal.Tail = 8
 refusalNumber Refusal.Overflow = 9
 refusalNumber Refusal.Syntax = 10
 refusalNumber Refusal.Figures = 11
+refusalNumber Refusal.Places = 12
+refusalNumber Refusal.Unfillable = 13
+refusalNumber Refusal.Ambiguous = 14
 refusalNumber Refusal.Slope = 18
 
 -- as one number: 0, or 2^31 plus the refusal's
@@ -50,6 +53,9 @@ isEarly Refusal.Tail = false
 isEarly Refusal.Overflow = false
 isEarly Refusal.Syntax = false
 isEarly Refusal.Figures = true
+isEarly Refusal.Places = false
+isEarly Refusal.Unfillable = false
+isEarly Refusal.Ambiguous = false
 isEarly Refusal.Slope = true
 
 -- the scratch after a refusal: as lent after an early one, zeros after every other

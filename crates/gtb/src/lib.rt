@@ -34,6 +34,9 @@ pub enum Refusal {
     Overflow, // worn
     Syntax, // text
     Figures, // figures
+    Places, // places
+    Unfillable, // none
+    Ambiguous, // several
     Slope, // slope
 }
 

@@ -20,6 +20,9 @@ pub fn refusal(refusal: Refusal) -> u32
         Refusal::Overflow => 9,
         Refusal::Syntax => 10,
         Refusal::Figures => 11,
+        Refusal::Places => 12,
+        Refusal::Unfillable => 13,
+        Refusal::Ambiguous => 14,
         Refusal::Slope => 18,
     }
 }

@@ -17,6 +17,7 @@ ghost use Rattle.gtb.specs.Answer.{statusNumber};
 ghost use Rattle.encoder.specs.Contract.{Encoding, Extraction};
 ghost use Rattle.decoder.specs.Decode.{Decoding};
 ghost use Rattle.correction.specs.Answer.{decodedNumber};
+ghost use Rattle.erasure.specs.Fill.{Filling};
 ghost use Rattle.page.specs.Page.{Writing};
 ghost use Rattle.session.specs.Session.{countedNumber};
 ghost use Rattle.harness.specs.Entries.{Crosses, Shaped, pageCrossing, MarksCrossing, FreshCrossing, countedIn, ArriveCrossing};
@@ -59,6 +60,21 @@ pub extern "C" fn harness_decode(shape: &[u32], word: &mut [u32]) -> u32
         return gtb::number::refused(Refusal::Length);
     }
     correction::number::decoded(decoder::decode(load_shape(shape), word))
+}
+
+#[no_mangle]
+pub extern "C" fn harness_fill(
+    shape: &[u32],
+    places: &[u32],
+    word: &mut [u32],
+    scratch: &mut [u32],
+) -> u32
+    ensures { λ r. ⌜ Shaped (now (shape .entry)) (λ s. Crosses decodedNumber (Filling s (now (word .entry)) (now (places .entry)) (now (scratch .entry)) (now (word .exit)) (now (scratch .exit))) r) ((now (word .exit) ≡ now (word .entry)) × (now (scratch .exit) ≡ now (scratch .entry))) r ⌝ }
+{
+    if shape.len() != SHAPE {
+        return gtb::number::refused(Refusal::Length);
+    }
+    correction::number::decoded(erasure::fill(load_shape(shape), word, places, scratch))
 }
 
 #[no_mangle]

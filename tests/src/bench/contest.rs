@@ -1,4 +1,4 @@
-//! Timing three ways of doing the same, in turns.
+//! Timing some ways of doing the same, in turns.
 
 use std::time::{Duration, Instant};
 
@@ -8,25 +8,23 @@ pub const ROUNDS: usize = 31;
 const TURN: Duration = Duration::from_millis(1);
 const BATCHES: usize = 6;
 
-/// Nanoseconds a word of the library, and its time over that of the straightforward and the tuned code.
+/// Nanoseconds a word of the library, and its time over that of each other contestant.
 pub struct Times {
     pub ours: f64,
-    pub to_straightforward: f64,
-    pub to_tuned: f64,
+    pub to_others: Vec<f64>,
 }
 
 /// A batch of words prepared and worked on by one contestant; it gives the time of the work alone.
 pub type Batch<'a> = Box<dyn FnMut() -> Duration + 'a>;
 
-/// Times the contestants on batches of `words` words. They take turns within each round, and a ratio
-/// is one round's, so that a slow moment of the machine hits all of them.
-pub fn times(words: usize, mut contestants: [Batch; 3]) -> Times {
-    let rounds: Vec<[f64; 3]> = (0..ROUNDS).map(|_| contestants.each_mut().map(turn)).collect();
-    let over_rounds = |value: fn(&[f64; 3]) -> f64| median(rounds.iter().map(value).collect());
+/// Times the contestants, the library first, on batches of `words` words. They take turns within each
+/// round, and a ratio is one round's, so that a slow moment of the machine hits all of them.
+pub fn times<const C: usize>(words: usize, mut contestants: [Batch; C]) -> Times {
+    let rounds: Vec<[f64; C]> = (0..ROUNDS).map(|_| contestants.each_mut().map(turn)).collect();
+    let ratio = |other: usize| median(rounds.iter().map(|round| round[0] / round[other]).collect());
     Times {
-        ours: over_rounds(|round| round[0]) / words as f64,
-        to_straightforward: over_rounds(|round| round[0] / round[1]),
-        to_tuned: over_rounds(|round| round[0] / round[2]),
+        ours: median(rounds.iter().map(|round| round[0]).collect()) / words as f64,
+        to_others: (1..C).map(ratio).collect(),
     }
 }
 

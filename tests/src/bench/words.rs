@@ -92,8 +92,8 @@ struct Row {
 
 impl Row {
     fn text(&self) -> String {
-        let (Shape { q, n, b, .. }, times) = (self.shape, &self.times);
-        let Times { ours, to_straightforward, to_tuned } = times;
+        let (Shape { q, n, b, .. }, Times { ours, to_others }) = (self.shape, &self.times);
+        let (to_straightforward, to_tuned) = (to_others[0], to_others[1]);
         format!("| ({q}, {n}, {b}) | {} | {ours:.0} | {to_straightforward:.2} | {to_tuned:.2} |", self.work)
     }
 
@@ -102,12 +102,12 @@ impl Row {
     }
 
     fn meets_target(&self) -> bool {
-        self.times.to_straightforward <= 0.5 && self.times.to_tuned <= 1.2
+        self.times.to_others[0] <= 0.5 && self.times.to_others[1] <= 1.2
     }
 }
 
 /// As many words as stay in a processor's own cache.
-fn batch_size(shape: Shape) -> usize {
+pub(super) fn batch_size(shape: Shape) -> usize {
     (32_768 / shape.word_len()).min(1_024)
 }
 

@@ -8,10 +8,11 @@ use crate::reference::session::{Session, LOWEST_AT, PAGES_AT, SESSION_LEN};
 use crate::reference::shape::{Refusal, Shape};
 use crate::reference::writer::codeword;
 
-pub const ENTRIES: [Entry; 11] = [
+pub const ENTRIES: [Entry; 12] = [
     Entry::Encode,
     Entry::Extract,
     Entry::Decode,
+    Entry::Fill,
     Entry::ReadPage,
     Entry::Marks,
     Entry::WritePage,
@@ -40,6 +41,12 @@ pub fn good(entry: Entry, shape: Shape, random: &mut Random) -> Call {
         Entry::Encode => Call::new(entry, shape, &[&data, &scratch, &random.numbers(word.len())]),
         Entry::Extract => Call::new(entry, shape, &[&word, &scratch, &random.numbers(data.len())]),
         Entry::Decode => Call::new(entry, shape, &[&damaged(shape, codeword(shape, &data), random)]),
+        Entry::Fill => {
+            let places = some_places(shape, random);
+            let mut word = codeword(shape, &data);
+            places.iter().for_each(|&place| word[place as usize] = random.symbol(shape));
+            Call::new(entry, shape, &[&places, &word, &scratch])
+        }
         Entry::ReadPage => Call::new(entry, shape, &[&page_data]),
         Entry::Marks => Call::new(entry, shape, &[&page_data, &random.numbers(page_data.len())]),
         Entry::WritePage => Call::numbered(entry, shape, number, &[&page.marks, &random.numbers(data.len())]),
@@ -55,6 +62,14 @@ fn damaged(shape: Shape, mut word: Vec<u32>, random: &mut Random) -> Vec<u32> {
     let weight = random.below(shape.n as usize);
     apply(&unmasked(shape, weight, random), &mut word);
     word
+}
+
+/// As many places as there are directions, or fewer: only one codeword can agree off them.
+fn some_places(shape: Shape, random: &mut Random) -> Vec<u32> {
+    let count = random.below(shape.n as usize + 1);
+    let mut places: Vec<u32> = random.positions(count, shape.word_len()).into_iter().map(|j| j as u32).collect();
+    places.sort_unstable();
+    places
 }
 
 /// Puts another shape in place of the call's own.

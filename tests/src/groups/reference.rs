@@ -2,16 +2,18 @@
 
 use super::idle::CAPTURES;
 use crate::capture::heading;
-use crate::damage::{apply, make, unmasked, STYLES};
+use crate::damage::{apply, make, unmasked, Style, STYLES};
 use crate::random::Random;
 use crate::reference::brute::{all_explained, all_words, explanations, Explanation};
 use crate::reference::elimination::Positions;
+use crate::reference::filler::{agreeing, Agreeing};
 use crate::reference::program::tally;
 use crate::reference::reader::decode;
 use crate::reference::shape::{all_slopes, orders_and_directions, Refusal, Shape};
 use crate::reference::square::{checks_on, is_codeword};
 use crate::reference::writer::{codeword, information};
 use crate::report::{Group, Unit, Verdict};
+use crate::rivals::elimination;
 
 pub fn group() -> Group {
     let mut group = Group::new("reference", Unit::Calls);
@@ -20,6 +22,7 @@ pub fn group() -> Group {
         group.test(format!("checks of ({q}, {n}), other slopes"), move |random| checks(random.sloped(q, n, 1)));
         group.test(format!("positions of ({q}, {n})"), move |random| positions(q, n, random));
         group.test(format!("unmasked errors of ({q}, {n})"), move |random| restores(q, n, random));
+        group.test(format!("codewords that agree, ({q}, {n})"), move |random| codewords_that_agree(q, n, random));
     }
     for shape in [2, 3].into_iter().flat_map(|n| all_slopes(3, n, 1)) {
         let name = format!("all words of (3, {}, 1), slopes {:?}", shape.n, shape.own_slopes());
@@ -88,6 +91,42 @@ fn restores(q: u32, n: u32, random: &mut Random) -> Verdict {
         }
     }
     Ok(tried)
+}
+
+/// With any list of places, what is said to agree does, and elimination by rows says the same.
+fn codewords_that_agree(q: u32, n: u32, random: &mut Random) -> Verdict {
+    let rounds = 30;
+    for _ in 0..rounds {
+        let shape = Shape::new(q, n, random.pick(&[1, 8, 32]));
+        let most = random.pick(&[shape.n as usize + 3, shape.checks(), shape.word_len()]).min(shape.word_len());
+        let count = random.below(most + 1);
+        let mut places = random.positions(count, shape.word_len());
+        places.sort_unstable();
+        let places: Vec<u32> = places.into_iter().map(|j| j as u32).collect();
+        let mut word = codeword(shape, &random.symbols(shape, shape.data_len()));
+        let damage = make(Style::Spread, shape, random.below(3), random);
+        apply(&damage, &mut word);
+        let agrees = |other: &Vec<u32>| {
+            let same = |j: usize| other[j] == word[j] || places.contains(&(j as u32));
+            is_codeword(shape, other) && (0..word.len()).all(same)
+        };
+        let found = agreeing(shape, &places, &word);
+        let (answer, left) = match &found {
+            Agreeing::None => (Refusal::Unfillable.number(), &word),
+            Agreeing::One(only) => (0, only),
+            Agreeing::Several(..) => (Refusal::Ambiguous.number(), &word),
+        };
+        let holds = match &found {
+            Agreeing::None => true,
+            Agreeing::One(only) => agrees(only),
+            Agreeing::Several(one, another) => agrees(one) && agrees(another) && one != another,
+        };
+        require(holds, "what is said to agree does")?;
+        let (mut by_rows, mut scratch) = (word.clone(), vec![0; shape.scratch_len()]);
+        let rest = elimination::fill(shape, &places, &mut by_rows, &mut scratch).checked_sub(1 << 31);
+        require(rest.unwrap_or(0) == answer && by_rows == *left, "elimination by rows says the same")?;
+    }
+    Ok(rounds)
 }
 
 /// What reading must give for a word with these explanations.

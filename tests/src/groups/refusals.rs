@@ -12,8 +12,16 @@ use crate::report::{Group, Unit, Verdict};
 use crate::shrink::expect;
 
 /// Those that test the width of a slice.
-const WIDE: [Entry; 7] =
-    [Entry::Encode, Entry::Extract, Entry::Decode, Entry::ReadPage, Entry::Marks, Entry::WritePage, Entry::Arrive];
+const WIDE: [Entry; 8] = [
+    Entry::Encode,
+    Entry::Extract,
+    Entry::Decode,
+    Entry::Fill,
+    Entry::ReadPage,
+    Entry::Marks,
+    Entry::WritePage,
+    Entry::Arrive,
+];
 
 pub fn group() -> Group {
     let mut group = Group::new("refusals", Unit::Calls);
@@ -85,7 +93,7 @@ fn lengths(q: u32, n: u32, random: &mut Random) -> Verdict {
 /// touched.
 fn scratch_lengths(q: u32, n: u32, random: &mut Random) -> Verdict {
     let mut tried = 0;
-    for entry in [Entry::Encode, Entry::Extract, Entry::Arrive] {
+    for entry in [Entry::Encode, Entry::Extract, Entry::Fill, Entry::Arrive] {
         let shape = random.shape(q, n, 11);
         let right = shape.scratch_len();
         for length in [old_scratch_len(shape), right - 1, right + 1] {
@@ -127,6 +135,11 @@ fn byte_lengths(q: u32, n: u32, random: &mut Random) -> Verdict {
     Ok(tried)
 }
 
+/// Which slice has the symbols that test 3 is about.
+fn judged(entry: Entry) -> usize {
+    usize::from(matches!(entry, Entry::Arrive | Entry::Fill))
+}
+
 /// Values at 2^b - 1, 2^b and 2^32 - 1 at the ends and somewhere inside each slice.
 fn widths(q: u32, n: u32, random: &mut Random) -> Verdict {
     let mut tried = 0;
@@ -134,7 +147,7 @@ fn widths(q: u32, n: u32, random: &mut Random) -> Verdict {
         for entry in WIDE {
             let shape = random.shape(q, n, b);
             let call = good(entry, shape, random);
-            let judged = if entry == Entry::Arrive { 1 } else { 0 };
+            let judged = judged(entry);
             let length = call.slices[judged].len();
             for at in [0, length / 2, length.saturating_sub(1), random.below(length + 1)] {
                 for value in [shape.largest(), shape.largest().saturating_add(1), u32::MAX] {
@@ -217,9 +230,10 @@ fn spoil_figure(call: &mut Call, random: &mut Random) {
     }
 }
 
-/// A number in a slice that the entry judges: page number, count, mark, tail or any symbol.
+/// A number in a slice that the entry judges: page number, count, mark, tail, any symbol or place.
 fn spoil_symbol(call: &mut Call, random: &mut Random) {
-    let judged = if call.entry == Entry::Arrive { 1 } else { 0 };
+    let of_places = call.entry == Entry::Fill && random.one_in(2);
+    let judged = if of_places { 0 } else { judged(call.entry) };
     let limit = if call.entry.is_of_host() { 255 } else { u32::MAX };
     let slice = &mut call.slices[judged];
     if slice.is_empty() || matches!(call.entry, Entry::Fresh | Entry::Count) {

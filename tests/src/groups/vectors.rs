@@ -33,7 +33,7 @@ pub fn group(name: &'static str, make: fn(&Call) -> After) -> Group {
 }
 
 fn vectors() -> Vec<Vector> {
-    [positions(), words(), old_scratch(), pages(), arrivals(), idle(), figures(), shapes(), slopes()]
+    [positions(), words(), old_scratch(), dead_cells(), pages(), arrivals(), idle(), figures(), shapes(), slopes()]
         .into_iter()
         .flatten()
         .collect()
@@ -97,6 +97,48 @@ fn old_scratch() -> Vec<Vector> {
         unchanging("P4 extracted, old scratch", extract, Err(Refusal::Length)),
         unchanging("P4, old scratch", encode, Err(Refusal::Length)),
         vector("taken, old scratch", arrive, Ok(0), &[&session, &P7_WORD, &[7; 6], &[2, 2, 0]]),
+    ]
+}
+
+/// P4 and P7 with places named as gone. In P7's shape 0, 1, 3 and 4 are two rows' and two columns' own:
+/// the same number can be added at all four. Position 8 is on none of their checks.
+fn dead_cells() -> Vec<Vector> {
+    let fill = |shape: Shape, places: &[u32], word: &[u32]| {
+        let scratch = vec![7; shape.scratch_len()];
+        Call::new(Entry::Fill, shape, &[places, word, &scratch])
+    };
+    let filled = |name, shape: Shape, places: &[u32], word: &[u32], changed, left: &[u32]| {
+        vector(name, fill(shape, places, word), Ok(changed), &[places, left, &vec![0; shape.scratch_len()]])
+    };
+    let refused = |name, shape: Shape, places: &[u32], word: &[u32], refusal| {
+        vector(name, fill(shape, places, word), Err(refusal), &[places, word, &vec![0; shape.scratch_len()]])
+    };
+    let three_lost = [0, 2, 255, 0, 1, 2, 6, 3, 5];
+    let damaged = [5, 2, 7, 3, 1, 2, 6, 3, 4];
+    let mut wide = P7_WORD;
+    wide[3] = 256;
+    let old = Call::new(Entry::Fill, B8, &[&[0], &P7_WORD, &[7; 6]]);
+    let short = Call::new(Entry::Fill, B8, &[&[0], &P7_WORD[..8], &[7; 5]]);
+    vec![
+        filled("P4, no place", B3, &[], &P4_WORD, 0, &P4_WORD),
+        refused("P5, no place", B3, &[], &P5_WORD, Refusal::Unfillable),
+        filled("P5, its places", B3, &[3, 4], &P5_WORD, 2, &P4_WORD),
+        filled("P6, its places", B3, &[3, 4], &P6_WORD, 2, &P4_WORD),
+        filled("P6, three places", B3, &[0, 3, 4], &P6_WORD, 2, &P4_WORD),
+        refused("P6, one place", B3, &[3], &P6_WORD, Refusal::Unfillable),
+        filled("P7, right symbols", B8, &[0, 1, 3], &P7_WORD, 0, &P7_WORD),
+        filled("P7, three places", B8, &[0, 2, 3], &three_lost, 3, &P7_WORD),
+        refused("P7, two rows and columns", B8, &[0, 1, 3, 4], &P7_WORD, Refusal::Ambiguous),
+        refused("P7, two rows and columns, damage", B8, &[0, 1, 3, 4], &damaged, Refusal::Unfillable),
+        refused("P7, all places", B8, &[0, 1, 2, 3, 4, 5, 6, 7, 8], &damaged, Refusal::Ambiguous),
+        refused("P7, a place twice", B8, &[3, 3], &P7_WORD, Refusal::Places),
+        refused("P7, falling places", B8, &[3, 2], &P7_WORD, Refusal::Places),
+        refused("P7, place 9", B8, &[3, 9], &P7_WORD, Refusal::Places),
+        refused("P7 damaged, place 9", B8, &[9], &damaged, Refusal::Places),
+        refused("P7, 256 at a place", B8, &[3], &wide, Refusal::Width),
+        refused("P7, 256 and a place twice", B8, &[3, 3], &wide, Refusal::Width),
+        unchanging("P7 with places, old scratch", old, Err(Refusal::Length)),
+        unchanging("P7 with places, 8 symbols", short, Err(Refusal::Length)),
     ]
 }
 

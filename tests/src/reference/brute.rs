@@ -1,22 +1,40 @@
-//! Reading straight over the definition, by trying everything; only for small shapes.
+//! Reading and filling in straight over the definition, by trying everything; only for small shapes.
 
 use super::shape::Shape;
 use super::square::{is_codeword, is_unmasked, weight, xor};
+use super::writer::codeword;
 
 /// A codeword, and how many of its symbols a permitted error changed.
 pub type Explanation = (Vec<u32>, usize);
 
 /// Every list of N symbols below 2^b.
 pub fn all_words(shape: Shape) -> Vec<Vec<u32>> {
-    let mut words = vec![vec![]];
-    for _ in 0..shape.word_len() {
-        let longer = |word: &Vec<u32>| {
-            let word = word.clone();
-            (0..=shape.largest()).map(move |symbol| [word.as_slice(), &[symbol]].concat())
+    all_lists(shape, shape.word_len())
+}
+
+/// Every list of so many symbols below 2^b.
+fn all_lists(shape: Shape, length: usize) -> Vec<Vec<u32>> {
+    let mut lists = vec![vec![]];
+    for _ in 0..length {
+        let longer = |list: &Vec<u32>| {
+            let list = list.clone();
+            (0..=shape.largest()).map(move |symbol| [list.as_slice(), &[symbol]].concat())
         };
-        words = words.iter().flat_map(longer).collect();
+        lists = lists.iter().flat_map(longer).collect();
     }
-    words
+    lists
+}
+
+/// Every codeword, one for each K information symbols.
+pub fn all_codewords(shape: Shape) -> Vec<Vec<u32>> {
+    all_lists(shape, shape.data_len()).iter().map(|data| codeword(shape, data)).collect()
+}
+
+/// Those of the codewords that are the received word at every position that is not listed.
+pub fn agreeing<'a>(codewords: &'a [Vec<u32>], received: &[u32], places: &[u32]) -> Vec<&'a Vec<u32>> {
+    let listed = |j: usize| places.contains(&(j as u32));
+    let agrees = |codeword: &&Vec<u32>| (0..received.len()).all(|j| codeword[j] == received[j] || listed(j));
+    codewords.iter().filter(agrees).collect()
 }
 
 /// All codewords met with all permitted errors: each received word beside its explanation.

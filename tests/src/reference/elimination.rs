@@ -1,4 +1,5 @@
-//! Parity and information positions by elimination over GF(2) on the columns of the check matrix.
+//! Elimination over GF(2) on the columns of the check matrix: parity and information positions, and the
+//! symbols at given positions that make given check values.
 
 use super::shape::Shape;
 use super::square::checks_on;
@@ -28,8 +29,18 @@ impl Bits {
         }
     }
 
-    fn ones(&self) -> Vec<usize> {
-        (0..256).filter(|&i| self.has(i)).collect()
+    fn lowest(&self) -> Option<usize> {
+        let word = self.0.iter().position(|&word| word != 0)?;
+        Some(64 * word + self.0[word].trailing_zeros() as usize)
+    }
+
+    /// Where it has ones, rising.
+    fn ones(mut self) -> impl Iterator<Item = usize> {
+        std::iter::from_fn(move || {
+            let i = self.lowest()?;
+            self.flip(i);
+            Some(i)
+        })
     }
 }
 
@@ -47,8 +58,48 @@ pub struct Positions {
 struct Pivot {
     lead: usize,
     column: Bits,
-    /// Which parity positions' columns (by index) sum to `column`.
+    /// Which of the basis' columns (by index) sum to `column`.
     sum: Bits,
+}
+
+/// Independent columns of the check matrix.
+#[derive(Default)]
+pub struct Basis {
+    /// The positions that they are the columns of, in the order they came.
+    pub positions: Vec<usize>,
+    pivots: Vec<Pivot>,
+}
+
+impl Basis {
+    /// Takes in position j, unless its column is a sum of columns that are here: then gives their positions.
+    pub fn take(&mut self, shape: Shape, j: usize) -> Option<Vec<usize>> {
+        let (column, mut sum) = reduce(column(shape, j), &self.pivots);
+        match column.lowest() {
+            Some(lead) => {
+                sum.flip(self.positions.len());
+                self.positions.push(j);
+                self.pivots.push(Pivot { lead, column, sum });
+                None
+            }
+            None => Some(sum.ones().map(|i| self.positions[i]).collect()),
+        }
+    }
+
+    /// Whether the column of position j is a sum of columns that are here.
+    pub fn spans(&self, shape: Shape, j: usize) -> bool {
+        reduce(column(shape, j), &self.pivots).0.lowest().is_none()
+    }
+
+    /// The symbols at the positions, in their order, that alone make these check values, if any do.
+    pub fn solve(&self, mut values: Vec<u32>) -> Option<Vec<u32>> {
+        let mut symbols = vec![0; self.positions.len()];
+        for pivot in &self.pivots {
+            let value = values[pivot.lead];
+            pivot.column.ones().for_each(|check| values[check] ^= value);
+            pivot.sum.ones().for_each(|i| symbols[i] ^= value);
+        }
+        values.iter().all(|&value| value == 0).then_some(symbols)
+    }
 }
 
 impl Positions {
@@ -70,23 +121,15 @@ impl Positions {
     }
 
     fn eliminate(shape: Shape) -> Positions {
-        let mut positions = Positions { parity: vec![], information: vec![], sums: vec![] };
-        let mut pivots: Vec<Pivot> = vec![];
+        let mut basis = Basis::default();
+        let (mut information, mut sums) = (vec![], vec![]);
         for j in 0..shape.word_len() {
-            let (column, mut sum) = reduce(column(shape, j), &pivots);
-            match column.ones().first() {
-                Some(&lead) => {
-                    sum.flip(positions.parity.len());
-                    positions.parity.push(j);
-                    pivots.push(Pivot { lead, column, sum });
-                }
-                None => {
-                    positions.information.push(j);
-                    positions.sums.push(sum.ones().iter().map(|&i| positions.parity[i]).collect());
-                }
+            if let Some(sum) = basis.take(shape, j) {
+                information.push(j);
+                sums.push(sum);
             }
         }
-        positions
+        Positions { parity: basis.positions, information, sums }
     }
 }
 
@@ -97,7 +140,7 @@ fn column(shape: Shape, j: usize) -> Bits {
     bits
 }
 
-/// The column without the pivots' leads, and which parity columns were added to get there.
+/// The column without the pivots' leads, and which of the basis' columns were added to get there.
 /// Each pivot has zeros at the leads before its own, so one pass in order is enough.
 fn reduce(mut column: Bits, pivots: &[Pivot]) -> (Bits, Bits) {
     let mut sum = Bits::default();

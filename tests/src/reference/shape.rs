@@ -23,6 +23,9 @@ pub enum Refusal {
     Overflow = 9,
     Syntax = 10,
     Figures = 11,
+    Places = 12,
+    Unfillable = 13,
+    Ambiguous = 14,
     Slope = 18,
 }
 

@@ -5,7 +5,7 @@ use super::{judge, judge_writing, refused, MAX_CHECKS, MAX_ERRORS};
 use crate::reference::elimination::Positions;
 use crate::reference::shape::{Refusal, Shape};
 
-fn check(q: usize, t: usize, j: usize) -> usize {
+pub(super) fn check(q: usize, t: usize, j: usize) -> usize {
     let (row, column) = (j / q, j % q);
     t * q + if t == 0 { row } else { (column + (t - 1) * row) % q }
 }

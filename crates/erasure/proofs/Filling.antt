@@ -1,0 +1,180 @@
+-- Filling in leaves one answer and one word; with few places it never leaves a choice; with none it tells whether the word is a codeword.
+use mathlib.Core.Path.{_≡_, refl, sym, ap, _∙_, subst}
+use mathlib.Core.Bool.{true, false, not, _&&_}
+use mathlib.Core.List.{List, []}
+use mathlib.Core.Logic.{_⊎_, inl, inr, ⊎-elim}
+use Prim.Native.Nat.{ℕ, _<_, _≤_}
+use native.Mathlib.Omega.{arith}
+use lib.Dec.{eqb, ltb, lit<}
+use lib.ListN.{length}
+use lib.Seq.{ext-getD}
+use borrow.Author.Tests.{eqb-true, eq-eqb, ltb-true}
+use Rattle.parity.specs.Count.{any}
+use Rattle.parity.proofs.Tests.{either, and-left}
+use Rattle.parity.proofs.Sums.{count-none}
+use Rattle.gtb.specs.declared.Shape.{Shape}
+use Rattle.gtb.specs.declared.Refusal.{Refusal}
+use Rattle.gtb.specs.declared.Status.{Status}
+use Rattle.gtb.specs.declared.Status.the-variants as status
+use Rattle.gtb.specs.Shape.{lawful, Lawful, wordLength, scratchLength}
+use Rattle.gtb.specs.Square.{at, narrow, Codeword}
+use Rattle.gtb.proofs.Answers.{same-refusal, never-refused, unless-never, unless-done, other-refusal, Foreign, late-foreign}
+use Rattle.distance.specs.Distance.{differences, apart}
+use Rattle.distance.proofs.Distance.{few-sure}
+use Rattle.correction.specs.declared.Decoded.{Decoded}
+use Rattle.correction.specs.declared.Decoded.the-variants.{Corrected, Refused}
+use Rattle.erasure.specs.Fill.{isListed, rising, fillStatus, Agrees, FilledIn, NoWord, SeveralWords, Filling}
+use Rattle.erasure.specs.Steps.{Places, Decision}
+use Rattle.erasure.proofs.Lists.{rising-places, listed-count}
+
+-- ---- one answer and one word
+status-cases : (t : Status) → ((e : Refusal) × (t ≡ status.Refused e)) ⊎ (t ≡ status.Done)
+status-cases status.Done = inr refl
+status-cases (status.Refused e) = inl (e, refl)
+
+module _ {s : Shape} {word places w₁ w₂ : List ℕ} {r₁ r₂ : Decoded} where
+  one-one : FilledIn s word places w₁ r₁ → FilledIn s word places w₂ r₂ → (r₁ ≡ r₂) × (w₁ ≡ w₂)
+  one-one a b =
+      let e : w₁ ≡ w₂ = b .only w₁ (a .agrees) in
+      (a .answer ∙ ap (λ (v : List ℕ). Corrected (differences s v word)) e ∙ sym (b .answer), e)
+
+  one-none : FilledIn s word places w₁ r₁ → NoWord s word places w₂ r₂ → ⊥
+  one-none a b = b .none w₁ (a .agrees)
+
+  one-several : FilledIn s word places w₁ r₁ → SeveralWords s word places w₂ r₂ → ⊥
+  one-several a b = b .different (a .only (b .one) (b .agrees) ∙ sym (a .only (b .another) (b .agreesToo)))
+
+  none-several : NoWord s word places w₁ r₁ → SeveralWords s word places w₂ r₂ → ⊥
+  none-several a b = a .none (b .one) (b .agrees)
+
+decision-unique : {s : Shape} {word places w₁ w₂ : List ℕ} {r₁ r₂ : Decoded} → Decision s word places w₁ r₁ → Decision s word places w₂ r₂
+    → (r₁ ≡ r₂) × (w₁ ≡ w₂)
+decision-unique (inl a) (inl b) = one-one a b
+decision-unique (inl a) (inr (inl b)) = absurd (one-none a b)
+decision-unique (inl a) (inr (inr b)) = absurd (one-several a b)
+decision-unique (inr (inl a)) (inl b) = absurd (one-none b a)
+decision-unique (inr (inl a)) (inr (inl b)) = (a .answer ∙ sym (b .answer), a .left ∙ sym (b .left))
+decision-unique (inr (inl a)) (inr (inr b)) = absurd (none-several a b)
+decision-unique (inr (inr a)) (inl b) = absurd (one-several b a)
+decision-unique (inr (inr a)) (inr (inl b)) = absurd (none-several b a)
+decision-unique (inr (inr a)) (inr (inr b)) = (a .answer ∙ sym (b .answer), a .left ∙ sym (b .left))
+
+pub filling-unique : {s : Shape} {word places scratch w₁ w₂ x₁ x₂ : List ℕ} {r₁ r₂ : Decoded} → Filling s word places scratch w₁ x₁ r₁
+    → Filling s word places scratch w₂ x₂ r₂ → (r₁ ≡ r₂) × (w₁ ≡ w₂) × (x₁ ≡ x₂)
+filling-unique {s} {word} {places} {scratch} f g =
+    ⊎-elim
+    (λ (h : (e : Refusal) × (fillStatus s word places scratch ≡ status.Refused e)).
+    let (rf, wf, xf) = f .tested (h .0) (h .1) in
+    let (rg, wg, xg) = g .tested (h .0) (h .1) in
+    (rf ∙ sym rg, wf ∙ sym wg, xf ∙ sym xg))
+    (λ (h : fillStatus s word places scratch ≡ status.Done).
+    let (df, xf) = f .decided h in
+    let (dg, xg) = g .decided h in
+    let (r, w) = decision-unique df dg in
+    (r, w, xf ∙ sym xg))
+    (status-cases (fillStatus s word places scratch))
+
+-- ---- few places leave no choice
+-- no test answers 14
+foreign : (s : Shape) → Foreign s Refusal.Ambiguous
+foreign s = late-foreign s Refusal.Ambiguous (lit< tt) (λ h. omega arith)
+
+tests-never : (s : Shape) (word places scratch : List ℕ) → fillStatus s word places scratch ≡ status.Refused Refusal.Ambiguous → ⊥
+unfolding fillStatus
+tests-never s word places scratch =
+    unless-never (lawful s) _ _ (λ no e. foreign s .shape no (same-refusal _ _ e))
+    (unless-never (eqb (length word) (wordLength s) && eqb (length scratch) (scratchLength s)) _ _ (λ no e. foreign s .length (same-refusal _ _ e))
+    (unless-never (narrow (s .b) word) _ _ (λ no e. foreign s .width (same-refusal _ _ e))
+    (unless-never (rising (wordLength s) places) _ _ (λ no e. other-refusal Refusal.Places Refusal.Ambiguous refl (same-refusal _ _ e))
+    (never-refused Refusal.Ambiguous))))
+
+-- what the tests let pass
+record Passed (s : Shape) (word places : List ℕ) : Type 0 where
+  pub size : length word ≡ wordLength s
+  pub rises : rising (wordLength s) places ≡ true
+
+passed : (s : Shape) (word places scratch : List ℕ) → fillStatus s word places scratch ≡ status.Done → Passed s word places
+unfolding fillStatus
+passed s word places scratch h =
+    let (law, h₁) = unless-done (lawful s) _ _ h in
+    let (fits, h₂) = unless-done (eqb (length word) (wordLength s) && eqb (length scratch) (scratchLength s)) _ _ h₁ in
+    let (wide, h₃) = unless-done (narrow (s .b) word) _ _ h₂ in
+    let (up, h₄) = unless-done (rising (wordLength s) places) _ _ h₃ in
+    record { size = eqb-true _ _ (and-left _ _ fits); rises = up }
+
+never-both : (k : ℕ) (e : Refusal) (r : Decoded) → r ≡ Corrected k → r ≡ Refused e → ⊥
+never-both k e r a b = let z : _≡_ {A = ℕ} 0 1 = cc in omega arith
+
+refused-same : (e e′ : Refusal) (r : Decoded) → r ≡ Refused e → r ≡ Refused e′ → e ≡ e′
+refused-same e e′ r a b = cc
+
+no-choice : {s : Shape} {word places word′ : List ℕ} {r : Decoded} → Lawful s → length places < apart (s .n) → Places (wordLength s) places
+    → Decision s word places word′ r → r ≡ Refused Refusal.Ambiguous → ⊥
+no-choice {r = r} law few h (inl a) e = never-both _ _ r (a .answer) e
+no-choice {r = r} law few h (inr (inl a)) e = other-refusal Refusal.Unfillable Refusal.Ambiguous refl (refused-same _ _ r (a .answer) e)
+no-choice {s} {places = places} law few h (inr (inr a)) e =
+    a .different
+    (few-sure s law (isListed places) (omega (arith, listed-count h)) .one (a .one) (a .another) (a .agrees .codeword) (a .agreesToo .codeword)
+    (λ j l n. a .agrees .same j l n ∙ sym (a .agreesToo .same j l n)))
+
+pub sure-fill : {s : Shape} {word places scratch word′ scratch′ : List ℕ} {r : Decoded} → Lawful s → length places < apart (s .n)
+    → Filling s word places scratch word′ scratch′ r → r ≡ Refused Refusal.Ambiguous → ⊥
+sure-fill {s} {word} {places} {scratch} {r = r} law few f e =
+    ⊎-elim
+    (λ (h : (e : Refusal) × (fillStatus s word places scratch ≡ status.Refused e)).
+    tests-never s word places scratch (h .1 ∙ ap status.Refused (refused-same _ _ r (f .tested (h .0) (h .1) .0) e)))
+    (λ (h : fillStatus s word places scratch ≡ status.Done).
+    no-choice law few (rising-places (passed s word places scratch h .rises)) (f .decided h .0) e)
+    (status-cases (fillStatus s word places scratch))
+
+-- n places are few
+apart-above : (n : ℕ) → n < apart n
+unfolding apart
+apart-above n =
+    ⊎-elim (λ (t : ltb n 3 ≡ true). rw t (omega (arith, ltb-true n 3 t)))
+    (λ (f : ltb n 3 ≡ false).
+    rw f (⊎-elim (λ (t : ltb n 6 ≡ true). rw t (omega (arith, ltb-true n 6 t))) (λ (g : ltb n 6 ≡ false). rw g (omega arith)) (either (ltb n 6))))
+    (either (ltb n 3))
+
+pub never-several : {s : Shape} {word places scratch word′ scratch′ : List ℕ} {r : Decoded} → Lawful s → length places ≤ s .n
+    → Filling s word places scratch word′ scratch′ r → r ≡ Refused Refusal.Ambiguous → ⊥
+never-several {s} law few = sure-fill law (omega (arith, apart-above (s .n)))
+
+-- ---- no places
+-- what agrees with the word is the word
+agrees-word : (s : Shape) (word v : List ℕ) → length word ≡ wordLength s → Agrees s word [] v → v ≡ word
+unfolding isListed any
+agrees-word s word v size a = ext-getD 0 v word (a .codeword .word .size ∙ sym size) (λ j l. a .same j (rw (a .codeword .word .size) at l) refl)
+
+word-agrees : {s : Shape} {word : List ℕ} → Codeword s word → Agrees s word [] word
+word-agrees c = record { codeword = c; same = λ j l n. refl }
+
+differences-none : (s : Shape) (w : List ℕ) → differences s w w ≡ 0
+unfolding differences
+differences-none s w = count-none (wordLength s) (λ j. not (eqb (at w j) (at w j))) (λ j l. ap not (eq-eqb (at w j) (at w j) refl))
+
+-- a codeword is left and nothing changed; of any other word none agrees
+pub record Emptied (s : Shape) (word word′ : List ℕ) (r : Decoded) : Type 0 where
+  pub left : word′ ≡ word
+  pub codeword : Codeword s word → r ≡ Corrected 0
+  pub other : (Codeword s word → ⊥) → r ≡ Refused Refusal.Unfillable
+
+empty-decision : {s : Shape} {word word′ : List ℕ} {r : Decoded} → length word ≡ wordLength s → Decision s word [] word′ r → Emptied s word word′ r
+empty-decision {s} {word} {word′} size (inl a) =
+    let e : word′ ≡ word = agrees-word s word word′ size (a .agrees) in
+    record {
+      left = e;
+      codeword = λ c. a .answer ∙ ap Corrected (ap (λ (v : List ℕ). differences s v word) e ∙ differences-none s word);
+      other = λ no. absurd (no (subst (Codeword s) e (a .agrees .codeword)));
+    }
+empty-decision {word = word} size (inr (inl a)) = record {
+  left = a .left;
+  codeword = λ c. absurd (a .none word (word-agrees c));
+  other = λ no. a .answer;
+}
+empty-decision {s} {word} size (inr (inr a)) =
+    absurd (a .different (agrees-word s word (a .one) size (a .agrees) ∙ sym (agrees-word s word (a .another) size (a .agreesToo))))
+
+pub empty-fill : {s : Shape} {word scratch word′ scratch′ : List ℕ} {r : Decoded} → fillStatus s word [] scratch ≡ status.Done
+    → Filling s word [] scratch word′ scratch′ r → Emptied s word word′ r
+empty-fill {s} {word} {scratch} tests f = empty-decision (passed s word [] scratch tests .size) (f .decided tests .0)

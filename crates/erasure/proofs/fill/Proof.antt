@@ -1,0 +1,76 @@
+-- `erasure::fill` meets its contract. Each way out is one of Answers.antt.
+use mathlib.Core.Path.{_≡_, sym, _∙_}
+use lib.ListN.{length}
+use borrow.Author.Tests.{not-true, not-false}
+use Rattle.gtb.specs.Shape.{Lawful}
+use Rattle.erasure.proofs.Answers.{refuses-shape, refuses-word, refuses-scratch, fills}
+use borrow.Author.Needs.{needs}
+use Rattle.erasure.proofs.fill.Statement.{statement}
+use Rattle.erasure.proofs.fill.Tie as tie
+
+is-lawful-requires : tie.Need-is-lawful-requires
+is-lawful-requires c κs = search needs
+
+shape-refusal-requires : tie.Need-shape-refusal-requires
+shape-refusal-requires c κs = search needs
+
+returns : tie.Need-returns
+returns c = refuses-shape (sym (c .before .before .is-lawful .ensures) ∙ not-true _ (c .before .if1 .taken)) (c .shape-refusal .ensures)
+
+-- the shape has passed
+shape-passes : (c : tie.Else1) → Lawful (c .before .before .before .before .before .args .shape)
+shape-passes c = sym (c .before .is-lawful .ensures) ∙ not-false _ (c .if1 .left)
+
+word-length-requires : tie.Need-word-length-requires
+word-length-requires c κs = shape-passes c
+
+returns-2 : tie.Need-returns-2
+returns-2 c = refuses-word _ (shape-passes (c .before .before)) _ _ _ (λ e. c .if2 .taken (e ∙ sym (c .before .word-length .ensures)))
+
+scratch-length-requires : tie.Need-scratch-length-requires
+scratch-length-requires c κs = shape-passes (c .before .before)
+
+returns-3 : tie.Need-returns-3
+returns-3 c = refuses-scratch _ (shape-passes (c .before .before .before .before)) _ _ _ (λ e. c .if3 .taken (e ∙ sym (c .before .scratch-length .ensures)))
+
+judge-requires : tie.Need-judge-requires
+judge-requires c κs =
+    let e = c .before .before in
+    let w = e .before .before in
+    (shape-passes (w .before .before), w .if2 .left ∙ w .before .word-length .ensures, e .if3 .left ∙ e .before .scratch-length .ensures)
+
+clear-requires : tie.Need-clear-requires
+clear-requires c κs = search needs
+
+same-length : tie.Need-same-length
+same-length c = search needs
+
+same-length-2 : tie.Need-same-length-2
+same-length-2 c = search needs
+
+returns-4 : tie.Need-returns-4
+returns-4 c =
+    let d = c .before .before in
+    let j = d .before .before .before .before .before .before in
+    let e = j .before .before .before in
+    let w = e .before .before in
+    let size : length (j .judge .last .1 .1 .1 .0) ≡ length (w .before .before .before .before .before .before .before .args .scratch .now) = search needs in
+    fills _ (shape-passes (w .before .before)) _ _ _ (w .if2 .left ∙ w .before .word-length .ensures) (e .if3 .left ∙ e .before .scratch-length .ensures)
+    (j .judge .ensures) (rw size at (d .clear .ensures))
+
+pub fill-spec : {M : Type 1} → statement M
+fill-spec =
+    tie.close
+    (tie.spec
+    is-lawful-requires
+    shape-refusal-requires
+    returns
+    word-length-requires
+    returns-2
+    scratch-length-requires
+    returns-3
+    judge-requires
+    clear-requires
+    same-length
+    same-length-2
+    returns-4)

@@ -1,0 +1,71 @@
+-- `erasure::solve` meets its contract.
+use native.Mathlib.Omega.{arith}
+use lib.ListN.{length}
+use Rattle.erasure.proofs.Lists.{places-few}
+use Rattle.erasure.proofs.Systems.{table-cleared, table-room, system-posed}
+use Rattle.erasure.proofs.Solutions.{posed-solution}
+use borrow.Author.Needs.{needs}
+use Rattle.erasure.proofs.solve.Statement.{statement}
+use Rattle.erasure.proofs.solve.Tie as tie
+
+kept-checks-requires : tie.Need-kept-checks-requires
+kept-checks-requires c κs = search needs
+
+add-width : tie.Need-add-width
+add-width c = search needs
+
+clear-requires : tie.Need-clear-requires
+clear-requires c κs = search needs
+
+mark-places-requires : tie.Need-mark-places-requires
+mark-places-requires c κs =
+    let cleared = c .before .before .before in
+    let s = cleared .before .before .before .before .before .before in
+    (s .pre .0, table-cleared (s .args .shape) (s .args .scratch .now) (length (s .args .places .now)) (s .pre .0) (places-few (s .pre .2)) (s .pre .3) (cleared .clear .ensures), s .pre .2 .below)
+
+syndromes-requires : tie.Need-syndromes-requires
+syndromes-requires c κs = search needs
+
+ask-requires : tie.Need-ask-requires
+ask-requires c κs = search needs
+
+eliminate-requires : tie.Need-eliminate-requires
+eliminate-requires c κs =
+    let asked = c .before .before in
+    let marked = asked .before .before .before .before .before .before in
+    let cleared = marked .before .before .before .before in
+    let counted = cleared .before .before in
+    let s = counted .before .before .before .before in
+    rw (counted .kept-checks .ensures)
+    (table-room (s .pre .0) (table-cleared (s .args .shape) (s .args .scratch .now) (length (s .args .places .now)) (s .pre .0) (places-few (s .pre .2)) (s .pre .3) (cleared .clear .ensures))
+    (omega arith) (marked .mark-places .ensures .size) (asked .ask .ensures .size))
+
+same-length : tie.Need-same-length
+same-length c = search needs
+
+returns : tie.Need-returns
+returns c =
+    let solved = c .before .before in
+    let asked = solved .before .before .before in
+    let summed = asked .before .before .before in
+    let marked = summed .before .before .before in
+    let cleared = marked .before .before .before .before in
+    let counted = cleared .before .before in
+    let s = counted .before .before .before .before in
+    posed-solution (s .args .shape) (s .pre .0) (s .args .word .now) (s .args .places .now) _ _ _ (s .pre .1) (s .pre .2)
+    (system-posed (length (s .args .scratch .now)) (s .pre .0) (omega arith) (cleared .clear .ensures) (marked .mark-places .ensures) (summed .syndromes .ensures) (asked .ask .ensures))
+    (rw (counted .kept-checks .ensures) at (solved .eliminate .ensures))
+
+pub solve-spec : {M : Type 1} → statement M
+solve-spec =
+    tie.close
+    (tie.spec
+    kept-checks-requires
+    add-width
+    clear-requires
+    mark-places-requires
+    syndromes-requires
+    ask-requires
+    eliminate-requires
+    same-length
+    returns)

@@ -1,0 +1,87 @@
+-- `erasure::system::ask` meets its contract, which with i for the number of kept checks is the loop's invariant.
+use mathlib.Core.Path.{_≡_}
+use Prim.Native.Nat.{_-_, _<_, _≤_}
+use native.Mathlib.Nat.{le-antisymm}
+use native.Mathlib.Omega.{arith}
+use Rattle.gtb.specs.Shape.{keptChecks}
+use Rattle.gtb.proofs.Sizes.{sizes}
+use Rattle.erasure.specs.Steps.{Asked}
+use Rattle.erasure.proofs.Systems.{asked-none, asked-more}
+use Rattle.erasure.proofs.Numbers.{kept-fits}
+use borrow.Author.Needs.{needs}
+use Rattle.erasure.proofs.system.ask.Statement.{statement}
+use Rattle.erasure.proofs.system.ask.Tie as tie
+
+abbrev Inv-loop : tie.InvT-loop
+Inv-loop shape syn values₀ rows i₀ values i = (i ≤ rows) × (rows ≡ keptChecks shape) × Asked shape syn i values
+
+abbrev μ-loop : tie.MeasureT-loop
+μ-loop shape syn values₀ rows i₀ values i = rows - i
+
+kept-checks-requires : tie.Need-kept-checks-requires Inv-loop μ-loop
+kept-checks-requires c κs = search needs
+
+loop-holds : tie.Need-loop-holds Inv-loop μ-loop
+loop-holds c = (search needs, c .kept-checks .ensures, asked-none _ _ _ (c .before .pre .1))
+
+-- the check is a kept one, and both places are in the tables
+below : (c : tie.In-loop Inv-loop μ-loop) → c .before .loop .i < keptChecks (c .before .before .before .args .shape)
+below c = omega (arith, c .before .loop .inv .1)
+
+inside : (c : tie.In-loop Inv-loop μ-loop) → c .before .loop .i < 248
+inside c = omega (arith, below c, sizes (c .before .before .before .args .shape) (c .before .before .before .pre .0) .kept)
+
+check : (c : tie.After-kept-check Inv-loop μ-loop) → c .kept-check .result < 248
+check c =
+    let s = c .before .before .before .before in
+    rw (c .kept-check .ensures) (kept-fits (s .args .shape) (s .pre .0) (c .before .before .loop .i) (below (c .before)))
+
+kept-check-requires : tie.Need-kept-check-requires Inv-loop μ-loop
+kept-check-requires c κs = (c .before .before .before .pre .0, below c)
+
+mul-values : tie.Need-mul-values Inv-loop μ-loop
+mul-values c = omega (arith, check c)
+
+element-copy-out-values : tie.Need-element-copy-out-values Inv-loop μ-loop
+element-copy-out-values c = check c
+
+mul-values-2 : tie.Need-mul-values-2 Inv-loop μ-loop
+mul-values-2 c = omega (arith, inside (c .before .before))
+
+element-write-values : tie.Need-element-write-values Inv-loop μ-loop
+element-write-values c = inside (c .before .before)
+
+add-i : tie.Need-add-i Inv-loop μ-loop
+add-i c = search needs
+
+loop-less : tie.Need-loop-less Inv-loop μ-loop
+loop-less c = search needs
+
+loop-again : tie.Need-loop-again Inv-loop μ-loop
+loop-again c =
+    let k = c .before in
+    let l = k .before .before .loop in
+    (search needs, l .inv .1, asked-more (k .kept-check .result) (inside (k .before)) (k .kept-check .ensures) (l .inv .2))
+
+returns : tie.Need-returns Inv-loop μ-loop
+returns c =
+    let l = c .before .loop in
+    rw (l .inv .1) at (rw (le-antisymm (l .inv .0) (c .loop-test .left)) at (l .inv .2))
+
+pub ask-spec : {M : Type 1} → statement M
+ask-spec =
+    tie.close
+    (tie.spec
+    Inv-loop
+    μ-loop
+    kept-checks-requires
+    loop-holds
+    kept-check-requires
+    mul-values
+    element-copy-out-values
+    mul-values-2
+    element-write-values
+    add-i
+    loop-less
+    loop-again
+    returns)

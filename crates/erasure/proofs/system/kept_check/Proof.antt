@@ -1,0 +1,72 @@
+-- `erasure::system::kept_check` meets its contract.
+use mathlib.Core.Path.{_≡_}
+use Prim.Native.Nat.{ℕ, _+_, _-_, _*_, _/_, _%_, _<_, _≤_}
+use native.Mathlib.Omega.{arith}
+use Rattle.gtb.specs.Kept.{keptDirection, keptLine}
+use Rattle.gtb.proofs.Bounds.{bounds}
+use Rattle.erasure.proofs.Numbers.{check-first, check-later, kept-fits}
+use borrow.Author.Needs.{needs}
+use Rattle.erasure.proofs.system.kept_check.Statement.{statement}
+use Rattle.erasure.proofs.system.kept_check.Tie as tie
+
+cast-q : tie.Need-cast-q
+cast-q c = search needs
+
+returns : tie.Need-returns
+returns c = let s = c .before .before in check-first (s .args .shape) (s .pre .0) (s .args .i) (c .if1 .taken)
+
+-- the number is what the contract says, and small
+module _ (c : tie.Else1) where
+  abbrev i : ℕ
+  i = c .before .before .args .i
+
+  abbrev q : ℕ
+  q = c .before .before .args .shape .q
+
+  order : 3 ≤ q
+  order = bounds (c .before .before .args .shape) (c .before .before .pre .0) .q3
+
+  number : (i - 1) / (q - 1) * q + (i - 1) % (q - 1) ≡ keptDirection (c .before .before .args .shape) i * q + keptLine (c .before .before .args .shape) i
+  number = check-later (c .before .before .args .shape) (c .before .before .pre .0) i (c .if1 .left)
+
+  small : (i - 1) / (q - 1) * q + (i - 1) % (q - 1) < 248
+  small = omega (arith, number, kept-fits (c .before .before .args .shape) (c .before .before .pre .0) i (c .before .before .pre .1))
+
+sub-others : tie.Need-sub-others
+sub-others c = omega (arith, order c)
+
+sub-t : tie.Need-sub-t
+sub-t c = omega (arith, order c)
+
+div-t : tie.Need-div-t
+div-t c = omega (arith, order c)
+
+mul-result : tie.Need-mul-result
+mul-result c = omega (arith, small c)
+
+sub-result : tie.Need-sub-result
+sub-result c = omega (arith, order c)
+
+rem-result : tie.Need-rem-result
+rem-result c = omega (arith, order c)
+
+add-result : tie.Need-add-result
+add-result c = omega (arith, small c)
+
+returns-2 : tie.Need-returns-2
+returns-2 c = number c
+
+pub kept-check-spec : {M : Type 1} → statement M
+kept-check-spec =
+    tie.close
+    (tie.spec
+    cast-q
+    returns
+    sub-others
+    sub-t
+    div-t
+    mul-result
+    sub-result
+    rem-result
+    add-result
+    returns-2)

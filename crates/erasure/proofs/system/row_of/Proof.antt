@@ -1,0 +1,73 @@
+-- `erasure::system::row_of` meets its contract.
+use Prim.Native.Nat.{_+_, _*_, _<_, _≤_}
+use native.Mathlib.Omega.{arith}
+use Rattle.correction.proofs.CheckNumbers.{check-fits}
+use Rattle.erasure.proofs.Numbers.{check-above, turn-small, numbered-first, numbered-later, numbered-none}
+use borrow.Author.Needs.{needs}
+use Rattle.erasure.proofs.system.row_of.Statement.{statement}
+use Rattle.erasure.proofs.system.row_of.Tie as tie
+
+cast-q : tie.Need-cast-q
+cast-q c = search needs
+
+check-number-requires : tie.Need-check-number-requires
+check-number-requires c κs = search needs
+
+returns : tie.Need-returns
+returns c =
+    let s = c .before .before .before in
+    rw (c .before .check-number .ensures) (numbered-first (s .args .shape) (s .pre .0) (s .args .t) (s .args .j) (s .pre .1) (s .pre .2) (c .if1 .taken))
+
+-- the check is in the table, and the direction's number no more
+module _ (c : tie.Else1) where
+  inside : c .before .check-number .result < 248
+  inside = let s = c .before .before .before in
+      rw (c .before .check-number .ensures) (check-fits (s .args .shape) (s .pre .0) (s .args .t) (s .args .j) (s .pre .1) (s .pre .2))
+
+  above : c .before .before .before .args .t ≤ c .before .check-number .result
+  above = let s = c .before .before .before in rw (c .before .check-number .ensures) (check-above (s .args .shape) (s .pre .0) (s .args .t) (s .args .j))
+
+  turned : (c .before .before .before .args .t + 1) * c .before .before .before .args .shape .q ≤ 248
+  turned = let s = c .before .before .before in turn-small (s .args .shape) (s .pre .0) (s .args .t) (s .pre .1)
+
+add-if2 : tie.Need-add-if2
+add-if2 c = omega (arith, inside c)
+
+add-if2-2 : tie.Need-add-if2-2
+add-if2-2 c = search needs
+
+mul-if2 : tie.Need-mul-if2
+mul-if2 c = omega (arith, turned c)
+
+returns-2 : tie.Need-returns-2
+returns-2 c =
+    let n = c .before .before in
+    let s = n .before .before in
+    numbered-none (s .args .shape) (s .pre .0) (s .args .t) (s .args .j) (s .pre .1) (s .pre .2) (c .before .if1 .left) (rw (n .check-number .ensures) at (c .if2 .taken))
+
+add-result : tie.Need-add-result
+add-result c = omega (arith, inside (c .before))
+
+sub-result : tie.Need-sub-result
+sub-result c = omega (arith, above (c .before))
+
+returns-3 : tie.Need-returns-3
+returns-3 c =
+    let n = c .before .before in
+    let s = n .before .before in
+    rw (n .check-number .ensures) (numbered-later (s .args .shape) (s .pre .0) (s .args .t) (s .args .j) (s .pre .1) (s .pre .2) (c .before .if1 .left) (rw (n .check-number .ensures) at (c .if2 .left)))
+
+pub row-of-spec : {M : Type 1} → statement M
+row-of-spec =
+    tie.close
+    (tie.spec
+    cast-q
+    check-number-requires
+    returns
+    add-if2
+    add-if2-2
+    mul-if2
+    returns-2
+    add-result
+    sub-result
+    returns-3)

@@ -1,0 +1,91 @@
+-- What the private steps of filling in establish.
+use mathlib.Core.Path.{_≡_}
+use mathlib.Core.Bool.{Bool, true, false, not, xor, _&&_}
+use mathlib.Core.List.{List}
+use mathlib.Core.Logic.{_⊎_}
+use Prim.Native.Nat.{ℕ, _+_, _*_, _<_, _≤_}
+use lib.Dec.{eqb, ltb}
+use lib.ListN.{length}
+use Rattle.parity.specs.Count.{count, all}
+use Rattle.elimination.specs.declared.Outcome.{Outcome}
+use Rattle.elimination.specs.declared.Outcome.the-variants as outcome
+use Rattle.elimination.specs.Packed.{cellOf}
+use Rattle.gtb.specs.declared.Shape.{Shape}
+use Rattle.gtb.specs.declared.Refusal.{Refusal}
+use Rattle.gtb.specs.Shape.{wordLength, keptChecks}
+use Rattle.gtb.specs.Square.{lineOf, at, narrow, syndrome}
+use Rattle.gtb.specs.Kept.{keptDirection, keptLine}
+use Rattle.correction.specs.declared.Decoded.{Decoded}
+use Rattle.correction.specs.declared.Decoded.the-variants.{Corrected, Refused}
+use Rattle.correction.specs.Steps.{Toggled}
+use Rattle.erasure.specs.Fill.{rising, FilledIn, NoWord, SeveralWords}
+
+-- place i of the list is above place k
+abbrev pub rises : List ℕ → ℕ → ℕ → Bool
+rises places i k = ltb (at places k) (at places i)
+
+-- place i is below `size` and above all before it
+abbrev pub fits : ℕ → List ℕ → ℕ → Bool
+fits size places i = ltb (at places i) size && all i (rises places i)
+
+-- past test 12: places below `size`, each above all before it
+pub record Places (size : ℕ) (places : List ℕ) : Type 0 where
+  pub below : (k : ℕ) → k < length places → at places k < size
+  pub up : (i k : ℕ) → i < length places → k < i → at places k < at places i
+
+-- the least number above the first i places
+pub record Above (places : List ℕ) (i next : ℕ) : Type 0 where
+  pub above : (k : ℕ) → k < i → at places k < next
+  pub least : (x : ℕ) → ((k : ℕ) → k < i → at places k < x) → next ≤ x
+
+-- position j is on kept check i
+unfoldable pub onKept : Shape → ℕ → ℕ → Bool
+onKept s i j = eqb (lineOf s (keptDirection s i) j) (keptLine s i)
+
+-- r is the number of the check of direction t on position j, and that of no kept check if it is not kept
+pub record Numbered (s : Shape) (t j r : ℕ) : Type 0 where
+  pub number : (i : ℕ) → i < keptChecks s → eqb i r ≡ (eqb (keptDirection s i) t && onKept s i j)
+
+-- a row of S values for each kept check lies in the scratch, and a place has its column there
+pub record Table (s : Shape) (S p : ℕ) (scratch : List ℕ) : Type 0 where
+  pub width : S ≤ 31
+  pub columns : p ≤ 32 * S
+  pub space : keptChecks s * S ≤ length scratch
+
+-- of the first r rows the cells with e are toggled
+pub record Flipped (S r : ℕ) (e : ℕ → ℕ → Bool) (old new : List ℕ) : Type 0 where
+  pub size : length new ≡ length old
+  pub cell : (i c : ℕ) → i < r → c < 32 * S → cellOf S new i c ≡ xor (cellOf S old i c) (e i c)
+
+-- the first m values are those of the first m kept checks, in the table `syn`
+pub record Asked (s : Shape) (syn : List ℕ) (m : ℕ) (values : List ℕ) : Type 0 where
+  pub size : length values ≡ 248
+  pub value : (i : ℕ) → i < m → at values i ≡ at syn (keptDirection s i * s .q + keptLine s i)
+
+-- the changes that make every kept check zero are the solutions of these rows: row i has the places on kept check i, and asks for its value
+pub record Posed (s : Shape) (word places : List ℕ) (S : ℕ) (scratch values : List ℕ) : Type 0 where
+  pub cell : (i k : ℕ) → i < keptChecks s → k < length places → cellOf S scratch i k ≡ onKept s i (at places k)
+  pub value : (i : ℕ) → i < keptChecks s → at values i ≡ syndrome s (at word) (keptDirection s i) (keptLine s i)
+
+-- the first k changes are XORed onto the word, each at its place, and r of them are not 0
+pub record Applied (places changes : List ℕ) (k : ℕ) (old new : List ℕ) (r : ℕ) : Type 0 where
+  pub word : Toggled k (at places) (at changes) old new
+  pub changed : r ≡ count k (λ x. not (eqb (at changes x) 0))
+
+-- what an elimination's answer says of the word that came
+pub record Solution (s : Shape) (word places : List ℕ) (answer : Outcome) (changes : List ℕ) : Type 0 where
+  pub few : answer ≡ outcome.Solved → length places ≤ 248
+  pub one : answer ≡ outcome.Solved → (word′ : List ℕ) (r : ℕ) → Applied places changes (length places) word word′ r
+      → FilledIn s word places word′ (Corrected r)
+  pub none : answer ≡ outcome.Unsolvable → NoWord s word places word (Refused Refusal.Unfillable)
+  pub several : answer ≡ outcome.Ambiguous → SeveralWords s word places word (Refused Refusal.Ambiguous)
+
+-- the answer and the word past the tests
+abbrev pub Decision : Shape → List ℕ → List ℕ → List ℕ → Decoded → Type 0
+Decision s word places word′ r = FilledIn s word places word′ r ⊎ (NoWord s word places word′ r ⊎ SeveralWords s word places word′ r)
+
+-- tests 3 and 12, then the work
+pub record Judged (s : Shape) (word places word′ : List ℕ) (r : Decoded) : Type 0 where
+  pub wide : narrow (s .b) word ≡ false → (r ≡ Refused Refusal.Width) × (word′ ≡ word)
+  pub unordered : narrow (s .b) word ≡ true → rising (wordLength s) places ≡ false → (r ≡ Refused Refusal.Places) × (word′ ≡ word)
+  pub decided : narrow (s .b) word ≡ true → rising (wordLength s) places ≡ true → Decision s word places word′ r

@@ -1,0 +1,119 @@
+//! Dead cells, against elimination as one would write it down first.
+
+use super::contest::{timed, times, Batch, Times};
+use super::words::batch_size;
+use crate::ffi;
+use crate::random::Random;
+use crate::reference::shape::Shape;
+use crate::reference::writer::codeword;
+use crate::rivals::elimination;
+use std::hint::black_box;
+
+/// Which places are named.
+#[derive(Clone, Copy)]
+enum Named {
+    /// n of them, anywhere.
+    Few,
+    /// Every second one; more than one codeword agrees.
+    Half,
+}
+
+impl Named {
+    fn text(self) -> &'static str {
+        match self {
+            Named::Few => "n places named",
+            Named::Half => "half of all places named",
+        }
+    }
+
+    fn places(self, shape: Shape, random: &mut Random) -> Vec<u32> {
+        let size = shape.word_len() as u32;
+        match self {
+            Named::Few => {
+                let mut places = random.positions(shape.n as usize, size as usize);
+                places.sort_unstable();
+                places.into_iter().map(|j| j as u32).collect()
+            }
+            Named::Half => (0..size).step_by(2).collect(),
+        }
+    }
+
+    /// How much of the straightforward way's time is allowed.
+    fn target(self) -> f64 {
+        match self {
+            Named::Few => 0.5,
+            Named::Half => 1.5,
+        }
+    }
+}
+
+/// Prints the table; gives the rows that miss their target.
+pub fn table() -> Vec<String> {
+    println!("| shape | dead cells | ns a word | ours / straightforward |");
+    println!("|---|---|---:|---:|");
+    let few = Shape::new(17, 4, 32);
+    let many = Shape::new(31, 8, 32);
+    let rows = [(few, Named::Few), (many, Named::Few), (many, Named::Half)];
+    rows.into_iter().filter_map(|(shape, named)| row(shape, named)).collect()
+}
+
+/// Prints a row; gives it if it misses its target.
+fn row(shape: Shape, named: Named) -> Option<String> {
+    let Times { ours, to_others } = filling(shape, named);
+    let Shape { q, n, b, .. } = shape;
+    let row = format!("| ({q}, {n}, {b}) | {} | {ours:.0} | {:.2} |", named.text(), to_others[0]);
+    println!("{row}");
+    (to_others[0] > named.target()).then_some(row)
+}
+
+/// A list of places, and a codeword with wrong symbols at them.
+type Cells = (Vec<u32>, Vec<u32>);
+
+/// Places, word and scratch.
+type Fill<'a> = &'a dyn Fn(&[u32], &mut [u32], &mut [u32]) -> u32;
+
+fn filling(shape: Shape, named: Named) -> Times {
+    let mut random = Random::new(1, "filling");
+    let mut cells = || {
+        let places = named.places(shape, &mut random);
+        let mut word = codeword(shape, &random.symbols(shape, shape.data_len()));
+        places.iter().for_each(|&place| word[place as usize] ^= random.nonzero_symbol(shape));
+        (places, word)
+    };
+    let all: Vec<Cells> = (0..batch_size(shape)).map(|_| cells()).collect();
+    let shape = black_box(shape);
+    let values = shape.values();
+    let contestants: [Fill; 2] =
+        [&|places, word, scratch| ffi::fill(&values, places, word, scratch), &|places, word, scratch| {
+            elimination::fill(shape, places, word, scratch)
+        }];
+    let results = contestants.map(|fill| fill_all(shape, fill, &all));
+    assert!(results[0] == results[1], "the two disagree");
+    times(all.len(), contestants.map(|fill| batch(shape, fill, &all)))
+}
+
+/// Each answer, and the words as left.
+fn fill_all(shape: Shape, fill: Fill, all: &[Cells]) -> Vec<(u32, Vec<u32>)> {
+    let mut scratch = vec![7; shape.scratch_len()];
+    let filled = |(places, word): &Cells| {
+        let mut word = word.clone();
+        (fill(places, &mut word, &mut scratch), word)
+    };
+    all.iter().map(filled).collect()
+}
+
+/// The work on copies of the words.
+fn batch<'a>(shape: Shape, fill: Fill<'a>, all: &'a [Cells]) -> Batch<'a> {
+    let mut work: Vec<Vec<u32>> = all.iter().map(|(_, word)| word.clone()).collect();
+    let mut scratch = vec![0; shape.scratch_len()];
+    Box::new(move || {
+        for (word, (_, original)) in work.iter_mut().zip(all) {
+            word.copy_from_slice(original);
+        }
+        timed(|| {
+            for (word, (places, _)) in work.iter_mut().zip(all) {
+                black_box(fill(places, word, &mut scratch));
+            }
+        })
+    })
+}

@@ -1,0 +1,203 @@
+//! Lists, lengths and widths that are turned down, and several faults at once.
+
+use super::cases::{
+    damaged, expect, fill, filled, first, limit, lost, outside, random_codeword, refused, shuffled, some_circuits,
+    some_places, unlisted, Make, PLACES, SCRATCH, WORD,
+};
+use crate::call::Call;
+use crate::groups::calls::{old_scratch_len, reshaped, resized};
+use crate::random::Random;
+use crate::reference::shape::{Refusal, Shape};
+use crate::report::Verdict;
+
+/// A rising list with one thing wrong: places that fall, stand twice or are no positions.
+fn faulty(shape: Shape, places: &[u32], random: &mut Random) -> Vec<Vec<u32>> {
+    let size = shape.word_len() as u32;
+    let mut lists = vec![];
+    let mut with = |change: &dyn Fn(&mut Vec<u32>)| {
+        let mut places = places.to_vec();
+        change(&mut places);
+        lists.push(places);
+    };
+    for large in [size, size + 1, 1 << 16, 1 << 31, u32::MAX] {
+        with(&|places| places.push(large));
+        with(&|places| places.insert(0, large));
+    }
+    if places.is_empty() {
+        return lists;
+    }
+    let (i, last) = (random.below(places.len()), places.len() - 1);
+    for large in [size, places[i] + size, places[i] | 1 << 16, places[i] | 1 << 31, u32::MAX] {
+        with(&|places| places[i] = large);
+    }
+    with(&|places| places.insert(i, places[i]));
+    with(&|places| places.push(places[0]));
+    with(&|places| places.push(places[last]));
+    with(&|places| places.extend(places.clone()));
+    if last > 0 {
+        let j = random.below(last);
+        with(&|places| places.swap(j, j + 1));
+        with(&|places| places[j + 1] = places[j]);
+        with(&|places| places[j] = places[j + 1]);
+        with(&|places| places.swap(0, last));
+        with(&|places| places.reverse());
+    }
+    lists
+}
+
+/// 12, whatever the word.
+pub(super) fn refused_lists(make: Make, shape: Shape, random: &mut Random) -> Verdict {
+    let size = shape.word_len();
+    let mut lists: Vec<Vec<u32>> =
+        vec![vec![0, 0], vec![1, 0], vec![0; size + 1], (0..=size as u32).collect(), (0..2 * size as u32).collect()];
+    lists.extend([vec![0; 1 << 16], (0..(1 << 16) + 2).collect(), (0..size as u32).rev().collect()]);
+    for count in [0, 1, 2, shape.n as usize, size / 2, size - 1, size, random.below(size)] {
+        let places = first(shuffled(shape, random), count);
+        lists.extend(faulty(shape, &places, random));
+    }
+    let sent = random_codeword(shape, random);
+    for places in &lists {
+        let word = if random.one_in(2) { sent.clone() } else { random.symbols(shape, size) };
+        let call = fill(shape, places, &word, random);
+        expect(make, &call, &refused(&call, Refusal::Places))?;
+    }
+    Ok(lists.len() as u64)
+}
+
+/// A word that could be filled in, with at most so many places as the limit says.
+fn fillable(shape: Shape, random: &mut Random) -> (Call, Vec<u32>) {
+    let count = random.below(limit(shape) + 1);
+    let [places, ..] = some_places(shape, count, random);
+    let sent = random_codeword(shape, random);
+    let word = lost(shape, &sent, &places, random);
+    (fill(shape, &places, &word, random), sent)
+}
+
+/// Word or scratch too short or too long, the scratch as long as before request N7 among them: 2.
+pub(super) fn lengths(make: Make, shape: Shape, random: &mut Random) -> Verdict {
+    let mut tried = 0;
+    let (size, scratch, old) = (shape.word_len(), shape.scratch_len(), old_scratch_len(shape));
+    let words = [0, 1, size - 1, size + 1, 2 * size, shape.data_len()].map(|length| (WORD, length));
+    let scratches = [0, 1, scratch - 1, scratch + 1, old, old - 1, old + 1, size * shape.row_len(), 2 * scratch];
+    let wrong = words.into_iter().chain(scratches.map(|length| (SCRATCH, length)));
+    for (slice, length) in wrong.filter(|&(slice, length)| slice == WORD || length != scratch) {
+        let (mut call, _) = fillable(shape, random);
+        call.slices[slice] = resized(&call.slices[slice], length, random);
+        expect(make, &call, &refused(&call, Refusal::Length))?;
+        tried += 1;
+    }
+    Ok(tried)
+}
+
+/// The largest symbol is as good as any at a listed place, a larger one is 3 there as elsewhere.
+pub(super) fn widths(make: Make, shape: Shape, random: &mut Random) -> Verdict {
+    let mut tried = 0;
+    let size = shape.word_len();
+    for _ in 0..6 {
+        let (mut call, sent) = fillable(shape, random);
+        let (places, word) = (call.slices[PLACES].clone(), call.slices[WORD].clone());
+        let listed = (!places.is_empty()).then(|| random.pick(&places) as usize);
+        if let Some(j) = listed {
+            call.slices[WORD][j] = shape.largest();
+            expect(make, &call, &filled(&call, &sent))?;
+            tried += 1;
+        }
+        if shape.b == 32 {
+            continue;
+        }
+        let above = shape.largest() + 1;
+        let at = listed.into_iter().chain(unlisted(shape, &places, 1, random)).chain([0, size - 1]);
+        for j in at {
+            for wide in [above, word[j] | above, word[j] | 1 << 31, u32::MAX] {
+                call.slices[WORD].copy_from_slice(&word);
+                call.slices[WORD][j] = wide;
+                expect(make, &call, &refused(&call, Refusal::Width))?;
+                tried += 1;
+            }
+        }
+    }
+    Ok(tried)
+}
+
+/// The tests in their order.
+const ORDER: [Refusal; 7] = [
+    Refusal::Shape,
+    Refusal::Slope,
+    Refusal::Length,
+    Refusal::Width,
+    Refusal::Places,
+    Refusal::Unfillable,
+    Refusal::Ambiguous,
+];
+
+/// Every choice of faults: the first in order is the answer.
+pub(super) fn several_faults(make: Make, shape: Shape, random: &mut Random) -> Verdict {
+    let mut tried = 0;
+    let circuits = some_circuits(shape, random);
+    let outsides: Vec<Option<usize>> = circuits.iter().map(|circuit| outside(shape, circuit, random)).collect();
+    for faults in 0..1 << ORDER.len() {
+        let has =
+            |refusal: Refusal| ORDER.iter().position(|&other| other == refusal).is_some_and(|i| faults >> i & 1 == 1);
+        let i = random.below(circuits.len());
+        let (mut places, damage) = (circuits[i].clone(), outsides[i]);
+        if has(Refusal::Width) && shape.b == 32 || has(Refusal::Unfillable) && damage.is_none() {
+            continue;
+        }
+        if !has(Refusal::Ambiguous) {
+            places.remove(random.below(places.len()));
+        }
+        let sent = random_codeword(shape, random);
+        let mut word = lost(shape, &sent, &places, random);
+        if let Some(j) = damage.filter(|_| has(Refusal::Unfillable)) {
+            word = damaged(shape, word, &[j], random);
+        }
+        let mut call = fill(shape, &places, &word, random);
+        if has(Refusal::Places) {
+            let lists = faulty(shape, &places, random);
+            call.slices[PLACES] = lists[random.below(lists.len())].clone();
+        }
+        if has(Refusal::Width) {
+            let any = [random.pick(&places) as usize, random.below(word.len())];
+            let j = random.pick(&any);
+            call.slices[WORD][j] |= shape.largest() + 1;
+        }
+        if has(Refusal::Length) {
+            spoil_length(&mut call, random);
+        }
+        call = reshaped(&call, spoiled_shape(shape, has(Refusal::Shape), has(Refusal::Slope), random));
+        let expected = match ORDER.into_iter().find(|&refusal| has(refusal)) {
+            Some(refusal) => refused(&call, refusal),
+            None => filled(&call, &sent),
+        };
+        expect(make, &call, &expected)?;
+        tried += 1;
+    }
+    Ok(tried)
+}
+
+/// Word, scratch or both of another length.
+fn spoil_length(call: &mut Call, random: &mut Random) {
+    let old = old_scratch_len(call.shape);
+    let choice = random.below(3);
+    for slice in [WORD, SCRATCH].into_iter().filter(|&slice| choice == 0 || choice == slice) {
+        let length = call.slices[slice].len();
+        let other = if slice == SCRATCH { old } else { 2 * length };
+        let length = random.pick(&[0, length - 1, length + 1, other]);
+        call.slices[slice] = resized(&call.slices[slice], length, random);
+    }
+}
+
+/// The shape with a number outside its list, or a slope that is too large.
+fn spoiled_shape(mut shape: Shape, of_numbers: bool, of_slopes: bool, random: &mut Random) -> Shape {
+    if of_slopes {
+        let place = random.below(shape.most_errors());
+        shape.slopes[place] = random.pick(&[shape.q, u32::MAX]);
+    }
+    let Shape { q, n, b, .. } = shape;
+    match random.below(3) {
+        _ if !of_numbers => shape,
+        0 => Shape { q: q + 1, ..shape },
+        1 => Shape { n: random.pick(&[0, 1, q.min(8) + 1, n + 8]), ..shape },
+        _ => Shape { b: random.pick(&[0, 33, b + 32]), ..shape },
+    }
+}
