@@ -19,7 +19,7 @@ use Rattle.parity.proofs.Pigeon.{count-others}
 use Rattle.parity.proofs.Lowest.{Lowest, lowest-is, lowest-right, count-full, full-count}
 use Rattle.gtb.specs.declared.Shape.{Shape}
 use Rattle.session.specs.declared.Session.{Session}
-use Rattle.session.specs.Session.{marked, pagesOf, lowestOf, consistent, Consistent, freshOf, added, figured, recorded}
+use Rattle.session.specs.Session.{marked, pagesOf, lowestOf, consistent, Consistent, freshOf, recorded}
 use Rattle.session.specs.declared.Outcome.{Outcome}
 use Rattle.session.specs.declared.Outcome.the-variants.{Taken, Again, Refused}
 use Rattle.session.specs.declared.Arrived.{Arrived}
@@ -118,11 +118,6 @@ pub consistent-lowest : (σ : Session) → Consistent σ → σ .lowest ≡ lowe
 unfolding consistent
 consistent-lowest σ h = eqb-true _ _ (and-right (eqb (σ .pages) (pagesOf (σ .taken))) (eqb (σ .lowest) (lowestOf (σ .taken))) h)
 
--- with figures that were made from the marks
-pub figured-consistent : (s : Shape) (taken : List Bool) (calls : List ℕ) → Consistent (figured s taken calls)
-unfolding consistent
-figured-consistent s taken calls = and-both (eq-eqb (pagesOf taken) (pagesOf taken) refl) (eq-eqb (lowestOf taken) (lowestOf taken) refl)
-
 -- a fresh one
 pub fresh-consistent : (s : Shape) → Consistent (freshOf s)
 unfolding consistent freshOf pagesOf lowestOf
@@ -183,9 +178,14 @@ module _ (σ : Session) (right : Consistent σ) where
         rw (consistent-lowest σ right) (f .upto, λ p lp. page-keeps (σ .taken) number size l p (f .below p lp))
 
 -- ---- an arrival hands back right figures if it was lent them
+recorded-consistent : (σ : Session) (number : ℕ) (marks : List ℕ) → Consistent (recorded σ number marks)
+unfolding consistent recorded
+recorded-consistent σ number marks =
+    let τ = recorded σ number marks in
+    and-both (eq-eqb (τ .pages) (pagesOf (τ .taken)) refl) (eq-eqb (τ .lowest) (lowestOf (τ .taken)) refl)
+
 pub after-by : (σ : Session) (o : Opened) (r : Outcome) → Consistent σ → Consistent (sessionBy σ o r)
-unfolding recorded
-after-by σ (Page number marks k) (Taken p c) right = figured-consistent (σ .shape) (set (σ .taken) number true) (added (σ .calls) marks)
+after-by σ (Page number marks k) (Taken p c) right = recorded-consistent σ number marks
 after-by σ (Page number marks k) (Again p c) right = right
 after-by σ (Page number marks k) (Refused e) right = right
 after-by σ (Bad e) r right = right
