@@ -6,8 +6,8 @@ use Prim.Native.Nat.{ℕ, zero, suc, _+_, _<_, _≤_, suc-le-suc, zero-le}
 use native.Mathlib.Nat.{not-suc-le-zero, le-of-suc-le-suc, zero-lt-suc, le-refl}
 use native.Mathlib.Omega.{arith}
 use Rattle.parity.specs.Count.{bit, count, lowestNot}
-use Rattle.parity.proofs.Tests.{either, clash, not-of-true, not-of-false}
-use Rattle.parity.proofs.Sums.{count-none, count-not, sum-term, bit-true}
+use Rattle.parity.proofs.Tests.{either, not-of-false}
+use Rattle.parity.proofs.Sums.{count-not, sum-term, bit-true}
 
 -- up to k all pass, and k fails if it is below n
 pub record Lowest (n : ℕ) (p : ℕ → Bool) (k : ℕ) : Type 0 where
@@ -67,10 +67,7 @@ lowest-cong n p r h =
       fails = λ lk. h (lowestNot n r) lk ∙ l .fails lk;
     })
 
--- all pass exactly if as many pass as there are
-pub count-full : (n : ℕ) (p : ℕ → Bool) → ((i : ℕ) → i < n → p i ≡ true) → count n p ≡ n
-count-full n p h = omega (arith, count-not n p, count-none n (λ i. not (p i)) (λ i l. not-of-true (h i l)))
-
+-- where as many pass as there are, all pass
 pub full-count : (n : ℕ) (p : ℕ → Bool) → count n p ≡ n → (i : ℕ) → i < n → p i ≡ true
 unfolding count
 full-count n p full i l =

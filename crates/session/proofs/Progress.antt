@@ -14,9 +14,9 @@ use borrow.Author.Tests.{eq-eqb, ne-eqb, eqb-true, eqb-false}
 use mir.Val.{boolByte}
 use Rattle.parity.specs.Count.{bit, count, lowestNot}
 use Rattle.parity.proofs.Tests.{either, clash, and-both, and-left, and-right, and-no-left, and-no-right, not-of-true, not-of-false}
-use Rattle.parity.proofs.Sums.{sum-split, bit-le, count-zero, count-more, count-cong, count-bound, count-none}
+use Rattle.parity.proofs.Sums.{sum-split, bit-le, count-zero, count-more, count-cong, count-bound, count-none, count-all}
 use Rattle.parity.proofs.Pigeon.{count-others}
-use Rattle.parity.proofs.Lowest.{Lowest, lowest-is, lowest-right, count-full, full-count}
+use Rattle.parity.proofs.Lowest.{Lowest, lowest-is, lowest-right, full-count}
 use Rattle.gtb.specs.declared.Shape.{Shape}
 use Rattle.session.specs.declared.Session.{Session}
 use Rattle.session.specs.Session.{marked, pagesOf, lowestOf, consistent, Consistent, freshOf, recorded}
@@ -83,7 +83,7 @@ unfolding lowestOf
 lowest-facts taken = lowest-right 1024 (marked taken)
 
 pub lowest-full : (taken : List Bool) (lowest : ℕ) → lowest ≡ lowestOf taken → count lowest (marked taken) ≡ lowest
-lowest-full taken lowest e = count-full lowest (marked taken) (λ p l. lowest-facts taken .below p (rw e at l))
+lowest-full taken lowest e = count-all lowest (marked taken) (λ p l. lowest-facts taken .below p (rw e at l))
 
 -- a figure that is another fails it
 pub pages-differ : (taken : List Bool) (pages lowest : ℕ) → (pages ≡ pagesOf taken → ⊥)
