@@ -3,14 +3,15 @@ use mathlib.Core.Path.{_≡_, refl, sym, ap, ap₂, _∙_}
 use mathlib.Core.Bool.{Bool, true, false, not, xor, _&&_}
 use mathlib.Core.List.{List}
 use mathlib.Core.Logic.{⊎-elim}
-use Prim.Native.Nat.{ℕ, _+_, _*_, _/_, _<_}
+use Prim.Native.Nat.{ℕ, _+_, _*_, _/_, _<_, _≤_}
+use native.Mathlib.Nat.{mul-le-mul-right}
 use native.Mathlib.Decide.{decLt}
 use native.Mathlib.Omega.{arith}
 use lib.Dec.{eqb, ltb}
 use lib.ListN.{length, set, length-set}
-use borrow.Author.Tests.{eq-eqb, ne-eqb, eqb-true, eqb-false, lt-ltb, le-ltb}
+use borrow.Author.Tests.{ne-eqb, eqb-true, eqb-false, lt-ltb, le-ltb}
 use Rattle.parity.specs.Xor.{_⊕_, when}
-use Rattle.parity.proofs.Tests.{either, and-no-left, and-no-right, not-of-true, not-of-false}
+use Rattle.parity.proofs.Tests.{either, and-no-left, and-no-right, not-of-true}
 use Rattle.elimination.specs.Packed.{at, cellOf}
 use Rattle.elimination.specs.Outcome.{Room}
 use Rattle.elimination.specs.Steps.{lifted, cleared, Reduced, First, Row, Added, Joined, Progress}
@@ -97,20 +98,29 @@ rows-more f t i =
     xor-false false = refl
 
 -- clearing: row after row
-pub cleared-none : {S p u : ℕ} (k : ℕ) {xs values : List ℕ} → length values ≡ 248 → Joined S p u (cleared 0 (cellOf S xs) k u) xs values xs values
-cleared-none {S} {u = u} k {xs} size =
-    joined-none (cleared 0 (cellOf S xs) k u) size (λ t. and-no-left (not (eqb t u) && cellOf S xs t k) (le-ltb t 0 (omega arith)))
+pub cleared-none : {S p u : ℕ} (k : ℕ) {xs values : List ℕ} → length values ≡ 248 → Joined S p u (cleared (u + 1) (cellOf S xs) k u) xs values xs values
+cleared-none {S} {u = u} k {xs} size = joined-none (cleared (u + 1) (cellOf S xs) k u) size none
+  where
+    none : (t : ℕ) → cleared (u + 1) (cellOf S xs) k u t ≡ false
+    none t =
+        elim (decLt u t) [
+          | yes a ↦ and-no-left (ltb u t && cellOf S xs t k) (le-ltb t (u + 1) (omega arith))
+          | no a ↦ and-no-right (ltb t (u + 1)) (and-no-left (cellOf S xs t k) (le-ltb u t (omega arith)))
+        ]
 
--- row u is left out
+-- the rows up to u are left out
+pub cleared-above : (i : ℕ) (m : ℕ → ℕ → Bool) (k u t : ℕ) → t ≤ u → cleared i m k u t ≡ false
+cleared-above i m k u t l = and-no-right (ltb t i) (and-no-left (m t k) (le-ltb u t l))
+
 pub cleared-own : (i : ℕ) (m : ℕ → ℕ → Bool) (k u : ℕ) → cleared i m k u u ≡ false
-cleared-own i m k u = and-no-right (ltb u i) (and-no-left (m u k) (not-of-true (eq-eqb u u refl)))
+cleared-own i m k u = cleared-above i m k u u (omega arith)
 
-pub cleared-more : {S p u k : ℕ} (i : ℕ) {old values mid left new last : List ℕ} → k < p → Joined S p u (cleared i (cellOf S old) k u) old values mid left
-    → Joined S p u (λ t. eqb t i && (not (eqb t u) && cellOf S mid t k)) mid left new last
+pub cleared-more : {S p u k : ℕ} (i : ℕ) {old values mid left new last : List ℕ} → k < p → u < i → Joined S p u (cleared i (cellOf S old) k u) old values mid left
+    → Joined S p u (λ t. eqb t i && cellOf S mid t k) mid left new last
     → Joined S p u (cleared (i + 1) (cellOf S old) k u) old values new last
-cleared-more {S} {u = u} {k} i {old} {mid = mid} lk a b =
+cleared-more {S} {u = u} {k} i {old} {mid = mid} lk lu a b =
     let m : ℕ → ℕ → Bool = cellOf S old in
-    let f : ℕ → Bool = λ t. not (eqb t u) && m t k in
+    let f : ℕ → Bool = λ t. ltb u t && m t k in
     let here : cellOf S mid i k ≡ m i k = combined-same (a .rows) i k (and-no-left (f i) (le-ltb i i (omega arith))) lk in
     record {
       size = b .size ∙ a .size;
@@ -120,8 +130,8 @@ cleared-more {S} {u = u} {k} i {old} {mid = mid} lk a b =
           (λ t.
           rows-more f t i
           ∙ ap (λ (c : Bool). xor (ltb t i && f t) c)
-          (single f i (ap (λ (c : Bool). not (eqb i u) && c) (sym here)) t
-          ∙ sym (single (λ t. not (eqb t u) && cellOf S mid t k) i refl t)));
+          (single f i (ap (λ (c : Bool). c && m i k) (lt-ltb u i lu) ∙ sym here) t
+          ∙ sym (single (λ t. cellOf S mid t k) i refl t)));
     }
 
 -- the room stays
@@ -132,6 +142,16 @@ room-same room e sizes = record {
   columns = room .columns;
   space = omega (arith, room .space);
   sizes = sizes;
+}
+
+-- the first p rows alone
+pub room-first : {r S p : ℕ} {scratch values : List ℕ} → Room r S p scratch values → p ≤ r → Room p S p scratch values
+room-first {r} {S} {p} room l = record {
+  rows = omega (arith, room .rows);
+  width = room .width;
+  columns = room .columns;
+  space = omega (arith, room .space, mul-le-mul-right S l);
+  sizes = room .sizes;
 }
 
 -- a row of those that lie in the scratch
@@ -176,8 +196,8 @@ column-pivot {r} {S} {k = k} {u} {i} {mid = mid} lk h first li a b =
       reduced =
           reduced-pivot (reduced-lift h lk (first .least) li (a .rows)) lk lu
           (lift-pivot h lk (first .least) li (a .rows) (first .fails) (first .passes li))
-          (cleared r m k u) (cleared-own r m k u)
-          (λ t lt ne. ap₂ (λ (x y : Bool). x && (y && m t k)) (lt-ltb t r lt) (not-of-false (ne-eqb t u ne)))
+          (cleared r m k u) (cleared-above r m k u)
+          (λ t lt lu. ap₂ (λ (x y : Bool). x && (y && m t k)) (lt-ltb t r lt) (lt-ltb u t lu))
           (b .rows);
     }
 

@@ -1,16 +1,16 @@
 -- What the last column leaves says of the system given.
-use mathlib.Core.Path.{_≡_, sym, ap₂, _∙_}
+use mathlib.Core.Path.{_≡_, sym, ap, ap₂, _∙_}
 use mathlib.Core.Bool.{Bool}
 use mathlib.Core.Logic.{inl}
 use Prim.Native.Nat.{ℕ, _<_, _≤_}
 use native.Mathlib.Decide.{decLt}
 use native.Mathlib.Omega.{arith}
 use lib.Pow.{pow-pos}
-use Rattle.parity.specs.Xor.{_⊕_}
+use Rattle.parity.specs.Xor.{_⊕_, when}
 use Rattle.parity.proofs.Xors.{zero-r}
 use Rattle.elimination.specs.System.{rowSum, Solves, Impossible, Unique, Several}
 use Rattle.elimination.specs.Steps.{Kept, Reduced}
-use Rattle.elimination.proofs.Sums.{row-add, row-none, row-unit}
+use Rattle.elimination.proofs.Sums.{row-cong, row-add, row-none}
 
 -- m and v are given, m′ and v′ are left after u pivots
 module _ {p r u : ℕ} {m : ℕ → ℕ → Bool} {v : ℕ → ℕ} {m′ : ℕ → ℕ → Bool} {v′ : ℕ → ℕ} (kept : Kept p r m v m′ v′) (h : Reduced p r p u m′) where
@@ -28,15 +28,23 @@ module _ {p r u : ℕ} {m : ℕ → ℕ → Bool} {v : ℕ → ℕ} {m′ : ℕ 
         kept .from x
         (record { row = λ i l. elim (decLt i u) [ yes a ↦ s .row i a | no a ↦ empty i x (omega arith) l ∙ sym (zero i (omega arith) l) ] })
 
-    pub end-one : p ≤ u → Unique p r m v v′
-    end-one l =
+    -- the one solution of the first p rows, row i of which has column i first
+    pub end-one : (v″ : ℕ → ℕ) → p ≤ u → ((x : ℕ → ℕ) → Solves p p m′ v′ x → (k : ℕ) → k < p → v″ k ≡ x k) → Unique p r m v v″
+    end-one v″ l found =
         let q : u ≡ p = omega (arith, h .few) in
-        let unit : (i : ℕ) (x : ℕ → ℕ) → i < p → rowSum p (m′ i) x ≡ x i =
-        λ i x li. row-unit p i (m′ i) x li (λ k lk. h .unit q i k (omega arith) lk) in
+        let x = h .extends v′ (λ j. 0) in
+        let first : (y : ℕ → ℕ) → Solves p u m′ v′ y → Solves p p m′ v′ y = λ y s. record { row = λ i li. s .row i (omega arith) } in
+        let same : (k : ℕ) → k < p → v″ k ≡ x .x k = found (x .x) (first (x .x) (x .solves)) in
         record {
-          solves = whole v′ (record { row = λ i li. unit i v′ (omega arith) });
-          only = λ y s k lk. sym (unit k y lk) ∙ kept .to y s .row k (omega (arith, h .fits));
-          narrow = λ b hb. record { below = λ i li. kept .narrow b hb .below i (omega (arith, h .fits)) };
+          solves =
+              whole v″
+              (record { row = λ i li. row-cong p (m′ i) (m′ i) v″ (x .x) (λ k lk. ap (when (m′ i k)) (same k lk)) ∙ x .solves .row i li });
+          only = λ y s k lk. sym (found y (record { row = λ i li. kept .to y s .row i (omega (arith, h .fits)) }) k lk);
+          narrow = λ b hb.
+              record {
+                below = λ k lk.
+                    rw (same k lk) (x .narrow b (record { below = λ i li. kept .narrow b hb .below i (omega (arith, h .fits)) }) (λ j. pow-pos b) k);
+              };
           fits = omega (arith, h .fits);
         }
 

@@ -15,7 +15,7 @@ use Rattle.elimination.specs.declared.Outcome.the-variants.{Solved, Unso
 use Rattle.elimination.specs.System.{Below, Impossible, Unique, Several}
 use Rattle.elimination.specs.Packed.{at}
 use Rattle.elimination.specs.Outcome.{Eliminated}
-use Rattle.elimination.specs.Steps.{First, Progress}
+use Rattle.elimination.specs.Steps.{First, Progress, Substituted}
 use Rattle.elimination.proofs.Ends.{end-none, end-one, end-several}
 
 never : {A : Type 0} → _≡_ {A = ℕ} 0 1 → A
@@ -44,10 +44,10 @@ module _ {r S p u i : ℕ} {old values new left : List ℕ} (h : Progress r S p 
       ambiguous = λ q. end-several (h .kept) (h .reduced) zero l;
     }
 
-    pub answer-one : p ≤ u → Eliminated r S p old values Solved left
-    answer-one l = record {
-      size = h .sizes;
-      solved = λ q. end-one (h .kept) (h .reduced) zero l;
+    pub answer-one : {last : List ℕ} → p ≤ u → Substituted S p 0 new left last → Eliminated r S p old values Solved last
+    answer-one {last} l t = record {
+      size = t .size;
+      solved = λ q. end-one (h .kept) (h .reduced) zero (at last) l (λ x s k. t .known x s k (omega arith));
       unsolvable = λ q. never (cc);
       ambiguous = λ q. never (cc);
     }

@@ -10,7 +10,7 @@ use lib.Dec.{eqb}
 use borrow.Author.Count.{below-more}
 use borrow.Author.Tests.{eq-eqb, ne-eqb, eqb-true, eqb-false}
 use Rattle.parity.specs.Xor.{_⊕_, when}
-use Rattle.parity.proofs.Xors.{assoc, self, zero-r, lt-pow, when-lt, when-zero, twice}
+use Rattle.parity.proofs.Xors.{zero-r, lt-pow, when-lt, twice}
 use Rattle.parity.proofs.Tests.{either, and-no-left, and-no-right, and-both, not-of-true, not-of-false}
 use Rattle.elimination.specs.System.{rowSum}
 use Rattle.elimination.specs.Steps.{lifted, Combined, Extension, Kernel, Reduced}
@@ -24,7 +24,7 @@ reduced-none p r m = record {
   fits = omega arith;
   zeros = λ i j lu lr lj. absurd (not-suc-le-zero lj);
   extends = λ w y. record { x = y; same = λ j l. refl; solves = record { row = λ i l. absurd (not-suc-le-zero l) }; narrow = λ b hw hy. hy };
-  unit = λ e i j li lj. absurd (not-suc-le-zero lj);
+  unit = λ e i j li lj. absurd (not-suc-le-zero li);
   free = λ l. absurd (not-suc-le-zero l);
 }
 
@@ -68,9 +68,9 @@ unfolding xor
 xor-clear true he hb = ap₂ (λ (e b : Bool). xor true (e && b)) he hb
 xor-clear false he hb = ap₂ (λ (e b : Bool). xor false (e && b)) he hb
 
--- row u has column k, and is XORed onto each other row that has it
+-- row u has column k, and is XORed onto each row after it that has it
 module _ {p r k u : ℕ} {m : ℕ → ℕ → Bool} {v : ℕ → ℕ} {m′ : ℕ → ℕ → Bool} {v′ : ℕ → ℕ} (h : Reduced p r k u m) (lk : k < p) (lu : u < r)
-    (pivot : m u k ≡ true) (e : ℕ → Bool) (own : e u ≡ false) (others : (i : ℕ) → i < r → (i ≡ u → ⊥) → e i ≡ m i k)
+    (pivot : m u k ≡ true) (e : ℕ → Bool) (above : (i : ℕ) → i ≤ u → e i ≡ false) (others : (i : ℕ) → i < r → u < i → e i ≡ m i k)
     (c : Combined p u e m v m′ v′) where
   asked-row : (n : ℕ) (y : ℕ → ℕ) → rowSum p (m u) (asked p (m u) k n y) ≡ n
   unfolding when
@@ -98,19 +98,21 @@ module _ {p r k u : ℕ} {m : ℕ → ℕ → Bool} {v : ℕ → ℕ} {m′ : �
         | no s ↦ ap (λ (a : ℕ). when (m u j) a) (same j (omega arith))
       ])
 
-  -- the columns before k stay, and k is left in row u alone
+  -- the rows up to u stay, and so do the columns before k; the rows after u lose column k
+  upper-row : (i : ℕ) (x : ℕ → ℕ) → i ≤ u → rowSum p (m′ i) x ≡ rowSum p (m i) x
+  upper-row i x l = combined-row c i x ∙ when-off (rowSum p (m i) x) (rowSum p (m u) x) (above i l)
+
   stays : (i j : ℕ) → j < k → m′ i j ≡ m i j
   stays i j l = c .cell i j (omega arith) ∙ xor-none (m i j) (and-no-right (e i) (before j l))
 
-  gone : (i : ℕ) → i < r → (i ≡ u → ⊥) → m′ i k ≡ false
-  gone i l ne = c .cell i k lk ∙ xor-clear (m i k) (others i l ne) pivot
+  gone : (i : ℕ) → i < r → u < i → m′ i k ≡ false
+  gone i l lt = c .cell i k lk ∙ xor-clear (m i k) (others i l lt) pivot
 
   pivot-extends : (w y : ℕ → ℕ) → Extension p (k + 1) (u + 1) m′ w y
   unfolding when
   pivot-extends w y =
       let y′ = asked p (m u) k (w u) y in
-      let x = h .extends (λ i. w i ⊕ when (e i) (w u)) y′ in
-      let top : rowSum p (m u) (x .x) ≡ w u = pivot-sum (x .x) y′ (x .same) ∙ asked-row (w u) y in
+      let x = h .extends w y′ in
       record {
         x = x .x;
         same = λ j l.
@@ -119,25 +121,16 @@ module _ {p r k u : ℕ} {m : ℕ → ℕ → Bool} {v : ℕ → ℕ} {m′ : �
         solves = record {
           row =
               below-more (λ i. rowSum p (m′ i) (x .x) ≡ w i) u
-              (λ i l.
-              combined-row c i (x .x) ∙ ap₂ (λ (a b : ℕ). a ⊕ when (e i) b) (x .solves .row i l) top
-              ∙ assoc (w i) (when (e i) (w u)) (when (e i) (w u))
-              ∙ ap (λ (a : ℕ). w i ⊕ a) (self (when (e i) (w u)))
-              ∙ zero-r (w i))
-              (combined-row c u (x .x) ∙ when-off (rowSum p (m u) (x .x)) (rowSum p (m u) (x .x)) own ∙ top);
+              (λ i l. upper-row i (x .x) (omega arith) ∙ x .solves .row i l)
+              (upper-row u (x .x) (omega arith) ∙ pivot-sum (x .x) y′ (x .same) ∙ asked-row (w u) y);
         };
         narrow = λ b hw hy.
-            let hu : w u < 2 ^ b = hw .below u (omega arith) in
-            x .narrow b
-            (record { below = λ i l. lt-pow b (w i) (when (e i) (w u)) (hw .below i (omega arith)) (when-lt b (e i) (w u) hu) })
-            (asked-narrow b (w u) y hu hy);
+            x .narrow b (record { below = λ i l. hw .below i (omega arith) }) (asked-narrow b (w u) y (hw .below u (omega arith)) hy);
       }
 
   pivot-kernel : u + 1 < k + 1 → Kernel p (k + 1) (u + 1) m′
   pivot-kernel l =
       let q = h .free (omega arith) in
-      let top : rowSum p (m u) (q .h) ≡ 0 =
-      row-none p (m u) (q .h) (λ j lj. elim (decLt j k) [ yes s ↦ inl (before j s) | no s ↦ inr (q .ends j (omega arith)) ]) in
       record {
         h = q .h;
         small = q .small;
@@ -145,34 +138,32 @@ module _ {p r k u : ℕ} {m : ℕ → ℕ → Bool} {v : ℕ → ℕ} {m′ : �
         solves = record {
           row =
               below-more (λ i. rowSum p (m′ i) (q .h) ≡ 0) u
-              (λ i li.
-              combined-row c i (q .h) ∙ ap₂ (λ (a b : ℕ). a ⊕ when (e i) b) (q .solves .row i li) top
-              ∙ ap (λ (a : ℕ). 0 ⊕ a) (when-zero (e i))
-              ∙ self 0)
-              (combined-row c u (q .h) ∙ when-off (rowSum p (m u) (q .h)) (rowSum p (m u) (q .h)) own ∙ top);
+              (λ i li. upper-row i (q .h) (omega arith) ∙ q .solves .row i li)
+              (upper-row u (q .h) (omega arith)
+              ∙ row-none p (m u) (q .h) (λ j lj. elim (decLt j k) [ yes s ↦ inl (before j s) | no s ↦ inr (q .ends j (omega arith)) ]));
         };
         place = q .place;
         inside = omega (arith, q .inside);
         set = q .set;
       }
 
-  -- a unit vector in each row, where no column was free
-  pivot-unit : u ≡ k → (i j : ℕ) → i < u + 1 → j < k + 1 → m′ i j ≡ eqb i j
-  pivot-unit q i j li =
-      below-more (λ n. m′ i n ≡ eqb i n) k
-      (λ n ln. stays i n ln ∙ below-more (λ t. m t n ≡ eqb t n) u (λ t lt. h .unit q t n lt ln)
-      (before n ln ∙ sym (ne-eqb u n (λ z. omega arith))) i li)
-      (below-more (λ t. m′ t k ≡ eqb t k) u
-      (λ t lt. gone t (omega arith) (λ z. omega arith) ∙ sym (ne-eqb t k (λ z. omega arith)))
-      (combined-same c u k own lk ∙ pivot ∙ sym (eq-eqb u k q)) i li)
-      j
+  -- where no column was free, row i has column i and none before it
+  pivot-unit : u ≡ k → (i j : ℕ) → i < u + 1 → j ≤ i → m′ i j ≡ eqb i j
+  pivot-unit q i j li lj =
+      combined-same c i j (above i (omega arith)) (omega arith)
+      ∙ below-more (λ t. (n : ℕ) → n ≤ t → m t n ≡ eqb t n) u (λ t lt n ln. h .unit q t n lt ln)
+      (λ n ln. elim (decLt n k) [
+        | yes s ↦ before n s ∙ sym (ne-eqb u n (λ z. omega arith))
+        | no s ↦ let z : n ≡ k = omega arith in ap (m u) z ∙ pivot ∙ sym (eq-eqb u n (omega arith))
+      ])
+      i li j lj
 
   pub reduced-pivot : Reduced p r (k + 1) (u + 1) m′
   reduced-pivot = record {
     few = omega (arith, h .few);
     fits = omega arith;
     zeros = λ i j li lr.
-        below-more (λ n. m′ i n ≡ false) k (λ n ln. stays i n ln ∙ h .zeros i n (omega arith) lr ln) (gone i lr (λ z. omega arith)) j;
+        below-more (λ n. m′ i n ≡ false) k (λ n ln. stays i n ln ∙ h .zeros i n (omega arith) lr ln) (gone i lr (omega arith)) j;
     extends = pivot-extends;
     unit = λ q. pivot-unit (omega arith);
     free = pivot-kernel;

@@ -19,9 +19,9 @@ pub record Combined (p s : ℕ) (e : ℕ → Bool) (m : ℕ → ℕ → Bool) (v
 abbrev pub lifted : ℕ → ℕ → ℕ → Bool
 lifted u i t = eqb t u && not (eqb i u)
 
--- the first i rows but row u, as far as they have column k
+-- the rows after row u and below i, as far as they have column k
 abbrev pub cleared : ℕ → (ℕ → ℕ → Bool) → ℕ → ℕ → ℕ → Bool
-cleared i m k u t = ltb t i && (not (eqb t u) && m t k)
+cleared i m k u t = ltb t i && (ltb u t && m t k)
 
 -- the same solutions, and values no wider
 pub record Kept (p r : ℕ) (m : ℕ → ℕ → Bool) (v : ℕ → ℕ) (m′ : ℕ → ℕ → Bool) (v′ : ℕ → ℕ) : Type 0 where
@@ -52,7 +52,7 @@ pub record Reduced (p r k u : ℕ) (m : ℕ → ℕ → Bool) : Type 0 where
   pub fits : u ≤ r
   pub zeros : (i j : ℕ) → u ≤ i → i < r → j < k → m i j ≡ false
   pub extends : (w y : ℕ → ℕ) → Extension p k u m w y
-  pub unit : u ≡ k → (i j : ℕ) → i < u → j < k → m i j ≡ eqb i j
+  pub unit : u ≡ k → (i j : ℕ) → i < u → j ≤ i → m i j ≡ eqb i j
   pub free : u < k → Kernel p k u m
 
 -- the first number from `from` on, and below n, that passes the test, or n
@@ -88,3 +88,15 @@ pub record Progress (r S p k u : ℕ) (old values new left : List ℕ) : Type 0 
   pub sizes : length left ≡ 248
   pub kept : Kept p r (cellOf S old) (at values) (cellOf S new) (at left)
   pub reduced : Reduced p r k u (cellOf S new)
+
+-- unknown k, the value at k, is taken off the values of the first i rows that have its column
+pub record TakenOff (S k i : ℕ) (scratch old new : List ℕ) : Type 0 where
+  pub size : length new ≡ 248
+  pub taken : (t : ℕ) → t < i → at new t ≡ at old t ⊕ when (cellOf S scratch t k) (at old k)
+  pub others : (t : ℕ) → i ≤ t → at new t ≡ at old t
+
+-- the unknowns from k on stand in the values, and are taken off those of the first k rows
+pub record Substituted (S p k : ℕ) (scratch old new : List ℕ) : Type 0 where
+  pub size : length new ≡ 248
+  pub known : (x : ℕ → ℕ) → Solves p p (cellOf S scratch) (at old) x → (j : ℕ) → k ≤ j → j < p → at new j ≡ x j
+  pub rest : (x : ℕ → ℕ) → Solves p p (cellOf S scratch) (at old) x → Solves k k (cellOf S scratch) (at new) x

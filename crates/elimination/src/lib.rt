@@ -6,9 +6,10 @@ ghost use Prim.Native.Nat.{ℕ, _+_, _*_, _%_, _<_, _≤_};
 ghost use mathlib.Core.Logic.{_⊎_};
 ghost use lib.Dec.{eqb};
 ghost use lib.ListN.{length};
+ghost use Rattle.parity.specs.Xor.{when};
 ghost use Rattle.elimination.specs.Packed.{at, bitAt, cellOf};
 ghost use Rattle.elimination.specs.Outcome.{Room, Eliminated};
-ghost use Rattle.elimination.specs.Steps.{lifted, cleared, Reduced, First, Row, Added, Joined, Progress};
+ghost use Rattle.elimination.specs.Steps.{lifted, cleared, Reduced, First, Row, Added, Joined, Progress, TakenOff, Substituted};
 
 // How many solutions there are.
 pub enum Outcome {
@@ -80,7 +81,7 @@ fn add_row(
     values[i] ^= values[s];
 }
 
-// Row i loses column k, unless it is row u.
+// Row i loses column k, by row u, which has it.
 fn clear_row(
     width: usize,
     columns: usize,
@@ -91,21 +92,18 @@ fn clear_row(
     i: usize,
 )
     requires { ⌜ Row width columns u (now scratch) (now values) × Row width columns i (now scratch) (now values)
-        × (k < columns) × ((j : ℕ) → j < k → cellOf width (now scratch) u j ≡ false) ⌝ }
+        × (k < columns) × (u < i) × ((j : ℕ) → j < k → cellOf width (now scratch) u j ≡ false) ⌝ }
     ensures { λ _.
-        ⌜ Joined width columns u (λ t. eqb t i && (not (eqb t u) && cellOf width (now (scratch .entry)) t k))
+        ⌜ Joined width columns u (λ t. eqb t i && cellOf width (now (scratch .entry)) t k)
         (now (scratch .entry)) (now (values .entry)) (now (scratch .exit)) (now (values .exit)) ⌝ }
 {
-    if i == u {
-        return;
-    }
     if !has(scratch[i * width + k / 32], k) {
         return;
     }
     add_row(width, columns, scratch, values, k, u, i);
 }
 
-// Every row but row u loses column k.
+// Every row after row u loses column k. Those before it keep it: a system with several solutions, or none, needs no more.
 fn clear(
     rows: usize,
     width: usize,
@@ -121,7 +119,8 @@ fn clear(
         ⌜ Joined width columns u (cleared rows (cellOf width (now (scratch .entry))) k u)
         (now (scratch .entry)) (now (values .entry)) (now (scratch .exit)) (now (values .exit)) ⌝ }
 {
-    for i in 0..rows {
+    let first = u + 1;
+    for i in first..rows {
         clear_row(width, columns, scratch, values, k, u, i);
     }
 }
@@ -190,6 +189,40 @@ fn reduce(
     u
 }
 
+// The value, if the row has column k.
+fn share(x: u32, k: usize, value: u32) -> u32
+    ensures { λ r. ⌜ r ≡ when (bitAt x (k % 32)) value ⌝ }
+{
+    if has(x, k) {
+        return value;
+    }
+    0
+}
+
+// Unknown k, which is known, is taken off the values of the rows before row k that have its column.
+fn take_off(width: usize, scratch: &[u32], values: &mut [u32; 248], k: usize)
+    requires { ⌜ (k < 248) × (k < 32 * width) × (k * width ≤ length (now scratch)) × (length (now values) ≡ 248) ⌝ }
+    ensures { λ _. ⌜ TakenOff width k k (now (scratch .entry)) (now (values .entry)) (now (values .exit)) ⌝ }
+{
+    let value = values[k];
+    for i in 0..k {
+        values[i] ^= share(scratch[i * width + k / 32], k, value);
+    }
+}
+
+// The unknowns of a system in whose row i column i is the first, the last unknown first.
+fn substitute(width: usize, columns: usize, scratch: &[u32], values: &mut [u32; 248])
+    requires { ⌜ Room columns width columns (now scratch) (now values)
+        × ((i j : ℕ) → i < columns → j ≤ i → cellOf width (now scratch) i j ≡ eqb i j) ⌝ }
+    ensures { λ _. ⌜ Substituted width columns 0 (now (scratch .entry)) (now (values .entry)) (now (values .exit)) ⌝ }
+{
+    let mut k = columns;
+    while k > 0 {
+        k -= 1;
+        take_off(width, scratch, values, k);
+    }
+}
+
 // Solves the system of the first `rows` rows. If it has one solution, unknown k is left in values[k]; the scratch is left as it is by then.
 pub fn eliminate(
     rows: usize,
@@ -210,5 +243,6 @@ pub fn eliminate(
     if u < columns {
         return Outcome::Ambiguous;
     }
+    substitute(width, columns, scratch, values);
     Outcome::Solved
 }

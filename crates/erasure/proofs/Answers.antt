@@ -18,6 +18,7 @@ use Rattle.gtb.specs.Answer.{unless, scratchAfter}
 use Rattle.gtb.proofs.Answers.{same-refusal, never-done, never-refused, shape-scratch}
 use Rattle.correction.specs.declared.Decoded.{Decoded}
 use Rattle.correction.specs.declared.Decoded.the-variants.{Refused}
+use Rattle.correction.specs.Answer.{decodedNumber}
 use Rattle.erasure.specs.Fill.{rising, fillStatus, Filling}
 use Rattle.erasure.specs.Steps.{Decision, Judged}
 
@@ -27,7 +28,7 @@ refused-filling : {s : Shape} {word places scratch word′ scratch′ : List ℕ
 refused-filling {scratch = scratch} e tests answer left lent = record {
   tested = λ e′ h.
       let same : e ≡ e′ = same-refusal e e′ (sym tests ∙ h) in
-      (answer ∙ ap Refused same, left, lent ∙ ap (λ (x : Refusal). scratchAfter x scratch) same);
+      (answer ∙ ap Refused same, ap decodedNumber (answer ∙ ap Refused same), left, lent ∙ ap (λ (x : Refusal). scratchAfter x scratch) same);
   decided = λ h. absurd (never-done e (sym tests ∙ h));
 }
 

@@ -64,8 +64,8 @@ pub filling-unique : {s : Shape} {word places scratch w₁ w₂ x₁ x₂ : List
 filling-unique {s} {word} {places} {scratch} f g =
     ⊎-elim
     (λ (h : (e : Refusal) × (fillStatus s word places scratch ≡ status.Refused e)).
-    let (rf, wf, xf) = f .tested (h .0) (h .1) in
-    let (rg, wg, xg) = g .tested (h .0) (h .1) in
+    let (rf, nf, wf, xf) = f .tested (h .0) (h .1) in
+    let (rg, ng, wg, xg) = g .tested (h .0) (h .1) in
     (rf ∙ sym rg, wf ∙ sym wg, xf ∙ sym xg))
     (λ (h : fillStatus s word places scratch ≡ status.Done).
     let (df, xf) = f .decided h in

@@ -98,16 +98,18 @@ module _ (s : Shape) (law : Lawful s) (w places : List ℕ) (S : ℕ) (scratch v
       → Applied places changes (length places) w w′ r → FilledIn s w places w′ (Corrected r)
   one-word {changes} u w′ r a =
       let e : w′ ≡ made (at changes) = toggled-changed s h w (at changes) (hw .size) (a .word) in
+      let changed : r ≡ differences s w′ w = a .changed ∙ sym (ap (λ (v : List ℕ). differences s v w) e ∙ changed-count s h w (at changes)) in
       record {
         agrees = subst (Agrees s w places) (sym e) (solved-agrees (at changes) (u .solves) (u .narrow (s .b) values-narrow .below));
         only = λ v av.
             agreeing v av ∙ changed-cong s places w (changes-of v) (at changes) (u .only (changes-of v) (agreeing-solved v av)) ∙ sym e;
-        answer = ap Corrected (a .changed ∙ sym (ap (λ (v : List ℕ). differences s v w) e ∙ changed-count s h w (at changes)));
+        answer = ap Corrected changed;
+        number = changed;
       }
 
   -- none
   no-word : Impossible (length places) (keptChecks s) (cellOf S scratch) (at values) → NoWord s w places w (Refused Refusal.Unfillable)
-  no-word u = record { none = λ v a. u .none (changes-of v) (agreeing-solved v a); answer = refl; left = refl }
+  no-word u = record { none = λ v a. u .none (changes-of v) (agreeing-solved v a); answer = refl; number = refl; left = refl }
 
   -- several
   several-words : Several (length places) (keptChecks s) (cellOf S scratch) (at values) → SeveralWords s w places w (Refused Refusal.Ambiguous)
@@ -118,6 +120,7 @@ module _ (s : Shape) (law : Lawful s) (w places : List ℕ) (S : ℕ) (scratch v
     agreesToo = solved-agrees (λ k. u .one k ⊕ u .change k) (u .other) (λ k l. lt-pow (s .b) (u .one k) (u .change k) (narrow k l) (small k l));
     different = differ;
     answer = refl;
+    number = refl;
     left = refl;
   }
     where

@@ -3,7 +3,7 @@ use mathlib.Core.Path.{_≡_}
 use mathlib.Core.Bool.{Bool, false, _&&_}
 use mathlib.Core.List.{List}
 use mathlib.Core.Logic.{_⊎_}
-use Prim.Native.Nat.{ℕ, _<_}
+use Prim.Native.Nat.{ℕ, _+_, _^_, _<_}
 use lib.Dec.{eqb, ltb}
 use lib.ListN.{length, replicate}
 use Rattle.parity.specs.Count.{any, all}
@@ -13,10 +13,11 @@ use Rattle.gtb.specs.declared.Status.{Status}
 use Rattle.gtb.specs.declared.Status.the-variants as status
 use Rattle.gtb.specs.Shape.{lawful, shapeRefusal, wordLength, scratchLength}
 use Rattle.gtb.specs.Square.{at, narrow, Codeword}
-use Rattle.gtb.specs.Answer.{unless, scratchAfter}
+use Rattle.gtb.specs.Answer.{refusalNumber, unless, scratchAfter}
 use Rattle.distance.specs.Distance.{differences}
 use Rattle.correction.specs.declared.Decoded.{Decoded}
 use Rattle.correction.specs.declared.Decoded.the-variants.{Corrected, Refused}
+use Rattle.correction.specs.Answer.{decodedNumber}
 
 -- the position is in the list
 unfoldable pub isListed : List ℕ → ℕ → Bool
@@ -44,11 +45,13 @@ pub record FilledIn (s : Shape) (word places word′ : List ℕ) (r : Decoded) :
   pub agrees : Agrees s word places word′
   pub only : (v : List ℕ) → Agrees s word places v → v ≡ word′
   pub answer : r ≡ Corrected (differences s word′ word)
+  pub number : decodedNumber r ≡ differences s word′ word
 
 -- none agrees: 13
 pub record NoWord (s : Shape) (word places word′ : List ℕ) (r : Decoded) : Type 0 where
   pub none : (v : List ℕ) → Agrees s word places v → ⊥
   pub answer : r ≡ Refused Refusal.Unfillable
+  pub number : decodedNumber r ≡ 2 ^ 31 + 13
   pub left : word′ ≡ word
 
 -- more than one agrees: 14
@@ -59,11 +62,12 @@ pub record SeveralWords (s : Shape) (word places word′ : List ℕ) (r : Decode
   pub agreesToo : Agrees s word places another
   pub different : one ≡ another → ⊥
   pub answer : r ≡ Refused Refusal.Ambiguous
+  pub number : decodedNumber r ≡ 2 ^ 31 + 14
   pub left : word′ ≡ word
 
 -- what filling in answers and leaves
 pub record Filling (s : Shape) (word places scratch word′ scratch′ : List ℕ) (r : Decoded) : Type 0 where
   pub tested : (e : Refusal) → fillStatus s word places scratch ≡ status.Refused e
-      → (r ≡ Refused e) × (word′ ≡ word) × (scratch′ ≡ scratchAfter e scratch)
+      → (r ≡ Refused e) × (decodedNumber r ≡ 2 ^ 31 + refusalNumber e) × (word′ ≡ word) × (scratch′ ≡ scratchAfter e scratch)
   pub decided : fillStatus s word places scratch ≡ status.Done
       → (FilledIn s word places word′ r ⊎ (NoWord s word places word′ r ⊎ SeveralWords s word places word′ r)) × (scratch′ ≡ replicate (length scratch) 0)

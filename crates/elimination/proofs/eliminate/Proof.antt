@@ -1,5 +1,8 @@
 -- `elimination::eliminate` meets its contract.
+use Prim.Native.Nat.{_≤_}
+use native.Mathlib.Omega.{arith}
 use borrow.Author.Needs.{needs}
+use Rattle.elimination.proofs.Columns.{room-same, room-first}
 use Rattle.elimination.proofs.Outcomes.{answer-none, answer-several, answer-one}
 use Rattle.elimination.proofs.eliminate.Statement.{statement}
 use Rattle.elimination.proofs.eliminate.Tie as tie
@@ -24,12 +27,24 @@ returns-2 : tie.Need-returns-2
 returns-2 c =
     let f = c .before .before in answer-several (f .before .before .before .before .reduce .ensures) (f .find-value .ensures) (c .before .if1 .left) (c .if2 .taken)
 
+substitute-requires : tie.Need-substitute-requires
+substitute-requires c κs =
+    let e = c .before .before in
+    let p = e .before .before .before .before .before .before .reduce .ensures in
+    let columns = e .before .before .before .before .before .before .before .before .before .before .args .columns in
+    let all : columns ≤ e .before .before .before .before .before .before .reduce .result = omega (arith, e .if2 .left) in (
+      room-first (room-same (e .before .before .before .before .before .before .before .before .before .before .pre) (p .size) (p .sizes)) (omega (arith, p .reduced .fits)),
+      λ i j l. p .reduced .unit (omega (arith, p .reduced .few)) i j (omega arith),
+    )
+
 same-length-3 : tie.Need-same-length-3
 same-length-3 c = search needs
 
 returns-3 : tie.Need-returns-3
 returns-3 c =
-    let f = c .before .before in answer-one (f .before .before .before .before .reduce .ensures) (f .find-value .ensures) (c .before .if1 .left) (c .if2 .left)
+    let e = c .before .before .before in
+    let f = e .before .before in
+    answer-one (f .before .before .before .before .reduce .ensures) (f .find-value .ensures) (e .before .if1 .left) (e .if2 .left) (c .substitute .ensures)
 
 pub eliminate-spec : {M : Type 1} → statement M
 eliminate-spec =
@@ -41,5 +56,6 @@ eliminate-spec =
     returns
     same-length-2
     returns-2
+    substitute-requires
     same-length-3
     returns-3)

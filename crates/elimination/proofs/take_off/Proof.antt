@@ -1,0 +1,96 @@
+-- `elimination::take_off` meets its contract, which with i for the last k is the loop's invariant.
+use Prim.Native.Nat.{_+_, _-_, _*_, _/_, _<_, _≤_}
+use native.Mathlib.Nat.{le-antisymm}
+use native.Mathlib.Omega.{arith}
+use lib.ListN.{length}
+use borrow.Author.Needs.{needs}
+use Rattle.parity.specs.Xor.{_⊕_}
+use Rattle.elimination.specs.Packed.{cellOf}
+use Rattle.elimination.specs.Steps.{TakenOff}
+use Rattle.elimination.proofs.Cells.{row-before}
+use Rattle.elimination.proofs.Substitution.{taken-none, taken-more}
+use Rattle.elimination.proofs.take_off.Statement.{statement}
+use Rattle.elimination.proofs.take_off.Tie as tie
+
+abbrev Inv-loop : tie.InvT-loop
+Inv-loop width scratch values₀ k value i₀ values i = (i ≤ k) × TakenOff width k i scratch values₀ values
+
+abbrev μ-loop : tie.MeasureT-loop
+μ-loop width scratch values₀ k value i₀ values i = k - i
+
+mul-value : tie.Need-mul-value Inv-loop μ-loop
+mul-value c = search needs
+
+element-copy-out-value : tie.Need-element-copy-out-value Inv-loop μ-loop
+element-copy-out-value c = search needs
+
+loop-holds : tie.Need-loop-holds Inv-loop μ-loop
+loop-holds c = (search needs, taken-none (c .before .before .pre .3))
+
+-- the value of row i with column k lies in the scratch
+inside : (c : tie.In-loop Inv-loop μ-loop) → (c .before .loop .i) * (c .before .before .before .before .args .width) + (c .before .before .before .before .args .k) / 32
+    < length (c .before .before .before .before .args .scratch .now)
+inside c =
+    let s = c .before .before .before .before in
+    omega (arith, row-before (s .args .width) (c .before .loop .i) (s .args .k) (c .loop-test .taken), s .pre .1, s .pre .2)
+
+mul-share : tie.Need-mul-share Inv-loop μ-loop
+mul-share c = omega (arith, inside c)
+
+add-share : tie.Need-add-share Inv-loop μ-loop
+add-share c = omega (arith, inside c)
+
+mul-share-2 : tie.Need-mul-share-2 Inv-loop μ-loop
+mul-share-2 c = omega (arith, inside c)
+
+shared-slice-read-share : tie.Need-shared-slice-read-share Inv-loop μ-loop
+shared-slice-read-share c = inside (c .before)
+
+share-requires : tie.Need-share-requires Inv-loop μ-loop
+share-requires c κs = search needs
+
+mul-values : tie.Need-mul-values Inv-loop μ-loop
+mul-values c = search needs
+
+element-copy-out-values : tie.Need-element-copy-out-values Inv-loop μ-loop
+element-copy-out-values c = search needs
+
+element-write-values : tie.Need-element-write-values Inv-loop μ-loop
+element-write-values c = search needs
+
+add-i : tie.Need-add-i Inv-loop μ-loop
+add-i c = search needs
+
+loop-less : tie.Need-loop-less Inv-loop μ-loop
+loop-less c = search needs
+
+loop-again : tie.Need-loop-again Inv-loop μ-loop
+unfolding _⊕_ cellOf
+loop-again c =
+    let l = c .before .before .before .before in
+    (search needs, taken-more (omega (arith, l .before .before .before .pre .0)) (c .before .share .ensures) (l .loop .inv .1))
+
+returns : tie.Need-returns Inv-loop μ-loop
+returns c = rw (le-antisymm (c .before .loop .inv .0) (c .loop-test .left)) at (c .before .loop .inv .1)
+
+pub take-off-spec : {M : Type 1} → statement M
+take-off-spec =
+    tie.close
+    (tie.spec
+    Inv-loop
+    μ-loop
+    mul-value
+    element-copy-out-value
+    loop-holds
+    mul-share
+    add-share
+    mul-share-2
+    shared-slice-read-share
+    share-requires
+    mul-values
+    element-copy-out-values
+    element-write-values
+    add-i
+    loop-less
+    loop-again
+    returns)
