@@ -117,9 +117,10 @@ no-choice {s} {places = places} law few h (inr (inr a)) e =
     (few-sure s law (isListed places) (omega (arith, listed-count h)) .one (a .one) (a .another) (a .agrees .codeword) (a .agreesToo .codeword)
     (λ j l n. a .agrees .same j l n ∙ sym (a .agreesToo .same j l n)))
 
-pub sure-fill : {s : Shape} {word places scratch word′ scratch′ : List ℕ} {r : Decoded} → Lawful s → length places < apart (s .n)
+-- with fewer places than codewords are apart the answer is never 14: three if n = 2, five if n is 3 to 5, n beyond (N14)
+pub never-several : {s : Shape} {word places scratch word′ scratch′ : List ℕ} {r : Decoded} → Lawful s → length places < apart (s .n)
     → Filling s word places scratch word′ scratch′ r → r ≡ Refused Refusal.Ambiguous → ⊥
-sure-fill {s} {word} {places} {scratch} {r = r} law few f e =
+never-several {s} {word} {places} {scratch} {r = r} law few f e =
     ⊎-elim
     (λ (h : (e : Refusal) × (fillStatus s word places scratch ≡ status.Refused e)).
     tests-never s word places scratch (h .1 ∙ ap status.Refused (refused-same _ _ r (f .tested (h .0) (h .1) .0) e)))
@@ -127,18 +128,14 @@ sure-fill {s} {word} {places} {scratch} {r = r} law few f e =
     no-choice law few (rising-places (passed s word places scratch h .rises)) (f .decided h .0) e)
     (status-cases (fillStatus s word places scratch))
 
--- n places are few
-apart-above : (n : ℕ) → n < apart n
+-- that takes in N2's limit: n places are always few
+pub n-few : (n : ℕ) → n < apart n
 unfolding apart
-apart-above n =
+n-few n =
     ⊎-elim (λ (t : ltb n 3 ≡ true). rw t (omega (arith, ltb-true n 3 t)))
     (λ (f : ltb n 3 ≡ false).
     rw f (⊎-elim (λ (t : ltb n 6 ≡ true). rw t (omega (arith, ltb-true n 6 t))) (λ (g : ltb n 6 ≡ false). rw g (omega arith)) (either (ltb n 6))))
     (either (ltb n 3))
-
-pub never-several : {s : Shape} {word places scratch word′ scratch′ : List ℕ} {r : Decoded} → Lawful s → length places ≤ s .n
-    → Filling s word places scratch word′ scratch′ r → r ≡ Refused Refusal.Ambiguous → ⊥
-never-several {s} law few = sure-fill law (omega (arith, apart-above (s .n)))
 
 -- ---- no places
 -- what agrees with the word is the word

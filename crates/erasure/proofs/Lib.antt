@@ -6,3 +6,4 @@ pub mod Numbers
 pub mod Systems
 pub mod Answers
 pub mod Filling
+pub mod Examples
