@@ -14,7 +14,7 @@ use Rattle.gtb.specs.Square.{at, Codeword}
 use Rattle.distance.specs.Distance.{differences}
 use Rattle.distance.proofs.Bits.{bit-inside}
 use Rattle.distance.proofs.Hexagon.{eight-members}
-use Rattle.distance.proofs.Distance.{differs, difference-silent, some-differs}
+use Rattle.distance.proofs.Differences.{differs, difference-silent, some-differs}
 
 pub eight : (s : Shape) → Lawful s → 4 ≤ s .n → (v w : List ℕ) → Codeword s v → Codeword s w → (v ≡ w → ⊥) → 8 ≤ differences s v w
 unfolding differences

@@ -1,9 +1,10 @@
 pub mod Pairs
 pub mod Level
 pub mod Six
-pub mod Distance
+pub mod Differences
 pub mod Bits
 pub mod Even
 pub mod Hexagon
 pub mod Eight
+pub mod Distance
 pub mod Examples

@@ -13,9 +13,9 @@ use Rattle.gtb.specs.Square.{at, Codeword}
 unfoldable pub differences : Shape → List ℕ → List ℕ → ℕ
 differences s v w = count (wordLength s) (λ j. not (eqb (at v j) (at w j)))
 
--- so far apart are different codewords at least: n + 1, and four for two directions, six for more
+-- so far apart are different codewords at least: n + 1, and four for two directions, six for three, eight for more
 unfoldable pub apart : ℕ → ℕ
-apart n = cond (ltb n 3) 4 (cond (ltb n 6) 6 (n + 1))
+apart n = cond (ltb n 3) 4 (cond (ltb n 4) 6 (cond (ltb n 8) 8 (n + 1)))
 
 -- different codewords of a shape are that far apart
 pub record Distance (s : Shape) : Type 0 where

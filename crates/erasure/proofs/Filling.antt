@@ -117,7 +117,7 @@ no-choice {s} {places = places} law few h (inr (inr a)) e =
     (few-sure s law (isListed places) (omega (arith, listed-count h)) .one (a .one) (a .another) (a .agrees .codeword) (a .agreesToo .codeword)
     (λ j l n. a .agrees .same j l n ∙ sym (a .agreesToo .same j l n)))
 
--- with fewer places than codewords are apart the answer is never 14: three if n = 2, five if n is 3 to 5, n beyond (N14)
+-- with fewer places than codewords are apart the answer is never 14: three if n = 2, five if n = 3, seven if n is 4 to 7, eight if n = 8
 pub never-several : {s : Shape} {word places scratch word′ scratch′ : List ℕ} {r : Decoded} → Lawful s → length places < apart (s .n)
     → Filling s word places scratch word′ scratch′ r → r ≡ Refused Refusal.Ambiguous → ⊥
 never-several {s} {word} {places} {scratch} {r = r} law few f e =
@@ -134,7 +134,11 @@ unfolding apart
 n-few n =
     ⊎-elim (λ (t : ltb n 3 ≡ true). rw t (omega (arith, ltb-true n 3 t)))
     (λ (f : ltb n 3 ≡ false).
-    rw f (⊎-elim (λ (t : ltb n 6 ≡ true). rw t (omega (arith, ltb-true n 6 t))) (λ (g : ltb n 6 ≡ false). rw g (omega arith)) (either (ltb n 6))))
+    rw f
+    (⊎-elim (λ (t : ltb n 4 ≡ true). rw t (omega (arith, ltb-true n 4 t)))
+    (λ (g : ltb n 4 ≡ false).
+    rw g (⊎-elim (λ (t : ltb n 8 ≡ true). rw t (omega (arith, ltb-true n 8 t))) (λ (h : ltb n 8 ≡ false). rw h (omega arith)) (either (ltb n 8))))
+    (either (ltb n 4))))
     (either (ltb n 3))
 
 -- ---- no places
