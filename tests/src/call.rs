@@ -2,7 +2,7 @@
 
 use crate::reference::filler::fill;
 use crate::reference::page::{read_page, write_page};
-use crate::reference::reader::decode;
+use crate::reference::reader::{decode, looked};
 use crate::reference::session::{Outcome, Session, SESSION_LEN};
 use crate::reference::shape::{Refusal, Shape, SHAPE_LEN};
 use crate::reference::writer::{encode, extract};
@@ -12,6 +12,7 @@ pub enum Entry {
     Encode,
     Extract,
     Decode,
+    Looked,
     Fill,
     ReadPage,
     Marks,
@@ -30,6 +31,7 @@ impl Entry {
             Entry::Encode => &["data", "scratch", "word"],
             Entry::Extract => &["word", "scratch", "data"],
             Entry::Decode | Entry::HostReadWord => &["word"],
+            Entry::Looked => &["word", "looked"],
             Entry::Fill => &["places", "word", "scratch"],
             Entry::ReadPage | Entry::HostReadPage => &["data"],
             Entry::Marks => &["data", "marks"],
@@ -126,6 +128,7 @@ impl Call {
             (Entry::Encode, [data, scratch, word]) => answer_of(encode(shape, data, scratch, word).map(|()| 0)),
             (Entry::Extract, [word, scratch, data]) => answer_of(extract(shape, word, scratch, data).map(|()| 0)),
             (Entry::Decode, [word]) => answer_of(decode(shape, word)),
+            (Entry::Looked, [word, list]) => answer_of(looked(shape, word, list).map(|()| 0)),
             (Entry::Fill, [places, word, scratch]) => answer_of(fill(shape, places, word, scratch)),
             (Entry::ReadPage, [data]) => answer_of(page_answer(shape, data)),
             (Entry::Marks, [data, marks]) => answer_of(marks_part(shape, data, marks)),

@@ -30,6 +30,14 @@ extern "C" {
         data_len: usize,
     ) -> u32;
     fn harness_decode(shape: *const u32, shape_len: usize, word: *mut u32, word_len: usize) -> u32;
+    fn harness_looked(
+        shape: *const u32,
+        shape_len: usize,
+        word: *const u32,
+        word_len: usize,
+        looked: *mut u32,
+        looked_len: usize,
+    ) -> u32;
     fn harness_fill(
         shape: *const u32,
         shape_len: usize,
@@ -115,6 +123,10 @@ pub fn extract(shape: &[u32], word: &[u32], scratch: &mut [u32], data: &mut [u32
 
 pub fn decode(shape: &[u32], word: &mut [u32]) -> u32 {
     unsafe { harness_decode(shape.as_ptr(), shape.len(), word.as_mut_ptr(), word.len()) }
+}
+
+pub fn looked(shape: &[u32], word: &[u32], looked: &mut [u32]) -> u32 {
+    unsafe { harness_looked(shape.as_ptr(), shape.len(), word.as_ptr(), word.len(), looked.as_mut_ptr(), looked.len()) }
 }
 
 pub fn fill(shape: &[u32], places: &[u32], word: &mut [u32], scratch: &mut [u32]) -> u32 {

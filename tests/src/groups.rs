@@ -7,6 +7,7 @@ pub mod erasures;
 mod faults;
 pub mod figures;
 pub mod idle;
+pub mod looked;
 #[cfg(not(feature = "reference-only"))]
 pub mod pages;
 pub mod reference;

@@ -18,6 +18,7 @@ impl Call {
                 ffi::extract(shape, word.lend(), scratch.lend(), data.lend()).into()
             }
             (Entry::Decode, [word]) => ffi::decode(shape, word.lend()).into(),
+            (Entry::Looked, [word, looked]) => ffi::looked(shape, word.lend(), looked.lend()).into(),
             (Entry::Fill, [places, word, scratch]) => {
                 ffi::fill(shape, places.lend(), word.lend(), scratch.lend()).into()
             }

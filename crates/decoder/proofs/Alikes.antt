@@ -1,8 +1,8 @@
 -- Reading looks at the first n - 1 slopes alone.
 use mathlib.Core.Path.{_≡_, ap, ap₂, _∙_}
-use mathlib.Core.Bool.{Bool, not, _&&_}
+use mathlib.Core.Bool.{Bool, not, cond, _&&_}
 use mathlib.Core.List.{List}
-use Prim.Native.Nat.{ℕ, _-_, _<_}
+use Prim.Native.Nat.{ℕ, _+_, _-_, _<_}
 use lib.Dec.{eqb, leb}
 use lib.ListN.{length}
 use Rattle.parity.specs.Xor.{_⊕_, when}
@@ -11,6 +11,7 @@ use Rattle.parity.proofs.First.{first-cong}
 use Rattle.parity.proofs.Sums.{count-cong}
 use Rattle.parity.proofs.Tests.{all-cong, any-cong}
 use Rattle.parity.proofs.Lists.{tabulate-cong}
+use Rattle.parity.proofs.Lowest.{lowest-cong}
 use Rattle.gtb.specs.declared.Shape.{Shape}
 use Rattle.gtb.specs.declared.Refusal.{Refusal}
 use Rattle.gtb.specs.Shape.{wordLength}
@@ -20,6 +21,9 @@ use Rattle.gtb.specs.Alike.{reslope, Alike}
 use Rattle.gtb.proofs.Alikes.{lawful-alike, refusal-alike, line-alike, syndrome-alike, silent-alike}
 use Rattle.correction.specs.declared.Decoded.the-variants.{Corrected, Refused}
 use Rattle.correction.specs.Error.{onCheck, mended}
+use Rattle.gtb.specs.declared.Status.{Status}
+use Rattle.gtb.specs.declared.Status.the-variants as status
+use Rattle.decoder.specs.Looking.{lookedAt, lookingOf}
 use Rattle.decoder.specs.Decode.{located, alone, errorAt, restored, correctable, decodeOf}
 
 module _ (s : Shape) (slopes : List ℕ) (alike : Alike s slopes) where
@@ -70,3 +74,16 @@ module _ (s : Shape) (slopes : List ℕ) (alike : Alike s slopes) where
       (unless (eqb (length w) (wordLength s)) (Refused Refusal.Length)
       (unless (narrow (s .b) w) (Refused Refusal.Width)
       (unless (correctable-alike w i) (Refused Refusal.Uncorrectable) (Corrected (count-alike w i)))))
+
+  -- the checks looked at, and the answer of `looked`
+  pub looked-alike : (f : ℕ → ℕ) (j : ℕ) → lookedAt (reslope s slopes) f j ≡ lookedAt s f j
+  unfolding lookedAt
+  looked-alike f j = λ i.
+      cond (located-alike f j i) (s .n) (lowest-cong (s .n) _ _ (λ t l. ap (λ (x : ℕ). not (eqb x 0)) (check-alike f j t l)) i + 1)
+
+  pub looking-alike : (w looked : List ℕ) → lookingOf (reslope s slopes) w looked ≡ lookingOf s w looked
+  unfolding lookingOf
+  looking-alike w looked = λ i.
+      unless (lawful-alike s slopes alike i) (status.Refused (refusal-alike s slopes alike i))
+      (unless (eqb (length w) (wordLength s) && eqb (length looked) (wordLength s)) (status.Refused Refusal.Length)
+      (unless (narrow (s .b) w) (status.Refused Refusal.Width) status.Done))

@@ -1,4 +1,5 @@
 pub mod Numbers
+pub mod Looks
 pub mod Shifts
 pub mod Listing
 pub mod Private
@@ -6,5 +7,6 @@ pub mod Reading
 pub mod Answers
 pub mod Clean
 pub mod Meaning
+pub mod Judging
 pub mod Alikes
 pub mod Refusals

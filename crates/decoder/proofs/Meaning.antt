@@ -35,7 +35,7 @@ module _ (s : Shape) (w v : List ℕ) (k : ℕ) (x : Explains s w v k) where
   explained-word = rw (x .received) (damaged-word s v (x .error) (x .codeword .word) (x .word))
 
   -- the codeword received with a clean error
-  explained : Received s (at w) (at v) (at (x .error))
+  pub explained : Received s (at w) (at v) (at (x .error))
   explained = record {
     quiet = x .codeword .checks;
     clean = x .unmasked;

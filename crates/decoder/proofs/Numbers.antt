@@ -5,17 +5,13 @@ use mathlib.Core.List.{List}
 use Prim.Native.Nat.{ℕ, _+_, _*_, _<_}
 use native.Mathlib.Nat.{suc-mul}
 use native.Mathlib.Numerals.{add-one}
-use native.Mathlib.Omega.{arith}
 use lib.Arith.{digits-lt, digits-div}
 use lib.Dec.{eqb}
 use borrow.Author.Tests.{eq-eqb, ne-eqb}
-use Rattle.parity.proofs.Tests.{all-no}
 use Rattle.gtb.specs.declared.Shape.{Shape}
-use Rattle.gtb.specs.Shape.{Lawful, wordLength}
+use Rattle.gtb.specs.Shape.{wordLength}
 use Rattle.gtb.specs.Square.{at}
-use Rattle.gtb.proofs.Bounds.{bounds}
 use Rattle.correction.proofs.CheckNumbers.{check-row}
-use Rattle.decoder.specs.Steps.{judged}
 use Rattle.correction.specs.Error.{checkOf}
 
 -- what an entry shows, read at an equal place
@@ -36,8 +32,3 @@ next-row row q = ap (λ (x : ℕ). x * q) (add-one row) ∙ suc-mul row q
 -- the row's own check
 pub own-check : (s : Shape) (row : ℕ) {c : ℕ} → c < s .q → row ≡ checkOf s (row * s .q + c) 0
 own-check s row {c} l = sym (digits-div row l) ∙ check-row s 0 (row * s .q + c) refl
-
--- no position of a row whose own check is silent is located
-pub silent-row : (s : Shape) → Lawful s → (syn : List ℕ) (row : ℕ) → at syn row ≡ 0 → (c : ℕ) → c < s .q → judged s syn (row * s .q + c) ≡ false
-unfolding judged
-silent-row s h syn row z c l = all-no (s .n) _ 0 (let b = bounds s h in omega arith) (silent syn (own-check s row l) z)

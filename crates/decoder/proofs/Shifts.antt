@@ -9,14 +9,15 @@ use borrow.Author.Count.{below-more}
 use lib.Dec.{eqb}
 use lib.ListN.{set, replicate, length-set}
 use lib.Seq.{getD-set-same, getD-set-other}
-use Rattle.parity.proofs.Tests.{all-no, all-intro}
 use Rattle.gtb.specs.declared.Shape.{Shape}
 use Rattle.gtb.specs.Shape.{Lawful, slopeOf}
 use Rattle.gtb.specs.Square.{lineOf, at}
 use Rattle.gtb.proofs.Lines.{line-at}
-use Rattle.decoder.specs.Steps.{judged, Shifts}
+use Rattle.decoder.specs.declared.locate.Judged.{Judged}
+use Rattle.decoder.specs.Steps.{Judges, Shifts}
 use Rattle.correction.specs.Error.{checkOf}
 use Rattle.decoder.proofs.Numbers.{own-check, loud, silent}
+use Rattle.decoder.proofs.Looks.{judges-first, judges-all}
 use Rattle.gtb.proofs.Bounds.{positive}
 
 -- ---- the list of the shifts
@@ -59,16 +60,18 @@ module _ {s : Shape} {row : ℕ} {shifts : List ℕ} (given : Shifts s row (s .n
   shift-check : (t c : ℕ) {x : ℕ} → c < s .q → t < s .n → 1 ≤ t → x ≡ (c + at shifts t) % s .q → t * s .q + x ≡ checkOf s (row * s .q + c) t
   shift-check t c lc lt one e = ap (λ (y : ℕ). t * s .q + y) (e ∙ shift-line t c lc lt one)
 
-  -- `judge`: a silent check, or none
-  pub judged-silent : (syn : List ℕ) (t c : ℕ) {x : ℕ} → c < s .q → t < s .n → 1 ≤ t → x ≡ (c + at shifts t) % s .q
-      → at syn (t * s .q + x) ≡ 0 → judged s syn (row * s .q + c) ≡ false
-  unfolding judged
-  judged-silent syn t c lc lt one e z = all-no (s .n) _ t lt (silent syn (shift-check t c lc lt one e) z)
+  -- the checks in the directions below m, that of the row with them
+  loud-check : {syn : List ℕ} {c m : ℕ} → c < s .q → m ≤ s .n → (at syn row ≡ 0 → ⊥) → Loud (s .q) syn shifts c m
+      → (u : ℕ) → u < m → not (eqb (at syn (checkOf s (row * s .q + c) u)) 0) ≡ true
+  loud-check {syn} lc lm ne l zero lu = loud syn (own-check s row lc) ne
+  loud-check {syn} {c} lc lm ne l (suc u) lu = loud syn (shift-check (suc u) c lc (omega arith) (omega arith) refl) (l .loud (suc u) lu (omega arith))
 
-  pub judged-loud : {syn : List ℕ} {c : ℕ} → c < s .q → (at syn row ≡ 0 → ⊥) → Loud (s .q) syn shifts c (s .n) → judged s syn (row * s .q + c) ≡ true
-  unfolding judged
-  judged-loud {syn} {c} lc ne l = all-intro (s .n) _ each
-    where
-      each : (u : ℕ) → u < s .n → not (eqb (at syn (checkOf s (row * s .q + c) u)) 0) ≡ true
-      each zero lu = loud syn (own-check s row lc) ne
-      each (suc u) lu = loud syn (shift-check (suc u) c lc lu (omega arith) refl) (l .loud (suc u) lu (omega arith))
+  -- `judge`: the first silent check, or none
+  pub judges-silent : (syn : List ℕ) (t c : ℕ) {x : ℕ} {r : Judged} → c < s .q → t < s .n → 1 ≤ t → (at syn row ≡ 0 → ⊥) → Loud (s .q) syn shifts c t
+      → x ≡ (c + at shifts t) % s .q → at syn (t * s .q + x) ≡ 0 → r .located ≡ false → r .looked ≡ t + 1 → Judges s syn (row * s .q + c) r
+  judges-silent syn t c lc lt one ne l e z lost is =
+      judges-first s syn (row * s .q + c) t lt (loud-check lc (omega arith) ne l) (silent syn (shift-check t c lc lt one e) z) lost is
+
+  pub judges-loud : {syn : List ℕ} {c : ℕ} {r : Judged} → c < s .q → (at syn row ≡ 0 → ⊥) → Loud (s .q) syn shifts c (s .n)
+      → r .located ≡ true → r .looked ≡ s .n → Judges s syn (row * s .q + c) r
+  judges-loud {syn} {c} lc ne l found is = judges-all s syn (row * s .q + c) (loud-check lc (omega arith) ne l) found is

@@ -1,3 +1,4 @@
 pub mod Damage
 pub mod Decode
+pub mod Looking
 pub mod Steps

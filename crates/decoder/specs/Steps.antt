@@ -1,12 +1,12 @@
 -- What the private steps of reading establish. They see the syndromes in their table alone, `syn` here: check t × q + L at that place.
 use mathlib.Core.Path.{_≡_}
-use mathlib.Core.Bool.{Bool, true, false, not, _&&_}
+use mathlib.Core.Bool.{Bool, true, false, not, cond, _&&_}
 use mathlib.Core.List.{List}
-use Prim.Native.Nat.{ℕ, _*_, _%_, _<_, _≤_}
+use Prim.Native.Nat.{ℕ, _+_, _*_, _%_, _<_, _≤_}
 use lib.Dec.{eqb}
 use lib.ListN.{length}
 use Rattle.parity.specs.Xor.{xorSum, when}
-use Rattle.parity.specs.Count.{count, any, all, firstValue}
+use Rattle.parity.specs.Count.{count, any, all, lowestNot, firstValue}
 use Rattle.gtb.specs.declared.Shape.{Shape}
 use Rattle.gtb.specs.declared.Refusal.{Refusal}
 use Rattle.gtb.specs.Shape.{wordLength, slopeOf}
@@ -17,11 +17,31 @@ use Rattle.gtb.specs.Answer.{unless}
 use Rattle.correction.specs.Error.{checkOf}
 use Rattle.correction.specs.Answer.{decodedWord}
 use Rattle.correction.specs.Steps.{Within, Lists}
+use Rattle.decoder.specs.declared.locate.Judged.{Judged}
 use Rattle.decoder.specs.Decode.{located, errorAt, restored, correctable}
 
 -- `located` by the table: all n checks on position j are nonzero
 unfoldable pub judged : Shape → List ℕ → ℕ → Bool
 judged s syn j = all (s .n) (λ t. not (eqb (at syn (checkOf s j t)) 0))
+
+-- `lookedAt` by the table: the checks on j in rising direction, up to and with the first silent one, or all n
+unfoldable pub lookedIn : Shape → List ℕ → ℕ → ℕ
+lookedIn s syn j = cond (judged s syn j) (s .n) (lowestNot (s .n) (λ t. not (eqb (at syn (checkOf s j t)) 0)) + 1)
+
+-- the judging of one position
+pub record Judges (s : Shape) (syn : List ℕ) (j : ℕ) (r : Judged) : Type 0 where
+  pub located : r .located ≡ judged s syn j
+  pub looked : r .looked ≡ lookedIn s syn j
+
+-- a row whose own check is silent is passed over as a whole: each of its positions is then judged, with one look
+pub record PassedOver (s : Shape) (syn : List ℕ) (row : ℕ) : Type 0 where
+  pub located : (c : ℕ) → c < s .q → judged s syn (row * s .q + c) ≡ false
+  pub looked : (c : ℕ) → c < s .q → lookedIn s syn (row * s .q + c) ≡ 1
+
+-- a list of N values whose first m are the numbers of checks looked at
+pub record Noted (s : Shape) (syn : List ℕ) (m : ℕ) (looked : List ℕ) : Type 0 where
+  pub size : length looked ≡ wordLength s
+  pub entry : (j : ℕ) → j < m → at looked j ≡ lookedIn s syn j
 
 -- a row in the directions 1 .. m - 1: column c is on line c + shift modulo q
 pub record Shifts (s : Shape) (row m : ℕ) (shifts : List ℕ) : Type 0 where

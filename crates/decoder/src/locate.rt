@@ -6,10 +6,10 @@ ghost use Prim.Native.Nat.{_+_, _*_, _<_};
 ghost use lib.ListN.{length};
 ghost use Rattle.gtb.specs.Shape.{Lawful, wordLength};
 ghost use Rattle.gtb.specs.Square.{at};
-ghost use Rattle.decoder.specs.Steps.{judged, Shifts, Listed, Scanned};
+ghost use Rattle.decoder.specs.Steps.{judged, Judges, PassedOver, Shifts, Listed, Scanned};
 
 // Column c of the row is on line c + shift modulo q of a direction from 1 on. The shifts: slope × row modulo q.
-fn shifts_of(shape: Shape, row: usize) -> [usize; 8]
+pub fn shifts_of(shape: Shape, row: usize) -> [usize; 8]
     requires { ⌜ Lawful shape × (row < shape .q) ⌝ }
     ensures { λ r. ⌜ Shifts shape row (shape .n) r ⌝ }
 {
@@ -22,46 +22,74 @@ fn shifts_of(shape: Shape, row: usize) -> [usize; 8]
     shifts
 }
 
-// The position in this row and column is located: none of its checks is silent. That of the row is not, so only the others are
-// looked at, in rising direction, up to the first silent one; `row` itself is for the contract alone.
-fn judge(shape: Shape, syn: &[u32; 248], shifts: &[usize; 8], row: usize, column: usize) -> bool
-    requires { ⌜ Lawful shape × Shifts shape row (shape .n) (now shifts) × (at (now syn) row ≡ 0 → ⊥) × (column < shape .q) ⌝ }
-    ensures { λ r. ⌜ r ≡ judged shape (now (syn .entry)) (row * shape .q + column) ⌝ }
+// What is known of a position once it is judged: whether it is located, and how many of its checks were looked at.
+pub struct Judged {
+    pub located: bool,
+    pub looked: u32,
+}
+
+// The position in this row and column is located if none of its checks is silent. They are looked at in rising direction, that of
+// the row first, whose value `own` is, up to the first silent one.
+pub fn judge(
+    shape: Shape,
+    syn: &[u32; 248],
+    own: u32,
+    shifts: &[usize; 8],
+    row: usize,
+    column: usize,
+) -> Judged
+    requires { ⌜ Lawful shape × Shifts shape row (shape .n) (now shifts) × (own ≡ at (now syn) row) × (column < shape .q) ⌝ }
+    ensures { λ r. ⌜ Judges shape (now (syn .entry)) (row * shape .q + column) r ⌝ }
 {
+    if own == 0 {
+        return Judged {
+            located: false,
+            looked: 1,
+        };
+    }
     let q = shape.q as usize;
     let n = shape.n as usize;
     for t in 1..n {
         let line = gtb::add_mod(column, shifts[t], q);
         if syn[t * q + line] == 0 {
-            return false;
+            let looked = t as u32 + 1;
+            return Judged {
+                located: false,
+                looked: looked,
+            };
         }
     }
-    true
+    Judged {
+        located: true,
+        looked: shape.n,
+    }
 }
 
 // The position in this row and column joins the list if it is located.
 fn keep(
     shape: Shape,
     syn: &[u32; 248],
+    own: u32,
     shifts: &[usize; 8],
     row: usize,
     column: usize,
     places: &mut [usize; 8],
     count: usize,
 ) -> usize
-    requires { ⌜ Lawful shape × Shifts shape row (shape .n) (now shifts) × (at (now syn) row ≡ 0 → ⊥) × (row < shape .q) × (column < shape .q)
+    requires { ⌜ Lawful shape × Shifts shape row (shape .n) (now shifts) × (own ≡ at (now syn) row) × (row < shape .q) × (column < shape .q)
         × (count < shape .n) × Listed (judged shape (now syn)) (row * shape .q + column) count (now places) ⌝ }
     ensures { λ r. ⌜ Listed (judged shape (now (syn .entry))) (row * shape .q + column + 1) r (now (places .exit)) ⌝ }
 {
     let q = shape.q as usize;
-    if judge(shape, syn, shifts, row, column) {
+    let judged = judge(shape, syn, own, shifts, row, column);
+    if judged.located {
         places[count] = row * q + column;
         return count + 1;
     }
     count
 }
 
-// One row; no position of a row whose own check is silent is located.
+// One row. One whose own check is silent is passed over as a whole: its positions are judged with one look.
 fn scan_row(
     shape: Shape,
     syn: &[u32; 248],
@@ -70,9 +98,11 @@ fn scan_row(
     count: usize,
 ) -> usize
     requires { ⌜ Lawful shape × (row < shape .q) × (count < shape .n) × Listed (judged shape (now syn)) (row * shape .q) count (now places) ⌝ }
-    ensures { λ r. ⌜ Scanned (judged shape (now (syn .entry))) (shape .n) (row * shape .q + shape .q) r (now (places .exit)) ⌝ }
+    ensures { λ r. ⌜ Scanned (judged shape (now (syn .entry))) (shape .n) (row * shape .q + shape .q) r (now (places .exit))
+        × (at (now (syn .entry)) row ≡ 0 → PassedOver shape (now (syn .entry)) row) ⌝ }
 {
-    if syn[row] == 0 {
+    let check = syn[row];
+    if check == 0 {
         return count;
     }
     let q = shape.q as usize;
@@ -80,7 +110,7 @@ fn scan_row(
     let shifts = shifts_of(shape, row);
     let mut found = count;
     for c in 0..q {
-        found = keep(shape, syn, &shifts, row, c, places, found);
+        found = keep(shape, syn, check, &shifts, row, c, places, found);
         if n <= found {
             return n;
         }

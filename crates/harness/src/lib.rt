@@ -16,6 +16,7 @@ ghost use mathlib.Core.Path.{_≡_};
 ghost use Rattle.gtb.specs.Answer.{statusNumber};
 ghost use Rattle.encoder.specs.Contract.{Encoding, Extraction};
 ghost use Rattle.decoder.specs.Decode.{Decoding};
+ghost use Rattle.decoder.specs.Looking.{Looking};
 ghost use Rattle.correction.specs.Answer.{decodedNumber};
 ghost use Rattle.erasure.specs.Fill.{Filling};
 ghost use Rattle.page.specs.Page.{Writing};
@@ -60,6 +61,17 @@ pub extern "C" fn harness_decode(shape: &[u32], word: &mut [u32]) -> u32
         return gtb::number::refused(Refusal::Length);
     }
     correction::number::decoded(decoder::decode(load_shape(shape), word))
+}
+
+// How many checks of each symbol decoding looks at.
+#[no_mangle]
+pub extern "C" fn harness_looked(shape: &[u32], word: &[u32], looked: &mut [u32]) -> u32
+    ensures { λ r. ⌜ Shaped (now (shape .entry)) (λ s. Crosses statusNumber (Looking s (now (word .entry)) (now (looked .entry)) (now (looked .exit))) r) (now (looked .exit) ≡ now (looked .entry)) r ⌝ }
+{
+    if shape.len() != SHAPE {
+        return gtb::number::refused(Refusal::Length);
+    }
+    gtb::number::status(decoder::looked(load_shape(shape), word, looked))
 }
 
 #[no_mangle]

@@ -8,10 +8,11 @@ use crate::reference::session::{Session, LOWEST_AT, PAGES_AT, SESSION_LEN};
 use crate::reference::shape::{Refusal, Shape};
 use crate::reference::writer::codeword;
 
-pub const ENTRIES: [Entry; 12] = [
+pub const ENTRIES: [Entry; 13] = [
     Entry::Encode,
     Entry::Extract,
     Entry::Decode,
+    Entry::Looked,
     Entry::Fill,
     Entry::ReadPage,
     Entry::Marks,
@@ -41,6 +42,10 @@ pub fn good(entry: Entry, shape: Shape, random: &mut Random) -> Call {
         Entry::Encode => Call::new(entry, shape, &[&data, &scratch, &random.numbers(word.len())]),
         Entry::Extract => Call::new(entry, shape, &[&word, &scratch, &random.numbers(data.len())]),
         Entry::Decode => Call::new(entry, shape, &[&damaged(shape, codeword(shape, &data), random)]),
+        Entry::Looked => {
+            let word = damaged(shape, codeword(shape, &data), random);
+            Call::new(entry, shape, &[&word, &random.numbers(word.len())])
+        }
         Entry::Fill => {
             let places = some_places(shape, random);
             let mut word = codeword(shape, &data);

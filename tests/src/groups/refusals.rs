@@ -12,10 +12,11 @@ use crate::report::{Group, Unit, Verdict};
 use crate::shrink::expect;
 
 /// Those that test the width of a slice.
-const WIDE: [Entry; 8] = [
+const WIDE: [Entry; 9] = [
     Entry::Encode,
     Entry::Extract,
     Entry::Decode,
+    Entry::Looked,
     Entry::Fill,
     Entry::ReadPage,
     Entry::Marks,

@@ -30,6 +30,24 @@ fn propose(shape: Shape, received: &[u32]) -> Option<Vec<u32>> {
     Some(error)
 }
 
+/// How many checks of each symbol are looked at, in rising direction: up to and with the first whose
+/// value is zero, or all of them.
+pub fn looked(shape: Shape, word: &[u32], list: &mut [u32]) -> Result<(), Refusal> {
+    shape.judge()?;
+    if word.len() != shape.word_len() || list.len() != shape.word_len() {
+        return Err(Refusal::Length);
+    }
+    if !shape.all_fit(word) {
+        return Err(Refusal::Width);
+    }
+    let values = syndromes(shape, word);
+    for (j, number) in list.iter_mut().enumerate() {
+        let silent = checks_on(shape, j).position(|check| values[check] == 0);
+        *number = silent.map_or(shape.n, |t| t as u32 + 1);
+    }
+    Ok(())
+}
+
 /// Restores the word and gives the number of symbols changed.
 pub fn decode(shape: Shape, word: &mut [u32]) -> Result<u32, Refusal> {
     shape.judge()?;

@@ -43,10 +43,10 @@ add-result : tie.Need-add-result
 add-result c = omega (arith, room c)
 
 returns : tie.Need-returns
-returns c = listed-keep (sym (c .before .judge .ensures) ∙ c .if1 .taken) (room c) (c .before .before .before .pre .6)
+returns c = listed-keep (sym (c .before .judge .ensures .located) ∙ c .if1 .taken) (room c) (c .before .before .before .pre .6)
 
 returns-2 : tie.Need-returns-2
-returns-2 c = listed-skip (sym (c .before .judge .ensures) ∙ c .if1 .left) (c .before .before .before .pre .6)
+returns-2 c = listed-skip (sym (c .before .judge .ensures .located) ∙ c .if1 .left) (c .before .before .before .pre .6)
 
 pub keep-spec : {M : Type 1} → statement M
 keep-spec =

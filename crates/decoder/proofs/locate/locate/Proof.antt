@@ -37,7 +37,7 @@ returns : tie.Need-returns Inv-loop μ-loop
 returns c =
     let s = c .before .before .before .before .before .before .before .args .shape in
     let row = c .before .before .before .before .loop .row in
-    scanned-many (row * s .q + s .q) (row-in row (s .q) (c .before .before .before .loop-test .taken)) (c .before .scan-row .ensures .many (c .if1 .taken))
+    scanned-many (row * s .q + s .q) (row-in row (s .q) (c .before .before .before .loop-test .taken)) (c .before .scan-row .ensures .0 .many (c .if1 .taken))
 
 add-row : tie.Need-add-row Inv-loop μ-loop
 add-row c = search needs
@@ -46,7 +46,7 @@ loop-less : tie.Need-loop-less Inv-loop μ-loop
 loop-less c = search needs
 
 loop-again : tie.Need-loop-again Inv-loop μ-loop
-loop-again c = (search needs, c .if1 .left, rw next-row (c .before .scan-row .ensures .few (c .if1 .left)))
+loop-again c = (search needs, c .if1 .left, rw next-row (c .before .scan-row .ensures .0 .few (c .if1 .left)))
 
 returns-2 : tie.Need-returns-2 Inv-loop μ-loop
 returns-2 c = scanned-few (c .before .loop .inv .1) (rw (le-antisymm (c .before .loop .inv .0) (c .loop-test .left)) at (c .before .loop .inv .2))

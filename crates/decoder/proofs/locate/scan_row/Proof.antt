@@ -1,35 +1,37 @@
 -- `decoder::locate::scan_row` meets its contract. The loop's invariant: the list holds the located positions up to here, fewer than n.
+use mathlib.Core.Path.{refl}
 use Prim.Native.Nat.{_+_, _-_, _*_, _<_, _≤_}
 use Rattle.decoder.specs.Steps.{judged, Listed}
 use native.Mathlib.Nat.{add-zero, add-assoc, le-antisymm}
 use native.Mathlib.Omega.{arith}
 use borrow.Author.Needs.{needs}
 use Rattle.gtb.proofs.Bounds.{bounds}
-use Rattle.decoder.proofs.Numbers.{silent-row}
+use Rattle.decoder.proofs.Looks.{passed-over}
 use Rattle.decoder.proofs.Listing.{listed-skips, scanned-few, scanned-many}
 use Rattle.decoder.proofs.locate.scan_row.Statement.{statement}
 use Rattle.decoder.proofs.locate.scan_row.Tie as tie
 
 abbrev Inv-loop : tie.InvT-loop
-Inv-loop shape syn row places₀ count q n shifts found₀ c₀ places found c = (c ≤ q) × (found < n) × Listed (judged shape syn) (row * q + c) found places
+Inv-loop shape syn row places₀ count check q n shifts found₀ c₀ places found c = (c ≤ q) × (found < n) × Listed (judged shape syn) (row * q + c) found places
 
 abbrev μ-loop : tie.MeasureT-loop
-μ-loop shape syn row places₀ count q n shifts found₀ c₀ places found c = q - c
+μ-loop shape syn row places₀ count check q n shifts found₀ c₀ places found c = q - c
 
 -- a row's own check is in the table
 inside : (c : tie.Start Inv-loop μ-loop) → c .args .row < 248
 inside c = omega (arith, bounds (c .args .shape) (c .pre .0) .q31)
 
-mul-if1 : tie.Need-mul-if1 Inv-loop μ-loop
-mul-if1 c = omega (arith, inside c)
+mul-check : tie.Need-mul-check Inv-loop μ-loop
+mul-check c = omega (arith, inside c)
 
-element-copy-out-if1 : tie.Need-element-copy-out-if1 Inv-loop μ-loop
-element-copy-out-if1 c = inside c
+element-copy-out-check : tie.Need-element-copy-out-check Inv-loop μ-loop
+element-copy-out-check c = inside c
 
 returns : tie.Need-returns Inv-loop μ-loop
 returns c =
     let s = c .before .before in
-    scanned-few (s .pre .2) (listed-skips (s .args .shape .q) (silent-row (s .args .shape) (s .pre .0) (s .args .syn .now) (s .args .row) (c .if1 .taken)) (s .pre .3))
+    let passed = passed-over (s .args .shape) (s .pre .0) (s .args .syn .now) (s .args .row) (c .if1 .taken) in
+    (scanned-few (s .pre .2) (listed-skips (s .args .shape .q) (passed .located) (s .pre .3)), λ _. passed)
 
 cast-q : tie.Need-cast-q Inv-loop μ-loop
 cast-q c = search needs
@@ -50,12 +52,16 @@ keep-requires c κs =
     let l = c .before .before .before in
     let e = l .before .before .before .before in
     let p = e .before .before .pre in
-    (p .0, l .before .shifts-of .ensures, e .if1 .left, p .1, c .before .before .loop-test .taken, l .loop .inv .1, l .loop .inv .2)
+    (p .0, l .before .shifts-of .ensures, refl, p .1, c .before .before .loop-test .taken, l .loop .inv .1, l .loop .inv .2)
 
 returns-2 : tie.Need-returns-2 Inv-loop μ-loop
 returns-2 c =
-    let s = c .before .before .before .before .before .before .before .before .before .before .before .args in
-    scanned-many (s .row * s .shape .q + c .before .before .before .before .before .loop .c + 1) (omega arith) (omega (arith, c .before .keep .ensures .counted))
+    let loop = c .before .before .before .before .before in
+    let e = loop .before .before .before .before in
+    let s = e .before .before .args in (
+      scanned-many (s .row * s .shape .q + loop .loop .c + 1) (omega arith) (omega (arith, c .before .keep .ensures .counted)),
+      λ z. absurd (e .if1 .left z),
+    )
 
 add-c : tie.Need-add-c Inv-loop μ-loop
 add-c c = search needs
@@ -67,7 +73,11 @@ loop-again : tie.Need-loop-again Inv-loop μ-loop
 loop-again c = (search needs, c .if2 .left, rw (← add-assoc) (c .before .keep .ensures))
 
 returns-3 : tie.Need-returns-3 Inv-loop μ-loop
-returns-3 c = scanned-few (c .before .loop .inv .1) (rw (le-antisymm (c .before .loop .inv .0) (c .loop-test .left)) at (c .before .loop .inv .2))
+returns-3 c =
+    let e = c .before .before .before .before .before in (
+      scanned-few (c .before .loop .inv .1) (rw (le-antisymm (c .before .loop .inv .0) (c .loop-test .left)) at (c .before .loop .inv .2)),
+      λ z. absurd (e .if1 .left z),
+    )
 
 pub scan-row-spec : {M : Type 1} → statement M
 scan-row-spec =
@@ -75,8 +85,8 @@ scan-row-spec =
     (tie.spec
     Inv-loop
     μ-loop
-    mul-if1
-    element-copy-out-if1
+    mul-check
+    element-copy-out-check
     returns
     cast-q
     cast-n

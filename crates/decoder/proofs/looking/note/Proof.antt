@@ -1,0 +1,63 @@
+-- `decoder::looking::note` meets its contract. The loop's invariant: the list is right in the rows passed.
+use Prim.Native.Nat.{_-_, _*_, _≤_}
+use native.Mathlib.Nat.{zero-mul, le-antisymm}
+use borrow.Author.Needs.{needs}
+use Rattle.decoder.specs.Steps.{Noted}
+use Rattle.decoder.proofs.Numbers.{next-row}
+use Rattle.decoder.proofs.Looks.{noted-none, noted-all}
+use Rattle.decoder.proofs.looking.note.Statement.{statement}
+use Rattle.decoder.proofs.looking.note.Tie as tie
+
+abbrev Inv-loop : tie.InvT-loop
+Inv-loop shape word looked₀ syn q row₀ looked row = (row ≤ q) × Noted shape syn (row * q) looked
+
+abbrev μ-loop : tie.MeasureT-loop
+μ-loop shape word looked₀ syn q row₀ looked row = q - row
+
+syndromes-requires : tie.Need-syndromes-requires Inv-loop μ-loop
+syndromes-requires c κs = search needs
+
+cast-q : tie.Need-cast-q Inv-loop μ-loop
+cast-q c = search needs
+
+loop-holds : tie.Need-loop-holds Inv-loop μ-loop
+loop-holds c =
+    let s = c .before .before .before .before in
+    (search needs, rw (zero-mul (s .args .shape .q)) (noted-none _ _ _ (s .pre .2)))
+
+note-row-requires : tie.Need-note-row-requires Inv-loop μ-loop
+note-row-requires c κs = search needs
+
+add-row : tie.Need-add-row Inv-loop μ-loop
+add-row c = search needs
+
+loop-less : tie.Need-loop-less Inv-loop μ-loop
+loop-less c = search needs
+
+loop-again : tie.Need-loop-again Inv-loop μ-loop
+loop-again c = (search needs, rw next-row (c .before .before .note-row .ensures))
+
+same-length : tie.Need-same-length Inv-loop μ-loop
+same-length c = search needs
+
+returns : tie.Need-returns Inv-loop μ-loop
+returns c =
+    let l = c .before in
+    let y = l .before .before in
+    noted-all (y .before .before .before .pre .0) (y .syndromes .ensures) (rw (le-antisymm (l .loop .inv .0) (c .loop-test .left)) at (l .loop .inv .1))
+
+pub note-spec : {M : Type 1} → statement M
+note-spec =
+    tie.close
+    (tie.spec
+    Inv-loop
+    μ-loop
+    syndromes-requires
+    cast-q
+    loop-holds
+    note-row-requires
+    add-row
+    loop-less
+    loop-again
+    same-length
+    returns)

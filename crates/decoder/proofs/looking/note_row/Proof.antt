@@ -1,0 +1,109 @@
+-- `decoder::looking::note_row` meets its contract. The loop's invariant is the contract up to column c.
+use mathlib.Core.Path.{refl}
+use Prim.Native.Nat.{_-_, _+_, _*_, _<_, _≤_}
+use native.Mathlib.Nat.{add-zero, add-assoc, le-antisymm, lt-of-lt-of-le}
+use native.Mathlib.Omega.{arith}
+use borrow.Author.Needs.{needs}
+use Rattle.gtb.specs.Shape.{wordLength}
+use Rattle.gtb.proofs.Bounds.{bounds}
+use Rattle.gtb.proofs.Turns.{square-le}
+use Rattle.decoder.specs.Steps.{Noted}
+use Rattle.decoder.proofs.Numbers.{in-word}
+use Rattle.decoder.proofs.Looks.{noted-more}
+use Rattle.decoder.proofs.looking.note_row.Statement.{statement}
+use Rattle.decoder.proofs.looking.note_row.Tie as tie
+
+abbrev Inv-loop : tie.InvT-loop
+Inv-loop shape syn row looked₀ q own shifts c₀ looked c = (c ≤ q) × Noted shape syn (row * q + c) looked
+
+abbrev μ-loop : tie.MeasureT-loop
+μ-loop shape syn row looked₀ q own shifts c₀ looked c = q - c
+
+cast-q : tie.Need-cast-q Inv-loop μ-loop
+cast-q c = search needs
+
+-- a row's own check is in the table
+table : (c : tie.After-struct-known Inv-loop μ-loop) → c .before .before .args .row < 248
+table c =
+    let s = c .before .before in
+    omega (arith, bounds (s .args .shape) (s .pre .0) .q31)
+
+mul-own : tie.Need-mul-own Inv-loop μ-loop
+mul-own c = omega (arith, table c)
+
+element-copy-out-own : tie.Need-element-copy-out-own Inv-loop μ-loop
+element-copy-out-own c = table c
+
+shifts-of-requires : tie.Need-shifts-of-requires Inv-loop μ-loop
+shifts-of-requires c κs = search needs
+
+loop-holds : tie.Need-loop-holds Inv-loop μ-loop
+loop-holds c =
+    let s = c .before .before .before .before in
+    (search needs, rw (add-zero (s .args .row * s .args .shape .q)) (s .pre .2))
+
+judge-requires : tie.Need-judge-requires Inv-loop μ-loop
+judge-requires c κs =
+    let l = c .before .before in
+    let s = l .before .before .before .before .before in
+    (s .pre .0, l .before .shifts-of .ensures, refl, c .before .loop-test .taken)
+
+-- the position is in the word, and small
+place : (c : tie.After-judge Inv-loop μ-loop) → c .before .before .before .before .before .before .before .before .args .row * c .before .before .before .before .before .before .before .before .args .shape .q + c .before .before .before .loop .c < wordLength (c .before .before .before .before .before .before .before .before .args .shape)
+place c =
+    let s = c .before .before .before .before .before .before .before .before in
+    in-word (s .args .shape) (s .pre .1) (c .before .before .loop-test .taken)
+
+small : (c : tie.After-judge Inv-loop μ-loop) → c .before .before .before .before .before .before .before .before .args .row * c .before .before .before .before .before .before .before .before .args .shape .q + c .before .before .before .loop .c < 961
+small c =
+    let s = c .before .before .before .before .before .before .before .before in
+    lt-of-lt-of-le (place c) (square-le (s .args .shape .q) (bounds (s .args .shape) (s .pre .0) .q31))
+
+mul-looked : tie.Need-mul-looked Inv-loop μ-loop
+mul-looked c = omega (arith, small c)
+
+add-looked : tie.Need-add-looked Inv-loop μ-loop
+add-looked c = omega (arith, small c)
+
+mul-looked-2 : tie.Need-mul-looked-2 Inv-loop μ-loop
+mul-looked-2 c = omega (arith, small c)
+
+slice-write-looked : tie.Need-slice-write-looked Inv-loop μ-loop
+slice-write-looked c = rw (c .before .before .before .loop .inv .1 .size) (place c)
+
+add-c : tie.Need-add-c Inv-loop μ-loop
+add-c c = search needs
+
+loop-less : tie.Need-loop-less Inv-loop μ-loop
+loop-less c = search needs
+
+loop-again : tie.Need-loop-again Inv-loop μ-loop
+loop-again c = (search needs, rw (← add-assoc) (noted-more _ (place c) (c .judge .ensures .looked) (c .before .before .before .loop .inv .1)))
+
+same-length : tie.Need-same-length Inv-loop μ-loop
+same-length c = search needs
+
+returns : tie.Need-returns Inv-loop μ-loop
+returns c = rw (le-antisymm (c .before .loop .inv .0) (c .loop-test .left)) at (c .before .loop .inv .1)
+
+pub note-row-spec : {M : Type 1} → statement M
+note-row-spec =
+    tie.close
+    (tie.spec
+    Inv-loop
+    μ-loop
+    cast-q
+    mul-own
+    element-copy-out-own
+    shifts-of-requires
+    loop-holds
+    judge-requires
+    mul-looked
+    add-looked
+    mul-looked-2
+    slice-write-looked
+    add-c
+    loop-less
+    loop-again
+    same-length
+    returns)
