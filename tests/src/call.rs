@@ -5,6 +5,7 @@ use crate::reference::page::{read_page, write_page};
 use crate::reference::reader::{decode, looked};
 use crate::reference::session::{Outcome, Session, SESSION_LEN};
 use crate::reference::shape::{Refusal, Shape, SHAPE_LEN};
+use crate::reference::voter::decode_majority;
 use crate::reference::writer::{encode, extract};
 
 #[derive(Clone, Copy, Debug, PartialEq, Eq)]
@@ -13,6 +14,7 @@ pub enum Entry {
     Extract,
     Decode,
     Looked,
+    DecodeMajority,
     Fill,
     ReadPage,
     Marks,
@@ -30,7 +32,7 @@ impl Entry {
         match self {
             Entry::Encode => &["data", "scratch", "word"],
             Entry::Extract => &["word", "scratch", "data"],
-            Entry::Decode | Entry::HostReadWord => &["word"],
+            Entry::Decode | Entry::DecodeMajority | Entry::HostReadWord => &["word"],
             Entry::Looked => &["word", "looked"],
             Entry::Fill => &["places", "word", "scratch"],
             Entry::ReadPage | Entry::HostReadPage => &["data"],
@@ -58,7 +60,7 @@ impl Entry {
 }
 
 /// An entry with its arguments. The shape of `Count` and `Arrive` is in the session; `number` is the
-/// page of `WritePage` and the function of `Count`. The host's bytes stand as one number each.
+/// page of `WritePage`, the function of `Count` and the way of `Arrive`. The host's bytes stand as one number each.
 #[derive(Clone, Debug)]
 pub struct Call {
     pub entry: Entry,
@@ -129,13 +131,16 @@ impl Call {
             (Entry::Extract, [word, scratch, data]) => answer_of(extract(shape, word, scratch, data).map(|()| 0)),
             (Entry::Decode, [word]) => answer_of(decode(shape, word)),
             (Entry::Looked, [word, list]) => answer_of(looked(shape, word, list).map(|()| 0)),
+            (Entry::DecodeMajority, [word]) => answer_of(decode_majority(shape, word)),
             (Entry::Fill, [places, word, scratch]) => answer_of(fill(shape, places, word, scratch)),
             (Entry::ReadPage, [data]) => answer_of(page_answer(shape, data)),
             (Entry::Marks, [data, marks]) => answer_of(marks_part(shape, data, marks)),
             (Entry::WritePage, [marks, data]) => answer_of(write_page(shape, self.number, marks, data).map(|()| 0)),
             (Entry::Fresh, [session]) => answer_of(fresh(shape, session)),
             (Entry::Count, [session]) => count(session, self.number),
-            (Entry::Arrive, [session, word, scratch, outcome]) => answer_of(arrive(session, word, scratch, outcome)),
+            (Entry::Arrive, [session, word, scratch, outcome]) => {
+                answer_of(arrive(session, self.number, word, scratch, outcome))
+            }
             (Entry::HostReadWord, [bytes]) => answer_of(host_read_word(shape.standard(), bytes)),
             (Entry::HostReadPage, [bytes]) => answer_of(host_read_page(shape.standard(), bytes)),
             _ => panic!("wrong number of slices for {:?}", self.entry),
@@ -178,12 +183,18 @@ fn count(session: &[u32], function: u32) -> u64 {
 }
 
 /// The session is written back only after a page was taken.
-fn arrive(session: &mut [u32], word: &mut [u32], scratch: &mut [u32], outcome: &mut [u32]) -> Result<u32, Refusal> {
+fn arrive(
+    session: &mut [u32],
+    way: u32,
+    word: &mut [u32],
+    scratch: &mut [u32],
+    outcome: &mut [u32],
+) -> Result<u32, Refusal> {
     if session.len() != SESSION_LEN || outcome.len() != 3 {
         return Err(Refusal::Length);
     }
     let mut state = Session::from_values(session);
-    let answer = state.arrive(word, scratch);
+    let answer = state.arrive(way, word, scratch);
     outcome.copy_from_slice(&answer.values());
     if let Outcome::Taken { .. } = answer {
         session.copy_from_slice(&state.values());

@@ -1,6 +1,7 @@
 //! Errors to put on codewords: some that are easy to tell, and some that mislead a careless reader.
 
 use crate::random::Random;
+use crate::reference::session::{CLEAN, VOTE};
 use crate::reference::shape::Shape;
 use crate::reference::square::{check, is_unmasked};
 
@@ -50,6 +51,21 @@ pub fn unmasked(shape: Shape, weight: usize, random: &mut Random) -> Error {
         }
     }
     crossing_no_check_twice(shape, weight, random)
+}
+
+/// An error that this way of reading must undo.
+pub fn allowed(way: u32, shape: Shape, random: &mut Random) -> Error {
+    match way {
+        CLEAN => {
+            let weight = random.below(shape.n as usize);
+            unmasked(shape, weight, random)
+        }
+        VOTE => {
+            let weight = random.below(shape.most_votes() + 1);
+            make(random.pick(&STYLES), shape, weight, random)
+        }
+        _ => panic!("{way} is no way of reading"),
+    }
 }
 
 pub fn apply(error: &Error, word: &mut [u32]) {

@@ -38,6 +38,7 @@ extern "C" {
         looked: *mut u32,
         looked_len: usize,
     ) -> u32;
+    fn harness_decode_majority(shape: *const u32, shape_len: usize, word: *mut u32, word_len: usize) -> u32;
     fn harness_fill(
         shape: *const u32,
         shape_len: usize,
@@ -71,6 +72,7 @@ extern "C" {
     fn harness_arrive(
         session: *mut u32,
         session_len: usize,
+        way: u32,
         word: *mut u32,
         word_len: usize,
         scratch: *mut u32,
@@ -129,6 +131,10 @@ pub fn looked(shape: &[u32], word: &[u32], looked: &mut [u32]) -> u32 {
     unsafe { harness_looked(shape.as_ptr(), shape.len(), word.as_ptr(), word.len(), looked.as_mut_ptr(), looked.len()) }
 }
 
+pub fn decode_majority(shape: &[u32], word: &mut [u32]) -> u32 {
+    unsafe { harness_decode_majority(shape.as_ptr(), shape.len(), word.as_mut_ptr(), word.len()) }
+}
+
 pub fn fill(shape: &[u32], places: &[u32], word: &mut [u32], scratch: &mut [u32]) -> u32 {
     unsafe {
         harness_fill(
@@ -174,11 +180,12 @@ pub fn count(session: &[u32], function: u32) -> u64 {
     unsafe { harness_count(session.as_ptr(), session.len(), function) }
 }
 
-pub fn arrive(session: &mut [u32], word: &mut [u32], scratch: &mut [u32], outcome: &mut [u32]) -> u32 {
+pub fn arrive(session: &mut [u32], way: u32, word: &mut [u32], scratch: &mut [u32], outcome: &mut [u32]) -> u32 {
     unsafe {
         harness_arrive(
             session.as_mut_ptr(),
             session.len(),
+            way,
             word.as_mut_ptr(),
             word.len(),
             scratch.as_mut_ptr(),

@@ -19,5 +19,7 @@ pub mod slopes;
 pub mod stream;
 pub mod text;
 pub mod vectors;
+pub mod vote;
+pub mod ways;
 #[cfg(not(feature = "reference-only"))]
 pub mod words;

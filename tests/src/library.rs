@@ -19,6 +19,7 @@ impl Call {
             }
             (Entry::Decode, [word]) => ffi::decode(shape, word.lend()).into(),
             (Entry::Looked, [word, looked]) => ffi::looked(shape, word.lend(), looked.lend()).into(),
+            (Entry::DecodeMajority, [word]) => ffi::decode_majority(shape, word.lend()).into(),
             (Entry::Fill, [places, word, scratch]) => {
                 ffi::fill(shape, places.lend(), word.lend(), scratch.lend()).into()
             }
@@ -28,7 +29,7 @@ impl Call {
             (Entry::Fresh, [session]) => ffi::fresh(shape, session.lend()).into(),
             (Entry::Count, [session]) => ffi::count(session.lend(), self.number),
             (Entry::Arrive, [session, word, scratch, outcome]) => {
-                ffi::arrive(session.lend(), word.lend(), scratch.lend(), outcome.lend()).into()
+                ffi::arrive(session.lend(), self.number, word.lend(), scratch.lend(), outcome.lend()).into()
             }
             (Entry::HostReadWord, [bytes]) => bytes.lend_bytes(|bytes| ffi::host_read_word(host_shape, bytes)).into(),
             (Entry::HostReadPage, [bytes]) => bytes.lend_bytes(|bytes| ffi::host_read_page(host_shape, bytes)).into(),

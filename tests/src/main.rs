@@ -5,7 +5,7 @@
 //! the program's are run only where TALLY is set.
 
 use shaftglimmer_tests::call::Call;
-use shaftglimmer_tests::groups::{erasures, figures, idle, looked, reference, slopes, stream, text, vectors};
+use shaftglimmer_tests::groups::{erasures, figures, idle, looked, reference, slopes, stream, text, vectors, vote, ways};
 use shaftglimmer_tests::process::Program;
 use shaftglimmer_tests::report::Report;
 use std::env;
@@ -22,6 +22,8 @@ fn main() -> ExitCode {
     report.run(idle::group("idle marks of the reference", Call::on_reference));
     report.run(erasures::group("dead cells of the reference", Call::on_reference));
     report.run(looked::group("checks looked at, of the reference", Call::on_reference));
+    report.run(vote::group("votes of the reference", Call::on_reference));
+    report.run(ways::group("ways of the reference", Call::on_reference));
     report.run(reference::group());
     library(&mut report);
     program(&mut report);
@@ -48,6 +50,8 @@ fn library(report: &mut Report) {
     report.run(idle::group("idle marks of the library", Call::on_library));
     report.run(erasures::group("dead cells of the library", Call::on_library));
     report.run(looked::group("checks looked at, of the library", Call::on_library));
+    report.run(vote::group("votes of the library", Call::on_library));
+    report.run(ways::group("ways of the library", Call::on_library));
     report.run(codec::group());
     report.run(words::group());
     report.run(refusals::group());

@@ -14,4 +14,5 @@ pub mod reader;
 pub mod session;
 pub mod shape;
 pub mod square;
+pub mod voter;
 pub mod writer;

@@ -6,6 +6,7 @@ pub mod arrival;
 pub mod elimination;
 pub mod straightforward;
 pub mod tuned;
+pub mod vote;
 
 use crate::reference::shape::{Refusal, Shape};
 

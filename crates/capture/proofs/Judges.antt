@@ -29,7 +29,7 @@ use Rattle.session.specs.declared.Arrived.{Arrived}
 use Rattle.session.specs.declared.Outcome.{Outcome}
 use Rattle.session.specs.declared.Outcome.the-variants.{Refused}
 use Rattle.session.specs.declared.Outcome.the-variants as outcome
-use Rattle.session.specs.Arrival.{clean, opened, outcomeOf, sessionAfter, outcomeScratch, Stepping, Bad}
+use Rattle.session.specs.Arrival.{isWay, wayOf, theWays, opened, outcomeOf, sessionAfter, outcomeScratch, Stepping, Bad}
 use Rattle.gtb.specs.Answer.{unless}
 use Rattle.capture.specs.declared.Phase.{Phase}
 use Rattle.capture.specs.declared.Phase.the-variants.{ShapeNames, ShapeValues, WordNames, Words, Ended}
@@ -107,21 +107,21 @@ module _ (σ : Session) {line stored : List ℕ} {count : ℕ} (h : Stored line 
 
 -- an arrival of wrong lengths is turned down whatever they are, and of the scratch only the length counts
 opened-lawful : (s : Shape) (word scratch : List ℕ) → lawful s ≡ true
-    → opened clean s word scratch ≡ unless (eqb (length word) (wordLength s) && eqb (length scratch) (scratchLength s)) (Bad Refusal.Length) (Rattle.session.specs.Arrival.openWord s (clean .word s word) (clean .answer s word))
-unfolding opened
+    → opened theWays s 0 word scratch ≡ unless (eqb (length word) (wordLength s) && eqb (length scratch) (scratchLength s)) (Bad Refusal.Length) (Rattle.session.specs.Arrival.openWord s (wayOf 0 .word s word) (wayOf 0 .answer s word))
+unfolding opened isWay
 opened-lawful s word scratch t = rw t
 
-opened-unlawful : (s : Shape) (word scratch : List ℕ) → lawful s ≡ false → opened clean s word scratch ≡ Rattle.session.specs.Arrival.Bad (shapeRefusal s)
-unfolding opened
+opened-unlawful : (s : Shape) (word scratch : List ℕ) → lawful s ≡ false → opened theWays s 0 word scratch ≡ Rattle.session.specs.Arrival.Bad (shapeRefusal s)
+unfolding opened isWay
 opened-unlawful s word scratch f = rw f
 
-opened-wrong : (s : Shape) (word scratch : List ℕ) → lawful s ≡ true → 961 < length word → opened clean s word scratch ≡ Rattle.session.specs.Arrival.Bad Refusal.Length
+opened-wrong : (s : Shape) (word scratch : List ℕ) → lawful s ≡ true → 961 < length word → opened theWays s 0 word scratch ≡ Rattle.session.specs.Arrival.Bad Refusal.Length
 opened-wrong s word scratch t l =
     rw (opened-lawful s word scratch t, ne-eqb (length word) (wordLength s) (λ e. let z = sizes s t .word in absurd (omega arith)))
 
 pub opened-same : (s : Shape) (xs word scratch : List ℕ) → (length xs ≤ 1024 → word ≡ xs) → (1024 < length xs → length word ≡ 1024)
     → (lawful s ≡ true → length scratch ≡ scratchLength s)
-    → opened clean s word scratch ≡ opened clean s xs (replicate {A = ℕ} (scratchLength s) 0)
+    → opened theWays s 0 word scratch ≡ opened theWays s 0 xs (replicate {A = ℕ} (scratchLength s) 0)
 opened-same s xs word scratch few many room =
     let zeros : List ℕ = replicate {A = ℕ} (scratchLength s) 0 in
     ⊎-elim
@@ -150,12 +150,12 @@ pub cut-many : {count size : ℕ} → 1024 ≤ count → size ≡ 1024 → Cut c
 cut-many l e = record { few = λ m. omega arith; many = λ _. e; most = omega arith }
 
 pub worded-arrived : (σ : Session) {line stored : List ℕ} {count size room : ℕ} → Stored line stored count → length stored ≡ 1024 → Cut count size → Room (σ .shape) room
-    → (scratch : List ℕ) → length scratch ≡ 7471 → {word′ scratch′ : List ℕ} {a : Arrived} → Stepping clean σ (take size stored) (take room scratch) word′ scratch′ a
+    → (scratch : List ℕ) → length scratch ≡ 7471 → {word′ scratch′ : List ℕ} {a : Arrived} → Stepping theWays σ 0 (take size stored) (take room scratch) word′ scratch′ a
     → record { tally = record { phase = Words; session = a .session }; answer = Line (a .outcome) } ≡ worded σ (contentOf line)
 unfolding arrived
 worded-arrived σ {line} {stored} {count} {size} {room} h full cut r scratch long arr =
     let xs = h .values in
-    let brought : opened clean (σ .shape) (take size stored) (take room scratch) ≡ broughtBy σ xs =
+    let brought : opened theWays (σ .shape) 0 (take size stored) (take room scratch) ≡ broughtBy σ xs =
     opened-same (σ .shape) xs (take size stored) (take room scratch)
     (λ l. ap (λ (k : ℕ). take k stored) (cut .few (rw (h .counted) at l)) ∙ word-stored σ h full (rw (h .counted) at l))
     (λ m. length-take-le size stored (omega (arith, cut .most)) ∙ cut .many (rw (h .counted) at m))
@@ -171,7 +171,7 @@ scratch-length x (outcome.Again p k) = length-replicate (length x) 0
 scratch-length x (outcome.Refused e) = scratch-size e x
 
 pub scratch-kept : {σ : Session} {word word′ scratch′ : List ℕ} {a : Arrived} (scratch : List ℕ) (room : ℕ) → length scratch ≡ 7471 → room ≤ 7471
-    → Stepping clean σ word (take room scratch) word′ scratch′ a → length (scratch′ ++ drop room scratch) ≡ 7471
+    → Stepping theWays σ 0 word (take room scratch) word′ scratch′ a → length (scratch′ ++ drop room scratch) ≡ 7471
 scratch-kept {a = a} scratch room long few arr =
     rw (length-append, arr .scratchLeft, scratch-length (take room scratch) (a .outcome), length-take-le room scratch (omega arith), length-drop) (omega arith)
 

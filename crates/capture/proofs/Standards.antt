@@ -19,7 +19,7 @@ use Rattle.session.specs.declared.Session.{Session}
 use Rattle.session.specs.declared.Outcome.{Outcome}
 use Rattle.session.specs.declared.Outcome.the-variants.{Refused}
 use Rattle.session.specs.Session.{freshOf, freshStatus, overflows}
-use Rattle.session.specs.Arrival.{clean, Opened, Page, Bad, opened, outcomeOf}
+use Rattle.session.specs.Arrival.{theWays, Opened, Page, Bad, opened, outcomeOf}
 use Rattle.session.proofs.Openings.{opened-never}
 use Rattle.session.proofs.Alikes.{shape-kept}
 use Rattle.capture.specs.declared.Phase.{Phase}
@@ -102,7 +102,7 @@ words σ (Spelled xs) st =
     arrives σ (broughtBy σ xs) st
     (λ h.
     opened-never (standard (st .q) (st .n) (st .b)) xs (replicate (scratchLength (σ .shape)) 0) Refusal.Slope (slope-foreign (st .q) (st .n) (st .b))
-    (ap (λ (s : Shape). opened clean s xs (replicate (scratchLength (σ .shape)) 0)) (sym (st .shape)) ∙ h))
+    (ap (λ (s : Shape). opened theWays s 0 xs (replicate (scratchLength (σ .shape)) 0)) (sym (st .shape)) ∙ h))
 words σ Unreadable st = record { never = λ h. other-refusal Refusal.Syntax Refusal.Slope refl (cc); next = st }
 
 judges : (phase : Phase) (σ : Session) (line : List ℕ) → Standard σ → Judges (judgedIn phase σ line)

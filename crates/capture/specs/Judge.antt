@@ -14,7 +14,7 @@ use Rattle.lines.specs.Content.{Content, Spelled, Unreadable, contentOf}
 use Rattle.session.specs.declared.Session.{Session}
 use Rattle.session.specs.declared.Outcome.the-variants.{Refused}
 use Rattle.session.specs.Session.{freshOf, freshStatus}
-use Rattle.session.specs.Arrival.{clean, Opened, opened, outcomeOf, sessionAfter}
+use Rattle.session.specs.Arrival.{theWays, Opened, opened, outcomeOf, sessionAfter}
 use Rattle.capture.specs.declared.Phase.{Phase}
 use Rattle.capture.specs.declared.Phase.the-variants.{ShapeNames, ShapeValues, WordNames, Words, Ended}
 use Rattle.capture.specs.declared.Tally.{Tally}
@@ -50,9 +50,9 @@ abbrev pub shaped : Session → Content → Judged
 shaped σ (Spelled xs) = cond (eqb (length xs) 3) (begun σ (shapeIn xs) (freshStatus (shapeIn xs))) (fault σ Refusal.Syntax)
 shaped σ Unreadable = fault σ Refusal.Syntax
 
--- the values of a word line arrive at a session whose figures are right; what the scratch holds has no bearing
+-- the values of a word line arrive, to be read the clean way, number 0, at a session whose figures are right; what the scratch holds has no bearing
 abbrev pub broughtBy : Session → List ℕ → Opened
-broughtBy σ xs = opened clean (σ .shape) xs (replicate (scratchLength (σ .shape)) 0)
+broughtBy σ xs = opened theWays (σ .shape) 0 xs (replicate (scratchLength (σ .shape)) 0)
 
 -- the outcome of an arrival, and the session after it
 unfoldable pub arrived : Session → Opened → Judged

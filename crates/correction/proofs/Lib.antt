@@ -1,4 +1,6 @@
 pub mod CheckNumbers
+pub mod Rows
+pub mod Listing
 pub mod Toggles
 pub mod Silence
 pub mod Errors

@@ -21,7 +21,6 @@ use Rattle.gtb.specs.Alike.{reslope, Alike}
 use Rattle.gtb.proofs.Alikes.{lawful-alike, refusal-alike, line-alike, syndrome-alike, silent-alike}
 use Rattle.correction.specs.declared.Decoded.the-variants.{Corrected, Refused}
 use Rattle.correction.specs.Error.{onCheck, mended}
-use Rattle.gtb.specs.declared.Status.{Status}
 use Rattle.gtb.specs.declared.Status.the-variants as status
 use Rattle.decoder.specs.Looking.{lookedAt, lookingOf}
 use Rattle.decoder.specs.Decode.{located, alone, errorAt, restored, correctable, decodeOf}

@@ -1,19 +1,19 @@
 -- What the number of checks looked at says of a position, and the answers of `looked`.
 use mathlib.Core.Path.{_≡_, refl, sym, ap, _∙_}
-use mathlib.Core.Bool.{true, false, not, _&&_}
+use mathlib.Core.Bool.{true, false, not}
 use mathlib.Core.List.{List}
-use mathlib.Core.Logic.{_↔_, ⊎-elim}
+use mathlib.Core.Logic.{⊎-elim}
 use Prim.Native.Nat.{ℕ, _+_, _-_, _<_, _≤_}
 use native.Mathlib.Nat.{not-suc-le-zero, eq-or-lt-of-le}
 use native.Mathlib.Omega.{arith}
 use lib.Dec.{eqb}
 use lib.ListN.{length}
 use borrow.Author.Tests.{eq-eqb, ne-eqb, eqb-true, eqb-false, not-true, not-false}
-use Rattle.parity.specs.Count.{all, lowestNot}
+use Rattle.parity.specs.Count.{lowestNot}
 use Rattle.parity.specs.Lists.{tabulate}
 use Rattle.parity.proofs.Xors.{zero-r}
-use Rattle.parity.proofs.Tests.{either, clash, not-of-true, not-of-false, and-both, and-no-left, and-no-right, all-elim, all-intro}
-use Rattle.parity.proofs.Lowest.{Lowest, lowest-right}
+use Rattle.parity.proofs.Tests.{either, clash, not-of-true, not-of-false, all-elim, all-intro}
+use Rattle.parity.proofs.Lowest.{lowest-right}
 use Rattle.gtb.specs.declared.Shape.{Shape}
 use Rattle.gtb.specs.declared.Refusal.{Refusal}
 use Rattle.gtb.specs.declared.Status.{Status}

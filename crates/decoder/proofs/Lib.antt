@@ -1,7 +1,6 @@
 pub mod Numbers
 pub mod Looks
 pub mod Shifts
-pub mod Listing
 pub mod Private
 pub mod Reading
 pub mod Answers

@@ -2,7 +2,7 @@
 use mathlib.Core.Path.{_≡_, refl, sym, ap, _∙_}
 use mathlib.Core.Bool.{Bool, true, false, not, cond}
 use mathlib.Core.List.{List}
-use Prim.Native.Nat.{ℕ, _+_, _*_, _<_, _≤_}
+use Prim.Native.Nat.{ℕ, _+_, _*_, _<_}
 use native.Mathlib.Nat.{not-suc-le-zero, ne-of-lt}
 use native.Mathlib.Omega.{arith}
 use borrow.Author.Count.{below-more}
@@ -24,7 +24,8 @@ use Rattle.decoder.specs.declared.locate.Judged.{Judged}
 use Rattle.decoder.specs.Decode.{located}
 use Rattle.decoder.specs.Looking.{lookedAt}
 use Rattle.decoder.specs.Steps.{judged, lookedIn, Judges, PassedOver, Noted}
-use Rattle.decoder.proofs.Numbers.{own-check, silent}
+use Rattle.correction.proofs.Rows.{own-check}
+use Rattle.decoder.proofs.Numbers.{silent}
 
 -- how many are looked at: all n, or up to and with the first that fails
 pub looks-all : (n : ℕ) (p : ℕ → Bool) → all n p ≡ true → cond (all n p) n (lowestNot n p + 1) ≡ n

@@ -18,8 +18,8 @@ use Rattle.gtb.proofs.Bounds.{bounds}
 use Rattle.correction.proofs.Tables.{shown, silent-by}
 use Rattle.decoder.specs.Decode.{located, alone, errorAt, correctable}
 use Rattle.correction.specs.Error.{onCheck}
-use Rattle.decoder.specs.Steps.{judged, shares, aloneAmong, errorAmong, Listed, Measured, Found}
-use Rattle.correction.specs.Steps.{Within, Cancelled, Lists}
+use Rattle.decoder.specs.Steps.{judged, shares, aloneAmong, errorAmong, Measured, Found}
+use Rattle.correction.specs.Steps.{Within, Cancelled, Lists, Listed}
 use Rattle.parity.proofs.First.{first-cong}
 
 -- two conditions change places

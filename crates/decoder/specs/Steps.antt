@@ -2,14 +2,13 @@
 use mathlib.Core.Path.{_≡_}
 use mathlib.Core.Bool.{Bool, true, false, not, cond, _&&_}
 use mathlib.Core.List.{List}
-use Prim.Native.Nat.{ℕ, _+_, _*_, _%_, _<_, _≤_}
+use Prim.Native.Nat.{ℕ, _+_, _*_, _<_, _≤_}
 use lib.Dec.{eqb}
 use lib.ListN.{length}
-use Rattle.parity.specs.Xor.{xorSum, when}
 use Rattle.parity.specs.Count.{count, any, all, lowestNot, firstValue}
 use Rattle.gtb.specs.declared.Shape.{Shape}
 use Rattle.gtb.specs.declared.Refusal.{Refusal}
-use Rattle.gtb.specs.Shape.{wordLength, slopeOf}
+use Rattle.gtb.specs.Shape.{wordLength}
 use Rattle.gtb.specs.Square.{lineOf, at, Syndromes}
 use Rattle.correction.specs.declared.Decoded.{Decoded}
 use Rattle.correction.specs.declared.Decoded.the-variants.{Corrected, Refused}
@@ -43,11 +42,6 @@ pub record Noted (s : Shape) (syn : List ℕ) (m : ℕ) (looked : List ℕ) : Ty
   pub size : length looked ≡ wordLength s
   pub entry : (j : ℕ) → j < m → at looked j ≡ lookedIn s syn j
 
--- a row in the directions 1 .. m - 1: column c is on line c + shift modulo q
-pub record Shifts (s : Shape) (row m : ℕ) (shifts : List ℕ) : Type 0 where
-  pub size : length shifts ≡ 8
-  pub shift : (t : ℕ) → t < m → 1 ≤ t → at shifts t ≡ slopeOf s t * row % s .q
-
 -- i is another position than j on the check of direction t on j
 unfoldable pub shares : Shape → ℕ → ℕ → ℕ → Bool
 shares s t j i = not (eqb i j) && eqb (lineOf s t i) (lineOf s t j)
@@ -59,19 +53,6 @@ aloneAmong s places k j t = not (any k (λ x. shares s t j (at places x)))
 -- `errorAt` a located position, by the table and the list
 unfoldable pub errorAmong : Shape → List ℕ → List ℕ → ℕ → ℕ → ℕ
 errorAmong s syn places k j = firstValue (s .n) (aloneAmong s places k j) (λ t. at syn (checkOf s j t))
-
--- the first k places are the numbers below m that pass p: to XOR or to look for something over either is the same
-pub record Listed (p : ℕ → Bool) (m k : ℕ) (places : List ℕ) : Type 0 where
-  pub size : length places ≡ 8
-  pub counted : count m p ≡ k
-  pub below : (x : ℕ) → x < k → at places x < m
-  pub sums : (f : ℕ → ℕ) → xorSum m (λ j. when (p j) (f j)) ≡ xorSum k (λ x. f (at places x))
-  pub finds : (r : ℕ → Bool) → any m (λ j. p j && r j) ≡ any k (λ x. r (at places x))
-
--- a search below m that ends at n: the list, or there are n or more
-pub record Scanned (p : ℕ → Bool) (n m r : ℕ) (places : List ℕ) : Type 0 where
-  pub few : r < n → Listed p m r places
-  pub many : n ≤ r → n ≤ count m p
 
 -- the first m errors are those at the first m of k places
 pub record Measured (s : Shape) (syn places : List ℕ) (k m : ℕ) (errors : List ℕ) : Type 0 where

@@ -1,26 +1,14 @@
 // The located positions, in rising order, in a local array of 8. One more than n - 1 of them is one too many, and ends the search.
 // What the slopes add to the columns of a row is computed once for the row, so that no symbol needs a remainder.
+use correction::checks::shifts_of;
 use gtb::Shape;
 ghost use mathlib.Core.Path.{_≡_};
 ghost use Prim.Native.Nat.{_+_, _*_, _<_};
 ghost use lib.ListN.{length};
 ghost use Rattle.gtb.specs.Shape.{Lawful, wordLength};
 ghost use Rattle.gtb.specs.Square.{at};
-ghost use Rattle.decoder.specs.Steps.{judged, Judges, PassedOver, Shifts, Listed, Scanned};
-
-// Column c of the row is on line c + shift modulo q of a direction from 1 on. The shifts: slope × row modulo q.
-pub fn shifts_of(shape: Shape, row: usize) -> [usize; 8]
-    requires { ⌜ Lawful shape × (row < shape .q) ⌝ }
-    ensures { λ r. ⌜ Shifts shape row (shape .n) r ⌝ }
-{
-    let q = shape.q as usize;
-    let n = shape.n as usize;
-    let mut shifts = [0usize; 8];
-    for t in 1..n {
-        shifts[t] = gtb::slope(shape, t) * row % q;
-    }
-    shifts
-}
+ghost use Rattle.correction.specs.Steps.{Shifts, Listed, Scanned};
+ghost use Rattle.decoder.specs.Steps.{judged, Judges, PassedOver};
 
 // What is known of a position once it is judged: whether it is located, and how many of its checks were looked at.
 pub struct Judged {

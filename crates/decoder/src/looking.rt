@@ -1,6 +1,6 @@
 // How many checks the judging of each position looks at.
 use crate::locate::judge;
-use crate::locate::shifts_of;
+use correction::checks::shifts_of;
 use gtb::Shape;
 ghost use mathlib.Core.Path.{_≡_};
 ghost use Prim.Native.Nat.{_+_, _*_, _<_};

@@ -7,7 +7,7 @@ use lib.Dec.{eqb, ltb}
 use Rattle.parity.specs.Count.{count}
 use Rattle.gtb.specs.declared.Shape.{Shape}
 use Rattle.gtb.specs.Shape.{wordLength}
-use Rattle.gtb.specs.Square.{at, Codeword}
+use Rattle.gtb.specs.Square.{at, Word, Codeword}
 
 -- at how many places two words of the shape differ
 unfoldable pub differences : Shape → List ℕ → List ℕ → ℕ
@@ -24,3 +24,10 @@ pub record Distance (s : Shape) : Type 0 where
 -- the places of a list leave no choice: two codewords that are the same off the marked places are the same
 pub record Sure (s : Shape) (marked : ℕ → Bool) : Type 0 where
   pub one : (v w : List ℕ) → Codeword s v → Codeword s w → ((j : ℕ) → j < wordLength s → marked j ≡ false → at v j ≡ at w j) → v ≡ w
+
+-- the word that came has N symbols below 2^b, and the codeword v is at k positions another, at most `limit` (the damage may be masked)
+pub record Near (s : Shape) (limit : ℕ) (w v : List ℕ) (k : ℕ) : Type 0 where
+  pub word : Word s w
+  pub codeword : Codeword s v
+  pub changed : differences s v w ≡ k
+  pub few : k ≤ limit

@@ -59,6 +59,7 @@ refusal-small Refusal.Figures = lit≤ tt
 refusal-small Refusal.Places = lit≤ tt
 refusal-small Refusal.Unfillable = lit≤ tt
 refusal-small Refusal.Ambiguous = lit≤ tt
+refusal-small Refusal.NoMajority = lit≤ tt
 refusal-small Refusal.Slope = lit≤ tt
 
 -- a refusal leaves a scratch of the same length

@@ -23,6 +23,7 @@ refusalNumber Refusal.Figures = 11
 refusalNumber Refusal.Places = 12
 refusalNumber Refusal.Unfillable = 13
 refusalNumber Refusal.Ambiguous = 14
+refusalNumber Refusal.NoMajority = 15
 refusalNumber Refusal.Slope = 18
 
 -- as one number: 0, or 2^31 plus the refusal's
@@ -56,6 +57,7 @@ isEarly Refusal.Figures = true
 isEarly Refusal.Places = false
 isEarly Refusal.Unfillable = false
 isEarly Refusal.Ambiguous = false
+isEarly Refusal.NoMajority = false
 isEarly Refusal.Slope = true
 
 -- the scratch after a refusal: as lent after an early one, zeros after every other

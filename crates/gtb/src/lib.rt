@@ -37,6 +37,7 @@ pub enum Refusal {
     Places, // places
     Unfillable, // none
     Ambiguous, // several
+    NoMajority, // vote
     Slope, // slope
 }
 

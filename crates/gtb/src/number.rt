@@ -23,6 +23,7 @@ pub fn refusal(refusal: Refusal) -> u32
         Refusal::Places => 12,
         Refusal::Unfillable => 13,
         Refusal::Ambiguous => 14,
+        Refusal::NoMajority => 15,
         Refusal::Slope => 18,
     }
 }

@@ -23,7 +23,7 @@ use Rattle.session.specs.declared.Outcome.{Outcome}
 use Rattle.session.specs.declared.Outcome.the-variants.{Taken, Again, Refused}
 use Rattle.session.specs.declared.Arrived.{Arrived}
 use Rattle.session.specs.Session.{freshOf, freshStatus, countedOf}
-use Rattle.session.specs.Arrival.{clean, outcomeValues}
+use Rattle.session.specs.Arrival.{theWays, outcomeValues}
 use Rattle.session.specs.Arrival as arrival
 use Rattle.session.proofs.Outcome.{the-type}
 use Rattle.harness.specs.Crossing.{shapeIn, sessionOf, valuesOf}
@@ -96,18 +96,18 @@ as-it-was session σ (Taken p k) h = ⊎-elim (λ e. absurd (omega arith)) (λ e
 as-it-was session σ (Again p k) h = refl
 as-it-was session σ (Refused e) h = refl
 
-module _ (session word scratch outcome : List ℕ) where
+module _ (session : List ℕ) (way : ℕ) (word scratch outcome : List ℕ) where
   pub arrive-wrong : {r : ℕ} → ((length session ≡ 1292) × (length outcome ≡ 3) → ⊥) → r ≡ 2 ^ 31 + refusalNumber Refusal.Length
-      → ArriveCrossing session word scratch outcome session word scratch outcome r
+      → ArriveCrossing session way word scratch outcome session word scratch outcome r
   arrive-wrong h is = record {
     right = λ l m. absurd (h (l, m));
     wrong = λ _. record { sessionLeft = refl; wordLeft = refl; scratchLeft = refl; outcomeLeft = refl; answer = is };
   }
 
   pub arrive-right : {σ : Session} {session′ word′ scratch′ outcome′ : List ℕ} (a : Arrived) → length session ≡ 1292 → length outcome ≡ 3
-      → σ ≡ sessionOf session → arrival.Arriving clean σ word scratch word′ scratch′ a
+      → σ ≡ sessionOf session → arrival.Arriving theWays σ way word scratch word′ scratch′ a
       → session′ ≡ sessionIn session (a .session) (a .outcome) → outcome′ ≡ outcomeValues (a .outcome)
-      → ArriveCrossing session word scratch outcome session′ word′ scratch′ outcome′ 0
+      → ArriveCrossing session way word scratch outcome session′ word′ scratch′ outcome′ 0
   arrive-right a l m is holds s o = record {
     right = λ _ _. record { arrived = a; holds = rw (← is) holds; outcomeLeft = o; sessionLeft = s; answer = refl };
     wrong = λ h. absurd (h (l, m));

@@ -20,7 +20,7 @@ use Rattle.session.specs.declared.Outcome.{Outcome}
 use Rattle.session.specs.declared.Outcome.the-variants.{Taken, Again, Refused}
 use Rattle.session.specs.declared.Arrived.{Arrived}
 use Rattle.session.specs.Session.{freshOf, countedOf}
-use Rattle.session.specs.Arrival.{clean, outcomeValues, Arriving}
+use Rattle.session.specs.Arrival.{theWays, outcomeValues, Arriving}
 use Rattle.harness.specs.Crossing.{shapeIn, sessionOf, valuesOf}
 
 -- an answer with what its entry promises crosses as its number
@@ -66,10 +66,10 @@ sessionIn session σ (Taken p k) = valuesOf σ
 sessionIn session σ (Again p k) = session
 sessionIn session σ (Refused e) = session
 
--- an arrival where the session and the outcome have their lengths
-pub record Arrives (session word scratch session′ word′ scratch′ outcome′ : List ℕ) (r : ℕ) : Type 0 where
+-- an arrival, by the way that is named, where the session and the outcome have their lengths
+pub record Arrives (session : List ℕ) (way : ℕ) (word scratch session′ word′ scratch′ outcome′ : List ℕ) (r : ℕ) : Type 0 where
   pub arrived : Arrived
-  pub holds : Arriving clean (sessionOf session) word scratch word′ scratch′ arrived
+  pub holds : Arriving theWays (sessionOf session) way word scratch word′ scratch′ arrived
   pub outcomeLeft : outcome′ ≡ outcomeValues (arrived .outcome)
   pub sessionLeft : session′ ≡ sessionIn session (arrived .session) (arrived .outcome)
   pub answer : r ≡ statusNumber Done
@@ -82,6 +82,6 @@ pub record Untouched (session word scratch outcome session′ word′ scratch′
   pub outcomeLeft : outcome′ ≡ outcome
   pub answer : r ≡ statusNumber (status.Refused Refusal.Length)
 
-pub record ArriveCrossing (session word scratch outcome session′ word′ scratch′ outcome′ : List ℕ) (r : ℕ) : Type 0 where
-  pub right : length session ≡ 1292 → length outcome ≡ 3 → Arrives session word scratch session′ word′ scratch′ outcome′ r
+pub record ArriveCrossing (session : List ℕ) (way : ℕ) (word scratch outcome session′ word′ scratch′ outcome′ : List ℕ) (r : ℕ) : Type 0 where
+  pub right : length session ≡ 1292 → length outcome ≡ 3 → Arrives session way word scratch session′ word′ scratch′ outcome′ r
   pub wrong : ((length session ≡ 1292) × (length outcome ≡ 3) → ⊥) → Untouched session word scratch outcome session′ word′ scratch′ outcome′ r

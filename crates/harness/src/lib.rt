@@ -17,6 +17,7 @@ ghost use Rattle.gtb.specs.Answer.{statusNumber};
 ghost use Rattle.encoder.specs.Contract.{Encoding, Extraction};
 ghost use Rattle.decoder.specs.Decode.{Decoding};
 ghost use Rattle.decoder.specs.Looking.{Looking};
+ghost use Rattle.majority.specs.Majority.{Voting};
 ghost use Rattle.correction.specs.Answer.{decodedNumber};
 ghost use Rattle.erasure.specs.Fill.{Filling};
 ghost use Rattle.page.specs.Page.{Writing};
@@ -72,6 +73,16 @@ pub extern "C" fn harness_looked(shape: &[u32], word: &[u32], looked: &mut [u32]
         return gtb::number::refused(Refusal::Length);
     }
     gtb::number::status(decoder::looked(load_shape(shape), word, looked))
+}
+
+#[no_mangle]
+pub extern "C" fn harness_decode_majority(shape: &[u32], word: &mut [u32]) -> u32
+    ensures { λ r. ⌜ Shaped (now (shape .entry)) (λ s. Crosses decodedNumber (Voting s (now (word .entry)) (now (word .exit))) r) (now (word .exit) ≡ now (word .entry)) r ⌝ }
+{
+    if shape.len() != SHAPE {
+        return gtb::number::refused(Refusal::Length);
+    }
+    correction::number::decoded(majority::decode_majority(load_shape(shape), word))
 }
 
 #[no_mangle]
@@ -164,11 +175,12 @@ pub extern "C" fn harness_count(session: &[u32], function: u32) -> u64
 #[no_mangle]
 pub extern "C" fn harness_arrive(
     session: &mut [u32],
+    way: u32,
     word: &mut [u32],
     scratch: &mut [u32],
     outcome: &mut [u32],
 ) -> u32
-    ensures { λ r. ⌜ ArriveCrossing (now (session .entry)) (now (word .entry)) (now (scratch .entry)) (now (outcome .entry)) (now (session .exit)) (now (word .exit)) (now (scratch .exit)) (now (outcome .exit)) r ⌝ }
+    ensures { λ r. ⌜ ArriveCrossing (now (session .entry)) way (now (word .entry)) (now (scratch .entry)) (now (outcome .entry)) (now (session .exit)) (now (word .exit)) (now (scratch .exit)) (now (outcome .exit)) r ⌝ }
 {
     if session.len() != LENGTH {
         return gtb::number::refused(Refusal::Length);
@@ -176,7 +188,7 @@ pub extern "C" fn harness_arrive(
     if outcome.len() != 3 {
         return gtb::number::refused(Refusal::Length);
     }
-    let arrived = load(session).arrive(word, scratch);
+    let arrived = load(session).arrive(way, word, scratch);
     let answer = arrived.outcome;
     if let Outcome::Taken(_, _) = answer {
         store(arrived.session, session);

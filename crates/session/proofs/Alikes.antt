@@ -15,8 +15,6 @@ use Rattle.gtb.specs.Alike.{reslope, Alike}
 use Rattle.gtb.proofs.Alikes.{lawful-alike, refusal-alike, extract-alike}
 use Rattle.correction.specs.declared.Decoded.{Decoded}
 use Rattle.correction.specs.declared.Decoded.the-variants as decoded
-use Rattle.decoder.specs.Decode.{decodeOf, restored}
-use Rattle.decoder.proofs.Alikes.{decode-alike, restored-alike}
 use Rattle.page.specs.declared.PageRead.{PageRead}
 use Rattle.page.specs.declared.PageRead.the-variants as page
 use Rattle.page.specs.Page.{pageOf}
@@ -27,9 +25,10 @@ use Rattle.session.specs.declared.Outcome.the-variants.{Taken, Again, Re
 use Rattle.session.specs.declared.Arrived.{Arrived}
 use Rattle.session.specs.declared.Counted.the-variants as counted
 use Rattle.session.specs.Session.{consistent, freshOf, freshStatus, countedOf, recorded}
-use Rattle.session.specs.Arrival.{clean, Opened, Page, Bad, openPage, openWord, opened, presented, outcomeOf, outcomeValues, sessionBy, sessionAfter, wordAfter, Arriving}
+use Rattle.session.specs.Arrival.{isWay, wayOf, theWays, Opened, Page, Bad, openPage, openWord, opened, presented, outcomeOf, outcomeValues, sessionBy, sessionAfter, wordAfter, Arriving}
 use Rattle.session.specs.Recording.{Arrival}
 use Rattle.session.specs.Claim.{Run, stop, step}
+use Rattle.session.proofs.Ways.{all-read}
 
 -- the session with other slopes
 abbrev pub resloped : Session → List ℕ → Session
@@ -48,29 +47,31 @@ module _ (s : Shape) (slopes : List ℕ) (alike : Alike s slopes) where
   word-opens v (decoded.Refused e) = refl
 
   -- the same is opened
-  pub opened-alike : (word scratch : List ℕ) → opened clean (reslope s slopes) word scratch ≡ opened clean s word scratch
+  pub opened-alike : (way : ℕ) (word scratch : List ℕ) → opened theWays (reslope s slopes) way word scratch ≡ opened theWays s way word scratch
   unfolding opened scratchLength keptChecks
-  opened-alike word scratch = λ i.
-      unless (lawful-alike s slopes alike i) (Bad (refusal-alike s slopes alike i))
-      (unless (eqb (length word) (wordLength s) && eqb (length scratch) (scratchLength s)) (Bad Refusal.Length) (reads i))
+  opened-alike way word scratch = λ i.
+      unless (isWay way) (Bad Refusal.Shape)
+      (unless (lawful-alike s slopes alike i) (Bad (refusal-alike s slopes alike i))
+      (unless (eqb (length word) (wordLength s) && eqb (length scratch) (scratchLength s)) (Bad Refusal.Length) (reads i)))
     where
-      reads : openWord (reslope s slopes) (restored (reslope s slopes) word) (decodeOf (reslope s slopes) word) ≡ openWord s (restored s word) (decodeOf s word)
+      reads : openWord (reslope s slopes) (wayOf way .word (reslope s slopes) word) (wayOf way .answer (reslope s slopes) word) ≡ openWord s (wayOf way .word s word) (wayOf way .answer s word)
       reads =
-          word-opens (restored (reslope s slopes) word) (decodeOf (reslope s slopes) word)
-          ∙ ap (λ (v : List ℕ). openWord s v (decodeOf (reslope s slopes) word)) (restored-alike s slopes alike word)
-          ∙ ap (openWord s (restored s word)) (decode-alike s slopes alike word)
+          word-opens (wayOf way .word (reslope s slopes) word) (wayOf way .answer (reslope s slopes) word)
+          ∙ ap (λ (v : List ℕ). openWord s v (wayOf way .answer (reslope s slopes) word)) (all-read way .sameWord s slopes alike word)
+          ∙ ap (openWord s (wayOf way .word s word)) (all-read way .sameAnswer s slopes alike word)
 
 -- the figures are beside the shape
 figures-alike : (σ : Session) (slopes : List ℕ) → consistent (resloped σ slopes) ≡ consistent σ
 unfolding consistent
 figures-alike σ slopes = refl
 
-presented-alike : (σ : Session) (slopes : List ℕ) → Alike (σ .shape) slopes → (word scratch : List ℕ)
-    → presented clean (resloped σ slopes) word scratch ≡ presented clean σ word scratch
+presented-alike : (σ : Session) (slopes : List ℕ) → Alike (σ .shape) slopes → (way : ℕ) (word scratch : List ℕ)
+    → presented theWays (resloped σ slopes) way word scratch ≡ presented theWays σ way word scratch
 unfolding presented
-presented-alike σ slopes alike word scratch = λ i.
-    unless (lawful-alike (σ .shape) slopes alike i) (Bad (refusal-alike (σ .shape) slopes alike i))
-    (unless (figures-alike σ slopes i) (Bad Refusal.Figures) (opened-alike (σ .shape) slopes alike word scratch i))
+presented-alike σ slopes alike way word scratch = λ i.
+    unless (isWay way) (Bad Refusal.Shape)
+    (unless (lawful-alike (σ .shape) slopes alike i) (Bad (refusal-alike (σ .shape) slopes alike i))
+    (unless (figures-alike σ slopes i) (Bad Refusal.Figures) (opened-alike (σ .shape) slopes alike way word scratch i)))
 
 module _ (σ : Session) (slopes : List ℕ) where
   -- what decides is beside the shape
@@ -103,25 +104,25 @@ unfolding sessionAfter
 shape-kept σ o = shape-by σ [] o (outcomeOf σ o)
 
 -- one arrival
-arriving-alike : {σ : Session} {word scratch word′ scratch′ : List ℕ} {r : Arrived} (slopes : List ℕ) → Alike (σ .shape) slopes
-    → Arriving clean σ word scratch word′ scratch′ r
-    → Arriving clean (resloped σ slopes) word scratch word′ scratch′ (record { session = resloped (r .session) slopes; outcome = r .outcome })
-arriving-alike {σ} {word} {scratch} {word′} {scratch′} {r} slopes alike a =
-    let o : Opened = presented clean σ word scratch in
-    let same : presented clean (resloped σ slopes) word scratch ≡ o = presented-alike σ slopes alike word scratch in
-    let answer : r .outcome ≡ outcomeOf (resloped σ slopes) (presented clean (resloped σ slopes) word scratch) =
+arriving-alike : {σ : Session} {way : ℕ} {word scratch word′ scratch′ : List ℕ} {r : Arrived} (slopes : List ℕ) → Alike (σ .shape) slopes
+    → Arriving theWays σ way word scratch word′ scratch′ r
+    → Arriving theWays (resloped σ slopes) way word scratch word′ scratch′ (record { session = resloped (r .session) slopes; outcome = r .outcome })
+arriving-alike {σ} {way} {word} {scratch} {word′} {scratch′} {r} slopes alike a =
+    let o : Opened = presented theWays σ way word scratch in
+    let same : presented theWays (resloped σ slopes) way word scratch ≡ o = presented-alike σ slopes alike way word scratch in
+    let answer : r .outcome ≡ outcomeOf (resloped σ slopes) (presented theWays (resloped σ slopes) way word scratch) =
     a .outcome ∙ sym (outcome-alike σ slopes o) ∙ ap (outcomeOf (resloped σ slopes)) (sym same) in
     record {
       outcome = answer;
       values = ap outcomeValues answer;
       session = ap (λ (τ : Session). resloped τ slopes) (a .session) ∙ session-alike σ slopes o ∙ ap (sessionAfter (resloped σ slopes)) (sym same);
-      wordLeft = a .wordLeft ∙ ap (λ (v : List ℕ). wordAfter word v (r .outcome)) (sym (restored-alike (σ .shape) slopes alike word));
+      wordLeft = a .wordLeft ∙ ap (λ (v : List ℕ). wordAfter word v (r .outcome)) (sym (all-read way .sameWord (σ .shape) slopes alike word));
       scratchLeft = a .scratchLeft;
     }
 
 -- a whole run: the same answers, marks and counts
 pub run-alike : {σ end : Session} {arrivals : List Arrival} {answers : List Outcome} (slopes : List ℕ) → Alike (σ .shape) slopes
-    → Run clean σ arrivals answers end → Run clean (resloped σ slopes) arrivals answers (resloped end slopes)
+    → Run theWays σ arrivals answers end → Run theWays (resloped σ slopes) arrivals answers (resloped end slopes)
 run-alike slopes alike stop = stop
 run-alike slopes alike (step {σ = σ} {r = r} a rest) =
     step (arriving-alike slopes alike a) (run-alike slopes (record { same = rw (ap (λ (τ : Session). τ .shape) (a .session) ∙ shape-kept σ _) (alike .same) }) rest)

@@ -1,23 +1,22 @@
--- Demand 3 for reading clean damage to at most n - 1 digits (RULES 3).
+-- Reading clean damage to at most n - 1 digits (RULES 3) is a way that an arrival may name.
 use mathlib.Core.Path.{refl}
 use mathlib.Core.List.{List}
-use native.Mathlib.Omega.{arith}
-use Rattle.decoder.proofs.Refusals.{decode-never}
+use Prim.Native.Nat.{zero-le}
 use Rattle.gtb.specs.declared.Shape.{Shape}
 use Rattle.gtb.specs.declared.Refusal.{Refusal}
-use Rattle.gtb.specs.Shape.{lawful, Lawful}
+use Rattle.gtb.specs.Shape.{Lawful}
 use Rattle.gtb.specs.Square.{at}
 use Rattle.correction.specs.Error.{weight, damaged}
+use Rattle.correction.proofs.Errors.{mended-size}
+use Rattle.decoder.specs.Decode.{errorAt, restored, correctable, decodeOf}
+use Rattle.decoder.proofs.Refusals.{decode-never}
 use Rattle.decoder.proofs.Meaning.{explains-decode}
-use Rattle.session.specs.declared.Session.{Session}
-use Rattle.session.specs.declared.Outcome.{Outcome}
-use Rattle.session.specs.Session.{freshOf}
+use Rattle.decoder.proofs.Alikes.{decode-alike, restored-alike}
 use Rattle.session.specs.Arrival.{Sound, clean}
-use Rattle.session.specs.Recording.{Sheet, Recording, Arrival, Fits}
-use Rattle.session.specs.Claim.{Run, EveryList, Demand3}
+use Rattle.session.proofs.NoDamage.{no-damage-clean, no-damage-weight}
+use Rattle.session.proofs.Late.{read-late}
 use Rattle.session.proofs.Openings.{session-foreign}
-use Rattle.session.proofs.Fed.{every-list}
-use Rattle.session.proofs.Demand.{demand3}
+use Rattle.session.proofs.Asked.{Reads}
 
 pub clean-sound : (s : Shape) → Lawful s → Sound clean s
 clean-sound s legal = record {
@@ -35,13 +34,13 @@ clean-sound s legal = record {
   never = λ w e by. decode-never s w e (session-foreign s e by);
 }
 
--- demand 3, with no hypothesis on the way left
-pub demand3-clean : (s : Shape) (pages : List Sheet) (arrivals : List Arrival) (answers : List Outcome) (end : Session)
-    → Recording s pages → Fits clean s pages arrivals → Run clean (freshOf s) arrivals answers end
-    → Demand3 clean s pages arrivals answers end
-demand3-clean s pages arrivals answers end r = demand3 clean s pages arrivals answers end (clean-sound s (r .lawful)) r
-
--- what holds of every list of arrivals, whether it fits a recording or not
-pub every-list-clean : (s : Shape) → Lawful s → (arrivals : List Arrival) (answers : List Outcome) (end : Session)
-    → Run clean (freshOf s) arrivals answers end → EveryList clean s arrivals answers end
-every-list-clean s legal = every-list clean s (clean-sound s legal)
+pub clean-reads : Reads clean
+unfolding decodeOf restored
+clean-reads = record {
+  sound = clean-sound;
+  none = λ s. (no-damage-clean s, rw (no-damage-weight s) zero-le);
+  late = λ s word. read-late s word (correctable s word) Refusal.Uncorrectable _ refl;
+  size = λ s word. mended-size s word (errorAt s (at word));
+  sameAnswer = decode-alike;
+  sameWord = restored-alike;
+}

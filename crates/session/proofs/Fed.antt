@@ -21,7 +21,7 @@ use Rattle.session.specs.declared.Session.{Session}
 use Rattle.session.specs.declared.Outcome.{Outcome}
 use Rattle.session.specs.declared.Outcome.the-variants.{Taken, Again, Refused}
 use Rattle.session.specs.Session.{marked, pagesOf, lowestOf, Consistent, freshOf, isCall, countOf, added, overflows, recorded}
-use Rattle.session.specs.Arrival.{Way, Sound, Opened, Page, Bad, opened, presented, outcomeOf, sessionBy, sessionAfter}
+use Rattle.session.specs.Arrival.{Ways, AllSound, Opened, Page, Bad, opened, presented, outcomeOf, sessionBy, sessionAfter}
 use Rattle.session.specs.Recording.{Arrival, openedAt, arrivalAt, TurnedDown}
 use Rattle.session.specs.Claim.{Run, stop, step, come, Machine, emptyMachine, machinePage, machineStep, machine, Agrees, answerAt, EveryList, answerTo}
 use Rattle.session.proofs.Progress.{fresh-consistent, after-by, consistent-pages, consistent-lowest}
@@ -146,55 +146,55 @@ grown-after s σ m g (Bad e) sane = g
 -- ---- a list of arrivals
 
 -- what an arrival brings to a session
-abbrev pub brought : Way → Session → Arrival → Opened
-brought way σ a = presented way σ (a .word) (a .scratch)
+abbrev pub brought : Ways → Session → Arrival → Opened
+brought ways σ a = presented ways σ (a .way) (a .word) (a .scratch)
 
 -- the one run of a list: its answers and its end
-abbrev pub answersOf : Way → Session → List Arrival → List Outcome
-answersOf way σ [] = []
-answersOf way σ (a ∷ rest) = outcomeOf σ (brought way σ a) ∷ answersOf way (sessionAfter σ (brought way σ a)) rest
+abbrev pub answersOf : Ways → Session → List Arrival → List Outcome
+answersOf ways σ [] = []
+answersOf ways σ (a ∷ rest) = outcomeOf σ (brought ways σ a) ∷ answersOf ways (sessionAfter σ (brought ways σ a)) rest
 
-abbrev pub endOf : Way → Session → List Arrival → Session
-endOf way σ [] = σ
-endOf way σ (a ∷ rest) = endOf way (sessionAfter σ (brought way σ a)) rest
+abbrev pub endOf : Ways → Session → List Arrival → Session
+endOf ways σ [] = σ
+endOf ways σ (a ∷ rest) = endOf ways (sessionAfter σ (brought ways σ a)) rest
 
-pub run-answers : {way : Way} {σ end : Session} {arrivals : List Arrival} {answers : List Outcome} → Run way σ arrivals answers end
-    → answers ≡ answersOf way σ arrivals
+pub run-answers : {ways : Ways} {σ end : Session} {arrivals : List Arrival} {answers : List Outcome} → Run ways σ arrivals answers end
+    → answers ≡ answersOf ways σ arrivals
 run-answers stop = refl
-run-answers {way} (step {rest = rest} h run) =
-    ap₂ (λ (r : Outcome) (rs : List Outcome). r ∷ rs) (h .outcome) (run-answers run ∙ ap (λ (σ′ : Session). answersOf way σ′ rest) (h .session))
+run-answers {ways} (step {rest = rest} h run) =
+    ap₂ (λ (r : Outcome) (rs : List Outcome). r ∷ rs) (h .outcome) (run-answers run ∙ ap (λ (σ′ : Session). answersOf ways σ′ rest) (h .session))
 
-pub run-end : {way : Way} {σ end : Session} {arrivals : List Arrival} {answers : List Outcome} → Run way σ arrivals answers end
-    → end ≡ endOf way σ arrivals
+pub run-end : {ways : Ways} {σ end : Session} {arrivals : List Arrival} {answers : List Outcome} → Run ways σ arrivals answers end
+    → end ≡ endOf ways σ arrivals
 run-end stop = refl
-run-end {way} (step {rest = rest} h run) = run-end run ∙ ap (λ (σ′ : Session). endOf way σ′ rest) (h .session)
+run-end {ways} (step {rest = rest} h run) = run-end run ∙ ap (λ (σ′ : Session). endOf ways σ′ rest) (h .session)
 
-module _ (way : Way) (s : Shape) (sound : Sound way s) where
+module _ (ways : Ways) (s : Shape) (sound : AllSound ways s) where
   -- whatever arrives, session and machine go on alike
   grown-arrival : (σ : Session) (m : Machine) → Grown s σ m → (a : Arrival)
-      → (outcomeOf σ (brought way σ a) ≡ reply m (opened way s (a .word) (a .scratch)))
-      × Grown s (sessionAfter σ (brought way σ a)) (machineStep m (opened way s (a .word) (a .scratch)))
+      → (outcomeOf σ (brought ways σ a) ≡ reply m (opened ways s (a .way) (a .word) (a .scratch)))
+      × Grown s (sessionAfter σ (brought ways σ a)) (machineStep m (opened ways s (a .way) (a .word) (a .scratch)))
   grown-arrival σ m g a =
-      let o : Opened = opened way s (a .word) (a .scratch) in
-      let sane : Sane o = opened-sane way s sound (a .word) (a .scratch) in
+      let o : Opened = opened ways s (a .way) (a .word) (a .scratch) in
+      let sane : Sane o = opened-sane ways s sound (a .way) (a .word) (a .scratch) in
       subst (λ (x : Opened). (outcomeOf σ x ≡ reply m o) × Grown s (sessionAfter σ x) (machineStep m o))
-      (ap (λ (x : Shape). opened way x (a .word) (a .scratch)) (sym (g .shape)) ∙ sym (presented-opened way σ (a .word) (a .scratch) (g .consistent)))
+      (ap (λ (x : Shape). opened ways x (a .way) (a .word) (a .scratch)) (sym (g .shape)) ∙ sym (presented-opened ways σ (a .way) (a .word) (a .scratch) (g .consistent)))
       (grown-reply s σ m g o sane, grown-after s σ m g o sane)
 
   pub grown-end : (arrivals : List Arrival) (σ : Session) (m : Machine) → Grown s σ m
-      → Grown s (endOf way σ arrivals) (machine way s m arrivals)
+      → Grown s (endOf ways σ arrivals) (machine ways s m arrivals)
   grown-end [] σ m g = g
   grown-end (a ∷ rest) σ m g = grown-end rest _ _ (grown-arrival σ m g a .1)
 
   pub grown-answer : (arrivals : List Arrival) (σ : Session) (m : Machine) → Grown s σ m → (j : ℕ) → j < length arrivals
-      → answerAt (answersOf way σ arrivals) j ≡ reply (machine way s m (take j arrivals)) (openedAt way s arrivals j)
+      → answerAt (answersOf ways σ arrivals) j ≡ reply (machine ways s m (take j arrivals)) (openedAt ways s arrivals j)
   grown-answer [] σ m g j l = absurd (not-suc-le-zero l)
   grown-answer (a ∷ rest) σ m g zero l = grown-arrival σ m g a .0
   grown-answer (a ∷ rest) σ m g (suc j) l = grown-answer rest _ _ (grown-arrival σ m g a .1) j (le-of-suc-le-suc l)
 
-length-answers : (way : Way) (σ : Session) (arrivals : List Arrival) → length (answersOf way σ arrivals) ≡ length arrivals
-length-answers way σ [] = refl
-length-answers way σ (a ∷ rest) = ap suc (length-answers way (sessionAfter σ (brought way σ a)) rest)
+length-answers : (ways : Ways) (σ : Session) (arrivals : List Arrival) → length (answersOf ways σ arrivals) ≡ length arrivals
+length-answers ways σ [] = refl
+length-answers ways σ (a ∷ rest) = ap suc (length-answers ways (sessionAfter σ (brought ways σ a)) rest)
 
 -- the machine refuses exactly what is turned down
 reply-refused : (m : Machine) (o : Opened) (e : Refusal) → reply m o ≡ Refused e → o ≡ Bad e
@@ -214,25 +214,25 @@ grown-pages s σ m g some same =
     (consistent-pages σ (g .consistent) ∙ count-cong 1024 _ _ each, consistent-lowest σ (g .consistent) ∙ lowest-cong 1024 _ _ each)
 
 -- an arrival from a fresh session on is answered as by the machine after those before it
-pub run-reply : (way : Way) (s : Shape) → Sound way s → {arrivals : List Arrival} {answers : List Outcome} {end : Session}
-    → Run way (freshOf s) arrivals answers end → (j : ℕ) → j < length arrivals
-    → answerAt answers j ≡ reply (machine way s emptyMachine (take j arrivals)) (openedAt way s arrivals j)
-run-reply way s sound {arrivals} run j l = rw (run-answers run) (grown-answer way s sound arrivals (freshOf s) emptyMachine (fresh-grown s) j l)
+pub run-reply : (ways : Ways) (s : Shape) → AllSound ways s → {arrivals : List Arrival} {answers : List Outcome} {end : Session}
+    → Run ways (freshOf s) arrivals answers end → (j : ℕ) → j < length arrivals
+    → answerAt answers j ≡ reply (machine ways s emptyMachine (take j arrivals)) (openedAt ways s arrivals j)
+run-reply ways s sound {arrivals} run j l = rw (run-answers run) (grown-answer ways s sound arrivals (freshOf s) emptyMachine (fresh-grown s) j l)
 
-pub every-list : (way : Way) (s : Shape) → Sound way s → (arrivals : List Arrival) (answers : List Outcome) (end : Session)
-    → Run way (freshOf s) arrivals answers end → EveryList way s arrivals answers end
-every-list way s sound arrivals answers end run = record {
-  agrees = rw (run-end run) (grown-end way s sound arrivals (freshOf s) emptyMachine (fresh-grown s) .agrees);
-  answered = rw (run-answers run) (length-answers way (freshOf s) arrivals);
+pub every-list : (ways : Ways) (s : Shape) → AllSound ways s → (arrivals : List Arrival) (answers : List Outcome) (end : Session)
+    → Run ways (freshOf s) arrivals answers end → EveryList ways s arrivals answers end
+every-list ways s sound arrivals answers end run = record {
+  agrees = rw (run-end run) (grown-end ways s sound arrivals (freshOf s) emptyMachine (fresh-grown s) .agrees);
+  answered = rw (run-answers run) (length-answers ways (freshOf s) arrivals);
   figures = λ m l first σ run′.
-      grown-pages s σ (held way s arrivals m)
-      (rw (run-end run′) (grown-end way s sound (take m arrivals) (freshOf s) emptyMachine (fresh-grown s)))
-      (come way s arrivals m) (held-pages way s arrivals m l);
+      grown-pages s σ (held ways s arrivals m)
+      (rw (run-end run′) (grown-end ways s sound (take m arrivals) (freshOf s) emptyMachine (fresh-grown s)))
+      (come ways s arrivals m) (held-pages ways s arrivals m l);
   refused = refused;
-  turned = λ j l e t. run-reply way s sound run j l ∙ ap (reply (machine way s emptyMachine (take j arrivals))) (t .by);
+  turned = λ j l e t. run-reply ways s sound run j l ∙ ap (reply (machine ways s emptyMachine (take j arrivals))) (t .by);
   never = λ j l e by h.
-      subst Sane (refused j l e h .by) (opened-sane way s sound (arrivalAt arrivals j .word) (arrivalAt arrivals j .scratch)) by;
+      subst Sane (refused j l e h .by) (opened-sane ways s sound (arrivalAt arrivals j .way) (arrivalAt arrivals j .word) (arrivalAt arrivals j .scratch)) by;
 }
   where
-    refused : (j : ℕ) → j < length arrivals → (e : Refusal) → answerAt answers j ≡ Refused e → TurnedDown way s (arrivalAt arrivals j) e
-    refused j l e h = record { by = reply-refused _ _ e (sym (run-reply way s sound run j l) ∙ h) }
+    refused : (j : ℕ) → j < length arrivals → (e : Refusal) → answerAt answers j ≡ Refused e → TurnedDown ways s (arrivalAt arrivals j) e
+    refused j l e h = record { by = reply-refused _ _ e (sym (run-reply ways s sound run j l) ∙ h) }

@@ -17,7 +17,7 @@ use Rattle.correction.specs.declared.Decoded.the-variants as decoded
 use Rattle.correction.specs.Error.{weight, damaged}
 use Rattle.page.specs.Page.{writeStatus}
 use Rattle.page.proofs.Pages.{write-read}
-use Rattle.session.specs.Arrival.{Way, Sound, Opened, Page, Bad, openWord, opened}
+use Rattle.session.specs.Arrival.{Ways, AllSound, Opened, Page, Bad, openWord, opened}
 use Rattle.session.specs.Recording.{Sheet, sheetAt, symbolsOf, Recording, Arrival, arrivalAt, openedAt, TurnedDown, Brings, Fits}
 use Rattle.session.specs.Claim.{SameSheets}
 
@@ -32,15 +32,15 @@ page-opened s p v k accepted info =
     let (number, marks) = write-read s (p .number) (p .marks) (symbolsOf s p) accepted in
     rw (info, number) (ap (λ (x : List ℕ). Page (p .number) x k) marks)
 
-pub brings-opened : (way : Way) (s : Shape) → Lawful s → Sound way s → (a : Arrival) (p : Sheet) (k : ℕ)
-    → writeStatus s (p .number) (p .marks) (symbolsOf s p) ≡ Done → Brings way s a p k
-    → opened way s (a .word) (a .scratch) ≡ Page (p .number) (p .marks) k
+pub brings-opened : (ways : Ways) (s : Shape) → Lawful s → AllSound ways s → (a : Arrival) (p : Sheet) (k : ℕ)
+    → writeStatus s (p .number) (p .marks) (symbolsOf s p) ≡ Done → Brings ways s a p k
+    → opened ways s (a .way) (a .word) (a .scratch) ≡ Page (p .number) (p .marks) k
 unfolding opened
-brings-opened way s legal sound a p k accepted b =
+brings-opened ways s legal sound a p k accepted b =
     let v : List ℕ = b .stored in
-    let (answer, word) = sound .right v (b .error) (b .encodes .codeword) (b .damage) (b .allowed) in
+    let (answer, word) = sound .sound (a .way) (b .known) .right v (b .error) (b .encodes .codeword) (b .damage) (b .allowed) in
     let long : length (a .word) ≡ wordLength s = ap length (b .word) ∙ length-damaged v (b .error) ∙ b .encodes .codeword .word .size in
-    rw (legal, eq-eqb (length (a .word)) (wordLength s) long, eq-eqb (length (a .scratch)) (scratchLength s) (b .scratch), b .word, word, answer)
+    rw (b .known, legal, eq-eqb (length (a .word)) (wordLength s) long, eq-eqb (length (a .scratch)) (scratchLength s) (b .scratch), b .word, word, answer)
     (page-opened s p v (weight s (at (b .error))) accepted (b .encodes .information) ∙ ap (Page (p .number) (p .marks)) (b .changed))
 
 -- what was brought is one of the pages, if it is a page
@@ -48,30 +48,30 @@ abbrev pub From : List Sheet → Opened → Type 0
 From pages (Page number marks k) = (i : ℕ) × (i < length pages) × (sheetAt pages i ≡ record { number = number; marks = marks })
 From pages (Bad e) = Unit {0}
 
-module _ (way : Way) (s : Shape) (sound : Sound way s) (arrivals : List Arrival) where
+module _ (ways : Ways) (s : Shape) (sound : AllSound ways s) (arrivals : List Arrival) where
   -- an arrival that brings page i of a recording opens to it
   pub sheet-opened : (pages : List Sheet) → Recording s pages → (j i : ℕ) → i < length pages → (k : ℕ)
-      → Brings way s (arrivalAt arrivals j) (sheetAt pages i) k
-      → openedAt way s arrivals j ≡ Page (sheetAt pages i .number) (sheetAt pages i .marks) k
-  sheet-opened pages r j i l k b = brings-opened way s (r .lawful) sound (arrivalAt arrivals j) (sheetAt pages i) k (r .accepted i l) b
+      → Brings ways s (arrivalAt arrivals j) (sheetAt pages i) k
+      → openedAt ways s arrivals j ≡ Page (sheetAt pages i .number) (sheetAt pages i .marks) k
+  sheet-opened pages r j i l k b = brings-opened ways s (r .lawful) sound (arrivalAt arrivals j) (sheetAt pages i) k (r .accepted i l) b
 
   -- a list that fits brings pages of the recording alone
-  pub fits-from : (pages : List Sheet) → Recording s pages → Fits way s pages arrivals → (j : ℕ) → j < length arrivals
-      → From pages (openedAt way s arrivals j)
+  pub fits-from : (pages : List Sheet) → Recording s pages → Fits ways s pages arrivals → (j : ℕ) → j < length arrivals
+      → From pages (openedAt ways s arrivals j)
   fits-from pages r fits j l =
-      ⊎-elim (λ (t : (e : Refusal) × TurnedDown way s (arrivalAt arrivals j) e). rw (t .1 .by) tt)
-      (λ (b : (i : ℕ) × (i < length pages) × (k : ℕ) × Brings way s (arrivalAt arrivals j) (sheetAt pages i) k).
+      ⊎-elim (λ (t : (e : Refusal) × TurnedDown ways s (arrivalAt arrivals j) e). rw (t .1 .by) tt)
+      (λ (b : (i : ℕ) × (i < length pages) × (k : ℕ) × Brings ways s (arrivalAt arrivals j) (sheetAt pages i) k).
       rw (sheet-opened pages r j (b .0) (b .1) (b .2) (b .3)) (b .0, b .1, refl))
       (fits .each j l)
 
   -- each page of one recording that the list fits is a page of the other
-  also-there : (pages others : List Sheet) → Recording s pages → Recording s others → Fits way s pages arrivals → Fits way s others arrivals
+  also-there : (pages others : List Sheet) → Recording s pages → Recording s others → Fits ways s pages arrivals → Fits ways s others arrivals
       → (i : ℕ) → i < length pages → (j : ℕ) × (j < length others) × (sheetAt others j ≡ sheetAt pages i)
   also-there pages others r r′ fits fits′ i l =
       let (j, lj, k, b) = fits .every i l in
       rw (sheet-opened pages r j i l k b) at (fits-from others r′ fits′ j lj)
 
-  pub only-recording : (pages others : List Sheet) → Recording s pages → Recording s others → Fits way s pages arrivals → Fits way s others arrivals
+  pub only-recording : (pages others : List Sheet) → Recording s pages → Recording s others → Fits ways s pages arrivals → Fits ways s others arrivals
       → SameSheets pages others
   only-recording pages others r r′ fits fits′ = record {
     there = also-there pages others r r′ fits fits′;

@@ -1,6 +1,6 @@
 -- An arrival refuses the scratch of before N7, whatever its word and its way of reading.
 use mathlib.Core.Path.{_≡_, sym, _∙_}
-use mathlib.Core.Bool.{Bool}
+use mathlib.Core.Bool.{Bool, true}
 use mathlib.Core.List.{List}
 use Prim.Native.Nat.{ℕ, _+_, _*_, _/_}
 use lib.Dec.{eqb}
@@ -11,11 +11,11 @@ use Rattle.gtb.specs.declared.Shape.{Shape}
 use Rattle.gtb.specs.declared.Refusal.{Refusal}
 use Rattle.gtb.specs.Shape.{Lawful, wordLength, scratchLength}
 use Rattle.gtb.proofs.Kept.{old-scratch}
-use Rattle.session.specs.Arrival.{Way, Bad, opened}
+use Rattle.session.specs.Arrival.{Ways, Bad, opened}
 
-pub opened-old : (way : Way) (s : Shape) (word scratch : List ℕ) → Lawful s → length scratch ≡ s .n * s .q * ((s .q * s .q + 31) / 32)
-    → opened way s word scratch ≡ Bad Refusal.Length
+pub opened-old : (ways : Ways) (s : Shape) (way : ℕ) (word scratch : List ℕ) → ways .known way ≡ true → Lawful s → length scratch ≡ s .n * s .q * ((s .q * s .q + 31) / 32)
+    → opened ways s way word scratch ≡ Bad Refusal.Length
 unfolding opened
-opened-old way s word scratch law e =
+opened-old ways s way word scratch known law e =
     rw
-    (law, and-no-right (eqb (length word) (wordLength s)) (ne-eqb (length scratch) (scratchLength s) (λ z. old-scratch s law (sym e ∙ z))))
+    (known, law, and-no-right (eqb (length word) (wordLength s)) (ne-eqb (length scratch) (scratchLength s) (λ z. old-scratch s law (sym e ∙ z))))

@@ -14,7 +14,7 @@ use Rattle.parity.proofs.Tests.{either, same-eqb, any-suc, any-zero}
 use Rattle.parity.proofs.Sums.{sum-cong, sum-add, sum-only}
 use Rattle.gtb.specs.declared.Shape.{Shape}
 use Rattle.session.specs.Session.{countOf}
-use Rattle.session.specs.Arrival.{Way, Opened, Page, Bad}
+use Rattle.session.specs.Arrival.{Ways, Opened, Page, Bad}
 use Rattle.session.specs.Recording.{Arrival, openedAt}
 use Rattle.session.specs.Claim.{hasNumber, come, emptyMachine, Machine, machinePage, machineStep, machine}
 
@@ -71,23 +71,23 @@ fed-weight n num w m number marks known h i l here alone =
     at-i = rw (here, h, eq-eqb number number refl)
 
 -- the machine after one more arrival
-pub machine-more : (way : Way) (s : Shape) (m : Machine) (arrivals : List Arrival) (j : ℕ) → j < length arrivals
-    → machine way s m (take (suc j) arrivals) ≡ machineStep (machine way s m (take j arrivals)) (openedAt way s arrivals j)
-machine-more way s m [] j l = absurd (not-suc-le-zero l)
-machine-more way s m (a ∷ rest) zero l = refl
-machine-more way s m (a ∷ rest) (suc j) l = machine-more way s _ rest j (le-of-suc-le-suc l)
+pub machine-more : (ways : Ways) (s : Shape) (m : Machine) (arrivals : List Arrival) (j : ℕ) → j < length arrivals
+    → machine ways s m (take (suc j) arrivals) ≡ machineStep (machine ways s m (take j arrivals)) (openedAt ways s arrivals j)
+machine-more ways s m [] j l = absurd (not-suc-le-zero l)
+machine-more ways s m (a ∷ rest) zero l = refl
+machine-more ways s m (a ∷ rest) (suc j) l = machine-more ways s _ rest j (le-of-suc-le-suc l)
 
 -- the machine after the first j arrivals
-abbrev pub held : Way → Shape → List Arrival → ℕ → Machine
-held way s arrivals j = machine way s emptyMachine (take j arrivals)
+abbrev pub held : Ways → Shape → List Arrival → ℕ → Machine
+held ways s arrivals j = machine ways s emptyMachine (take j arrivals)
 
 -- its set: the pages that have come
-pub held-pages : (way : Way) (s : Shape) (arrivals : List Arrival) (j : ℕ) → j ≤ length arrivals → (p : ℕ)
-    → held way s arrivals j .pages p ≡ come way s arrivals j p
+pub held-pages : (ways : Ways) (s : Shape) (arrivals : List Arrival) (j : ℕ) → j ≤ length arrivals → (p : ℕ)
+    → held ways s arrivals j .pages p ≡ come ways s arrivals j p
 unfolding come
-held-pages way s arrivals zero l p = sym (any-zero (λ j. hasNumber p (openedAt way s arrivals j)))
-held-pages way s arrivals (suc j) l p =
-    ap (λ (m : Machine). m .pages p) (machine-more way s emptyMachine arrivals j l)
-    ∙ feed-pages (held way s arrivals j) (openedAt way s arrivals j) p
-    ∙ ap (λ (b : Bool). b || hasNumber p (openedAt way s arrivals j)) (held-pages way s arrivals j (le-of-lt l) p)
-    ∙ sym (any-suc j (λ i. hasNumber p (openedAt way s arrivals i)))
+held-pages ways s arrivals zero l p = sym (any-zero (λ j. hasNumber p (openedAt ways s arrivals j)))
+held-pages ways s arrivals (suc j) l p =
+    ap (λ (m : Machine). m .pages p) (machine-more ways s emptyMachine arrivals j l)
+    ∙ feed-pages (held ways s arrivals j) (openedAt ways s arrivals j) p
+    ∙ ap (λ (b : Bool). b || hasNumber p (openedAt ways s arrivals j)) (held-pages ways s arrivals j (le-of-lt l) p)
+    ∙ sym (any-suc j (λ i. hasNumber p (openedAt ways s arrivals i)))

@@ -9,7 +9,7 @@ use native.Mathlib.Omega.{arith}
 use lib.Dec.{eqb}
 use lib.ListN.{length}
 use borrow.Author.Tests.{eqb-true}
-use Rattle.parity.proofs.Tests.{or-cases}
+use Rattle.parity.proofs.Tests.{clash, or-cases}
 use Rattle.gtb.proofs.Answers.{unless-never, Foreign, late-foreign}
 use Rattle.page.proofs.Refusals.{page-never}
 use Rattle.decoder.specs.Decode.{decodeOf, restored}
@@ -26,7 +26,7 @@ use Rattle.page.specs.declared.PageRead.{PageRead}
 use Rattle.page.specs.declared.PageRead.the-variants as page
 use Rattle.page.specs.Page.{most, pageOf}
 use Rattle.page.proofs.Pages.{page-facts}
-use Rattle.session.specs.Arrival.{bySession, Way, Sound, Opened, Page, Bad, openPage, openWord, opened, clean}
+use Rattle.session.specs.Arrival.{bySession, Ways, AllSound, Opened, Page, Bad, openPage, openWord, isWay, wayOf, theWays, opened}
 
 -- a page number that has a place, few marks; never 9 or 11
 abbrev pub Sane : Opened → Type 0
@@ -59,18 +59,21 @@ word-sane : (s : Shape) (v : List ℕ) (r : Decoded) → ((e : Refusal) → bySe
 word-sane s v (decoded.Corrected k) h = page-sane s (extractOf s v) k (pageOf s (extractOf s v)) refl
 word-sane s v (decoded.Refused e) h = λ x. h e x refl
 
-unless-sane : (t : Bool) (e : Refusal) (next : Opened) → (t ≡ false → bySession e ≡ true → ⊥) → Sane next → Sane (unless t (Bad e) next)
-unless-sane true e next l h = h
+unless-sane : (t : Bool) (e : Refusal) (next : Opened) → (t ≡ false → bySession e ≡ true → ⊥) → (t ≡ true → Sane next) → Sane (unless t (Bad e) next)
+unless-sane true e next l h = h refl
 unless-sane false e next l h = l refl
 
-pub opened-sane : (way : Way) (s : Shape) → Sound way s → (word scratch : List ℕ) → Sane (opened way s word scratch)
+pub opened-sane : (ways : Ways) (s : Shape) → AllSound ways s → (way : ℕ) (word scratch : List ℕ) → Sane (opened ways s way word scratch)
 unfolding opened
-opened-sane way s sound word scratch =
+opened-sane ways s sound way word scratch =
+    unless-sane (ways .known way) Refusal.Shape _ (λ _ h. clash h refl)
+    (λ known.
     unless-sane (lawful s) (shapeRefusal s) _ (λ no h. session-foreign s (shapeRefusal s) h .shape no refl)
-    (unless-sane (eqb (length word) (wordLength s) && eqb (length scratch) (scratchLength s)) Refusal.Length _ (λ _ h. session-foreign s Refusal.Length h .length refl)
-    (word-sane s (way .word s word) (way .answer s word) (sound .never word)))
+    (λ _.
+    unless-sane (eqb (length word) (wordLength s) && eqb (length scratch) (scratchLength s)) Refusal.Length _ (λ _ h. session-foreign s Refusal.Length h .length refl)
+    (λ _. word-sane s (ways .named way .word s word) (ways .named way .answer s word) (sound .sound way known .never word))))
 
--- ---- what an arrival read the clean way is never turned down by
+-- ---- what an arrival read the clean way, number 0, is never turned down by
 page-opens : (s : Shape) (symbols : List ℕ) (k : ℕ) (e : Refusal) (r : PageRead) → (r ≡ page.Refused e → ⊥) → openPage s symbols k r ≡ Bad e → ⊥
 page-opens s symbols k e (page.Page number c) ne h = let z : _≡_ {A = ℕ} 0 1 = cc in omega arith
 page-opens s symbols k e (page.Refused e′) ne h = ne (cc)
@@ -79,8 +82,8 @@ word-opens : (s : Shape) (v : List ℕ) (e : Refusal) → Foreign s e → (r : D
 word-opens s v e f (decoded.Corrected k) ne = page-opens s (extractOf s v) k e (pageOf s (extractOf s v)) (page-never s (extractOf s v) e f)
 word-opens s v e f (decoded.Refused e′) ne = λ h. ne (cc)
 
-pub opened-never : (s : Shape) (word scratch : List ℕ) (e : Refusal) → Foreign s e → opened clean s word scratch ≡ Bad e → ⊥
-unfolding opened
+pub opened-never : (s : Shape) (word scratch : List ℕ) (e : Refusal) → Foreign s e → opened theWays s 0 word scratch ≡ Bad e → ⊥
+unfolding opened isWay wayOf
 opened-never s word scratch e f =
     unless-never (lawful s) (Bad (shapeRefusal s)) _ (λ no h. f .shape no (cc))
     (unless-never (eqb (length word) (wordLength s) && eqb (length scratch) (scratchLength s)) (Bad Refusal.Length) _ (λ _ h. f .length (cc))

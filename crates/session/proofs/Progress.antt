@@ -23,7 +23,7 @@ use Rattle.session.specs.Session.{marked, pagesOf, lowestOf, consistent,
 use Rattle.session.specs.declared.Outcome.{Outcome}
 use Rattle.session.specs.declared.Outcome.the-variants.{Taken, Again, Refused}
 use Rattle.session.specs.declared.Arrived.{Arrived}
-use Rattle.session.specs.Arrival.{Way, Opened, Page, Bad, outcomeOf, sessionBy, sessionAfter, Answering}
+use Rattle.session.specs.Arrival.{Ways, Opened, Page, Bad, outcomeOf, sessionBy, sessionAfter, Answering}
 
 -- ---- counting
 
@@ -194,6 +194,6 @@ pub after-consistent : (σ : Session) (o : Opened) → Consistent σ → Consist
 unfolding sessionAfter
 after-consistent σ o = after-by σ o (outcomeOf σ o)
 
-pub arrival-consistent : (way : Way) (σ : Session) {o : Opened} {word scratch word′ scratch′ : List ℕ} {r : Arrived}
-    → Answering way σ o word scratch word′ scratch′ r → Consistent σ → Consistent (r .session)
-arrival-consistent way σ {o} h right = rw (h .session) (after-consistent σ o right)
+pub arrival-consistent : (ways : Ways) (σ : Session) {way : ℕ} {o : Opened} {word scratch word′ scratch′ : List ℕ} {r : Arrived}
+    → Answering ways σ way o word scratch word′ scratch′ r → Consistent σ → Consistent (r .session)
+arrival-consistent ways σ {o} h right = rw (h .session) (after-consistent σ o right)

@@ -2,8 +2,8 @@
 use mathlib.Core.Path.{_≡_}
 use mathlib.Core.Bool.{Bool, true, false, cond, _&&_, _||_}
 use mathlib.Core.List.{List, [], _∷_}
-use Prim.Native.Nat.{ℕ, _-_, _≤_}
-use lib.Dec.{eqb}
+use Prim.Native.Nat.{ℕ, zero, suc, _-_, _/_, _≤_}
+use lib.Dec.{eqb, ltb}
 use lib.ListN.{length, getD, replicate}
 use Rattle.gtb.specs.declared.Shape.{Shape}
 use Rattle.gtb.specs.declared.Refusal.{Refusal}
@@ -16,6 +16,7 @@ use Rattle.correction.specs.declared.Decoded.the-variants as decoded
 use Rattle.decoder.specs.Damage.{Unmasked}
 use Rattle.correction.specs.Error.{weight, damaged}
 use Rattle.decoder.specs.Decode.{decodeOf, restored}
+use Rattle.majority.specs.Majority.{majorityOf, voted}
 use Rattle.page.specs.declared.PageRead.{PageRead}
 use Rattle.page.specs.declared.PageRead.the-variants as page
 use Rattle.page.specs.Page.{pageOf, marksOf}
@@ -51,6 +52,31 @@ pub record Sound (way : Way) (s : Shape) : Type 0 where
 abbrev pub clean : Way
 clean = record { answer = decodeOf; word = restored; Allowed = λ s e. Unmasked s e × (weight s e ≤ s .n - 1) }
 
+-- reading by vote any damage to at most n/2 digits, rounded down, clean or not (RULES 3.2)
+abbrev pub vote : Way
+vote = record { answer = majorityOf; word = voted; Allowed = λ s e. weight s e ≤ s .n / 2 }
+
+-- the ways that an arrival may name, by number
+pub record Ways : Type 1 where
+  pub known : ℕ → Bool
+  pub named : ℕ → Way
+
+-- each way that may be named is sound
+pub record AllSound (ways : Ways) (s : Shape) : Type 0 where
+  pub sound : (k : ℕ) → ways .known k ≡ true → Sound (ways .named k) s
+
+-- test 1 on the way's number: 0 is clean, 1 by vote
+unfoldable pub isWay : ℕ → Bool
+isWay k = ltb k 2
+
+-- the way with this number
+unfoldable pub wayOf : ℕ → Way
+wayOf zero = clean
+wayOf (suc k) = vote
+
+abbrev pub theWays : Ways
+theWays = record { known = isWay; named = wayOf }
+
 -- what an arrival brings: a page with its number, its marks and the digits changed, or what turns it down
 pub data Opened : Type 0 where
   Page : ℕ → List ℕ → ℕ → Opened
@@ -66,19 +92,21 @@ abbrev pub openWord : Shape → List ℕ → Decoded → Opened
 openWord s v (decoded.Corrected k) = openPage s (extractOf s v) k (pageOf s (extractOf s v))
 openWord s v (decoded.Refused e) = Bad e
 
--- tests 1, 18, 2 to 8, for a session whose figures are right: the word is read, its data digits taken out, the page read
-unfoldable pub opened : Way → Shape → List ℕ → List ℕ → Opened
-opened way s word scratch =
-    unless (lawful s) (Bad (shapeRefusal s))
+-- tests 1, 18, 2 to 8, for a session whose figures are right: a number that names no way is 1, whatever the shape; the word is read that way, its data digits taken out, the page read
+unfoldable pub opened : Ways → Shape → ℕ → List ℕ → List ℕ → Opened
+opened ways s k word scratch =
+    unless (ways .known k) (Bad Refusal.Shape)
+    (unless (lawful s) (Bad (shapeRefusal s))
     (unless (eqb (length word) (wordLength s) && eqb (length scratch) (scratchLength s)) (Bad Refusal.Length)
-    (openWord s (way .word s word) (way .answer s word)))
+    (openWord s (ways .named k .word s word) (ways .named k .answer s word))))
 
 -- with test 11, which comes directly after 1 and 18
-unfoldable pub presented : Way → Session → List ℕ → List ℕ → Opened
-presented way σ word scratch =
-    unless (lawful (σ .shape)) (Bad (shapeRefusal (σ .shape)))
+unfoldable pub presented : Ways → Session → ℕ → List ℕ → List ℕ → Opened
+presented ways σ k word scratch =
+    unless (ways .known k) (Bad Refusal.Shape)
+    (unless (lawful (σ .shape)) (Bad (shapeRefusal (σ .shape)))
     (unless (consistent σ) (Bad Refusal.Figures)
-    (opened way (σ .shape) word scratch))
+    (opened ways (σ .shape) k word scratch)))
 
 -- a marked page is again; then 9
 unfoldable pub outcomeOf : Session → Opened → Outcome
@@ -113,18 +141,18 @@ outcomeScratch scratch (Taken p k) = replicate (length scratch) 0
 outcomeScratch scratch (Again p k) = replicate (length scratch) 0
 outcomeScratch scratch (Refused e) = scratchAfter e scratch
 
--- what an arrival that brings this answers and leaves
-pub record Answering (way : Way) (σ : Session) (o : Opened) (word scratch word′ scratch′ : List ℕ) (r : Arrived) : Type 0 where
+-- what an arrival that names way k and brings this answers and leaves
+pub record Answering (ways : Ways) (σ : Session) (k : ℕ) (o : Opened) (word scratch word′ scratch′ : List ℕ) (r : Arrived) : Type 0 where
   pub outcome : r .outcome ≡ outcomeOf σ o
   pub values : outcomeValues (r .outcome) ≡ outcomeValues (outcomeOf σ o)
   pub session : r .session ≡ sessionAfter σ o
-  pub wordLeft : word′ ≡ wordAfter word (way .word (σ .shape) word) (r .outcome)
+  pub wordLeft : word′ ≡ wordAfter word (ways .named k .word (σ .shape) word) (r .outcome)
   pub scratchLeft : scratch′ ≡ outcomeScratch scratch (r .outcome)
 
 -- an arrival
-abbrev pub Arriving : Way → Session → List ℕ → List ℕ → List ℕ → List ℕ → Arrived → Type 0
-Arriving way σ word scratch = Answering way σ (presented way σ word scratch) word scratch
+abbrev pub Arriving : Ways → Session → ℕ → List ℕ → List ℕ → List ℕ → List ℕ → Arrived → Type 0
+Arriving ways σ k word scratch = Answering ways σ k (presented ways σ k word scratch) word scratch
 
 -- an arrival past test 11, for callers whose session is known to be consistent
-abbrev pub Stepping : Way → Session → List ℕ → List ℕ → List ℕ → List ℕ → Arrived → Type 0
-Stepping way σ word scratch = Answering way σ (opened way (σ .shape) word scratch) word scratch
+abbrev pub Stepping : Ways → Session → ℕ → List ℕ → List ℕ → List ℕ → List ℕ → Arrived → Type 0
+Stepping ways σ k word scratch = Answering ways σ k (opened ways (σ .shape) k word scratch) word scratch

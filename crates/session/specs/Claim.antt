@@ -14,15 +14,15 @@ use Rattle.session.specs.declared.Outcome.{Outcome}
 use Rattle.session.specs.declared.Outcome.the-variants.{Taken, Again, Refused}
 use Rattle.session.specs.declared.Arrived.{Arrived}
 use Rattle.session.specs.Session.{freshOf, countOf}
-use Rattle.session.specs.Arrival.{bySession, Way, Sound, Opened, Page, Bad, opened, Arriving}
+use Rattle.session.specs.Arrival.{bySession, Ways, AllSound, Opened, Page, Bad, opened, Arriving}
 use Rattle.session.specs.Recording.{Sheet, sheetAt, Recording, tally, Arrival, arrivalAt, openedAt, TurnedDown, Brings, Fits}
 
 -- ---- a run: sessions and answers, each arrival related to the next by what an arrival ensures
-pub data Run (way : Way) : Session → List Arrival → List Outcome → Session → Type 0 where
-  stop : {σ : Session} → Run way σ [] [] σ
+pub data Run (ways : Ways) : Session → List Arrival → List Outcome → Session → Type 0 where
+  stop : {σ : Session} → Run ways σ [] [] σ
   step : {σ end : Session} {a : Arrival} {rest : List Arrival} {answers : List Outcome} {r : Arrived} {word′ scratch′ : List ℕ}
-      → Arriving way σ (a .word) (a .scratch) word′ scratch′ r → Run way (r .session) rest answers end
-      → Run way σ (a ∷ rest) (r .outcome ∷ answers) end
+      → Arriving ways σ (a .way) (a .word) (a .scratch) word′ scratch′ r → Run ways (r .session) rest answers end
+      → Run ways σ (a ∷ rest) (r .outcome ∷ answers) end
 
 -- what was brought is the page with this number
 abbrev pub hasNumber : ℕ → Opened → Bool
@@ -30,8 +30,8 @@ hasNumber number (Page p marks k) = eqb p number
 hasNumber number (Bad e) = false
 
 -- the page with this number has come unrefused among the first m arrivals
-unfoldable pub come : Way → Shape → List Arrival → ℕ → ℕ → Bool
-come way s arrivals m number = any m (λ j. hasNumber number (openedAt way s arrivals j))
+unfoldable pub come : Ways → Shape → List Arrival → ℕ → ℕ → Bool
+come ways s arrivals m number = any m (λ j. hasNumber number (openedAt ways s arrivals j))
 
 -- ---- the plain machine: a set of page numbers and a count per function
 pub record Machine : Type 0 where
@@ -53,9 +53,9 @@ machineStep m (Page number marks k) = machinePage m number marks (m .pages numbe
 machineStep m (Bad e) = m
 
 -- fed, in turn, the page of each arrival that isn't refused
-abbrev pub machine : Way → Shape → Machine → List Arrival → Machine
-machine way s m [] = m
-machine way s m (a ∷ rest) = machine way s (machineStep m (opened way s (a .word) (a .scratch))) rest
+abbrev pub machine : Ways → Shape → Machine → List Arrival → Machine
+machine ways s m [] = m
+machine ways s m (a ∷ rest) = machine ways s (machineStep m (opened ways s (a .way) (a .word) (a .scratch))) rest
 
 -- the session holds what the machine holds
 pub record Agrees (σ : Session) (m : Machine) : Type 0 where
@@ -67,15 +67,15 @@ abbrev pub answerAt : List Outcome → ℕ → Outcome
 answerAt answers j = getD answers j (Refused Refusal.Shape)
 
 -- ---- what every list of arrivals from a fresh session on must show
-pub record EveryList (way : Way) (s : Shape) (arrivals : List Arrival) (answers : List Outcome) (end : Session) : Type 0 where
-  pub agrees : Agrees end (machine way s emptyMachine arrivals)
+pub record EveryList (ways : Ways) (s : Shape) (arrivals : List Arrival) (answers : List Outcome) (end : Session) : Type 0 where
+  pub agrees : Agrees end (machine ways s emptyMachine arrivals)
   pub answered : length answers ≡ length arrivals
   -- after every arrival the figures are the number of different pages that have come unrefused, and the lowest number that has not
-  pub figures : (m : ℕ) → m ≤ length arrivals → (first : List Outcome) (σ : Session) → Run way (freshOf s) (take m arrivals) first σ
-      → (σ .pages ≡ count 1024 (come way s arrivals m)) × (σ .lowest ≡ lowestNot 1024 (come way s arrivals m))
+  pub figures : (m : ℕ) → m ≤ length arrivals → (first : List Outcome) (σ : Session) → Run ways (freshOf s) (take m arrivals) first σ
+      → (σ .pages ≡ count 1024 (come ways s arrivals m)) × (σ .lowest ≡ lowestNot 1024 (come ways s arrivals m))
   -- refused exactly if what was handed in turns it down, by that number, and never by 9 or 11
-  pub refused : (j : ℕ) → j < length arrivals → (e : Refusal) → answerAt answers j ≡ Refused e → TurnedDown way s (arrivalAt arrivals j) e
-  pub turned : (j : ℕ) → j < length arrivals → (e : Refusal) → TurnedDown way s (arrivalAt arrivals j) e → answerAt answers j ≡ Refused e
+  pub refused : (j : ℕ) → j < length arrivals → (e : Refusal) → answerAt answers j ≡ Refused e → TurnedDown ways s (arrivalAt arrivals j) e
+  pub turned : (j : ℕ) → j < length arrivals → (e : Refusal) → TurnedDown ways s (arrivalAt arrivals j) e → answerAt answers j ≡ Refused e
   pub never : (j : ℕ) → j < length arrivals → (e : Refusal) → bySession e ≡ true → answerAt answers j ≡ Refused e → ⊥
 
 -- the answer is taken
@@ -97,28 +97,28 @@ pub record SameSheets (pages others : List Sheet) : Type 0 where
   pub back : (j : ℕ) → j < length others → (i : ℕ) × (i < length pages) × (sheetAt pages i ≡ sheetAt others j)
 
 -- what such a list must show
-pub record Demand3 (way : Way) (s : Shape) (pages : List Sheet) (arrivals : List Arrival) (answers : List Outcome) (end : Session) : Type 0 where
+pub record Demand3 (ways : Ways) (s : Shape) (pages : List Sheet) (arrivals : List Arrival) (answers : List Outcome) (end : Session) : Type 0 where
   -- after every prefix the counts are those of the pages that have come unrefused so far
-  pub sofar : (m : ℕ) → m ≤ length arrivals → (first : List Outcome) (σ : Session) → Run way (freshOf s) (take m arrivals) first σ
-      → (first ≡ take m answers) × ((f : ℕ) → f < 256 → getD (σ .calls) f 0 ≡ tally pages (λ p. come way s arrivals m (p .number)) f)
+  pub sofar : (m : ℕ) → m ≤ length arrivals → (first : List Outcome) (σ : Session) → Run ways (freshOf s) (take m arrivals) first σ
+      → (first ≡ take m answers) × ((f : ℕ) → f < 256 → getD (σ .calls) f 0 ≡ tally pages (λ p. come ways s arrivals m (p .number)) f)
   -- and a page of the recording has come so far exactly if an arrival so far brings it
   pub came : (m : ℕ) → m ≤ length arrivals → (i : ℕ) → i < length pages
-      → (come way s arrivals m (sheetAt pages i .number) ≡ true)
-      ↔ ((j : ℕ) × (j < m) × (k : ℕ) × Brings way s (arrivalAt arrivals j) (sheetAt pages i) k)
+      → (come ways s arrivals m (sheetAt pages i .number) ≡ true)
+      ↔ ((j : ℕ) × (j < m) × (k : ℕ) × Brings ways s (arrivalAt arrivals j) (sheetAt pages i) k)
   -- at the end the counts are the recording's own
   pub whole : (f : ℕ) → f < 256 → getD (end .calls) f 0 ≡ tally pages (λ p. true) f
   -- which answer an arrival that brings a page gets
-  pub answer : (j : ℕ) → j < length arrivals → (i : ℕ) → i < length pages → (k : ℕ) → Brings way s (arrivalAt arrivals j) (sheetAt pages i) k
-      → answerAt answers j ≡ answerTo (come way s arrivals j (sheetAt pages i .number)) (sheetAt pages i .number) k
+  pub answer : (j : ℕ) → j < length arrivals → (i : ℕ) → i < length pages → (k : ℕ) → Brings ways s (arrivalAt arrivals j) (sheetAt pages i) k
+      → answerAt answers j ≡ answerTo (come ways s arrivals j (sheetAt pages i .number)) (sheetAt pages i .number) k
   -- taken is answered as often as the recording has pages
   pub taken : count (length answers) (λ j. isTaken (answerAt answers j)) ≡ length pages
   -- an arrival that is turned down is answered with that number, and what holds of every list holds of this one
-  pub every : EveryList way s arrivals answers end
+  pub every : EveryList ways s arrivals answers end
   -- the list fits no other recording of this shape
-  pub only : (others : List Sheet) → Recording s others → Fits way s others arrivals → SameSheets pages others
+  pub only : (others : List Sheet) → Recording s others → Fits ways s others arrivals → SameSheets pages others
 
--- the one claim: for every recording, every list of arrivals that fits it and whatever run of them from a fresh session
-abbrev pub Claim : Way → Type 0
-Claim way = (s : Shape) (pages : List Sheet) (arrivals : List Arrival) (answers : List Outcome) (end : Session)
-    → Sound way s → Recording s pages → Fits way s pages arrivals → Run way (freshOf s) arrivals answers end
-    → Demand3 way s pages arrivals answers end
+-- the one claim: for every recording, every list of arrivals, each by its own way, that fits it and whatever run of them from a fresh session
+abbrev pub Claim : Ways → Type 0
+Claim ways = (s : Shape) (pages : List Sheet) (arrivals : List Arrival) (answers : List Outcome) (end : Session)
+    → AllSound ways s → Recording s pages → Fits ways s pages arrivals → Run ways (freshOf s) arrivals answers end
+    → Demand3 ways s pages arrivals answers end

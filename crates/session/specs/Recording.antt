@@ -1,7 +1,7 @@
 -- A recording, and the arrivals that fit it (RULES 5).
 use mathlib.Core.Path.{_≡_}
 use mathlib.Core.Logic.{_⊎_}
-use mathlib.Core.Bool.{Bool, cond}
+use mathlib.Core.Bool.{Bool, true, cond}
 use mathlib.Core.List.{List, []}
 use Prim.Native.Nat.{ℕ, _<_}
 use lib.ListN.{length, getD}
@@ -15,7 +15,7 @@ use Rattle.gtb.specs.Positions.{Encodes}
 use Rattle.correction.specs.Error.{weight, damaged}
 use Rattle.page.specs.Page.{writeStatus, pageSymbols}
 use Rattle.session.specs.Session.{countOf}
-use Rattle.session.specs.Arrival.{Way, Opened, Bad, opened}
+use Rattle.session.specs.Arrival.{Ways, Opened, Bad, opened}
 
 -- ---- recordings
 
@@ -49,41 +49,43 @@ tally pages some f = sum (length pages) (λ i. cond (some (sheetAt pages i)) (co
 
 -- ---- arrivals
 
--- what the caller lends
+-- the way that the caller names, and what it lends
 pub record Arrival : Type 0 where
+  pub way : ℕ
   pub word : List ℕ
   pub scratch : List ℕ
 
 -- stands where a list has no arrival
 abbrev pub nothing : Arrival
-nothing = record { word = []; scratch = [] }
+nothing = record { way = 0; word = []; scratch = [] }
 
 -- arrival j
 abbrev pub arrivalAt : List Arrival → ℕ → Arrival
 arrivalAt arrivals j = getD arrivals j nothing
 
 -- what arrival j brings
-abbrev pub openedAt : Way → Shape → List Arrival → ℕ → Opened
-openedAt way s arrivals j = opened way s (arrivalAt arrivals j .word) (arrivalAt arrivals j .scratch)
+abbrev pub openedAt : Ways → Shape → List Arrival → ℕ → Opened
+openedAt ways s arrivals j = opened ways s (arrivalAt arrivals j .way) (arrivalAt arrivals j .word) (arrivalAt arrivals j .scratch)
 
 -- turned down by what was handed in alone
-pub record TurnedDown (way : Way) (s : Shape) (a : Arrival) (e : Refusal) : Type 0 where
-  pub by : opened way s (a .word) (a .scratch) ≡ Bad e
+pub record TurnedDown (ways : Ways) (s : Shape) (a : Arrival) (e : Refusal) : Type 0 where
+  pub by : opened ways s (a .way) (a .word) (a .scratch) ≡ Bad e
 
--- the stored word with the page's data digits, damage to k digits XORed on, and a scratch of the right length
-pub record Brings (way : Way) (s : Shape) (a : Arrival) (p : Sheet) (k : ℕ) : Type 0 where
+-- by a way that there is: the stored word with the page's data digits, damage to k digits XORed on that this way allows, and a scratch of the right length
+pub record Brings (ways : Ways) (s : Shape) (a : Arrival) (p : Sheet) (k : ℕ) : Type 0 where
+  pub known : ways .known (a .way) ≡ true
   pub stored : List ℕ
   pub encodes : Encodes s (symbolsOf s p) stored
   pub error : List ℕ
   pub damage : Word s error
-  pub allowed : way .Allowed s (at error)
+  pub allowed : ways .named (a .way) .Allowed s (at error)
   pub changed : weight s (at error) ≡ k
   pub word : a .word ≡ damaged stored error
   pub scratch : length (a .scratch) ≡ scratchLength s
 
 -- each arrival is turned down or brings a page of the recording, and each page comes at least once
-pub record Fits (way : Way) (s : Shape) (pages : List Sheet) (arrivals : List Arrival) : Type 0 where
+pub record Fits (ways : Ways) (s : Shape) (pages : List Sheet) (arrivals : List Arrival) : Type 0 where
   pub each : (j : ℕ) → j < length arrivals
-      → ((e : Refusal) × TurnedDown way s (arrivalAt arrivals j) e)
-      ⊎ ((i : ℕ) × (i < length pages) × (k : ℕ) × Brings way s (arrivalAt arrivals j) (sheetAt pages i) k)
-  pub every : (i : ℕ) → i < length pages → (j : ℕ) × (j < length arrivals) × (k : ℕ) × Brings way s (arrivalAt arrivals j) (sheetAt pages i) k
+      → ((e : Refusal) × TurnedDown ways s (arrivalAt arrivals j) e)
+      ⊎ ((i : ℕ) × (i < length pages) × (k : ℕ) × Brings ways s (arrivalAt arrivals j) (sheetAt pages i) k)
+  pub every : (i : ℕ) → i < length pages → (j : ℕ) × (j < length arrivals) × (k : ℕ) × Brings ways s (arrivalAt arrivals j) (sheetAt pages i) k

@@ -6,12 +6,13 @@ use Prim.Native.Nat.{ℕ, _^_, _<_}
 use lib.ListN.{length, getD}
 use Rattle.gtb.specs.declared.Shape.{Shape}
 use Rattle.gtb.specs.Shape.{Lawful, wordLength, infoLength, scratchLength}
+use Rattle.correction.specs.declared.Decoded.{Decoded}
 use Rattle.correction.specs.declared.Decoded.the-variants.{Corrected}
-use Rattle.decoder.specs.Decode.{decodeOf, restored}
+use Rattle.correction.specs.Answer.{decodedWord}
 use Rattle.session.specs.declared.Session.{Session}
 use Rattle.session.specs.declared.Arrived.{Arrived}
 use Rattle.session.specs.Session.{added, overflows}
-use Rattle.session.specs.Arrival.{Opened, outcomeOf, sessionAfter}
+use Rattle.session.specs.Arrival.{Way, isWay, wayOf, theWays, Opened, outcomeOf, sessionAfter, Stepping}
 
 -- marks added to the counts: all of them, or a count would pass its limit
 pub record Adding (calls marks calls′ : List ℕ) (r : Bool) : Type 0 where
@@ -40,7 +41,16 @@ pub record Lent (s : Shape) (word scratch copy symbols : List ℕ) : Type 0 wher
   pub copySize : length copy ≡ wordLength s
   pub symbolsSize : length symbols ≡ infoLength s
 
+-- a word read some way: its answer, and the word that it gives
+pub record Reading (way : Way) (s : Shape) (w w′ : List ℕ) (r : Decoded) : Type 0 where
+  pub answer : r ≡ way .answer s w
+  pub word : w′ ≡ decodedWord w (way .word s w) r
+
 -- the copy holds what reading gives
-pub record Restored (s : Shape) (word copy : List ℕ) (k : ℕ) : Type 0 where
-  pub answer : decodeOf s word ≡ Corrected k
-  pub copied : copy ≡ restored s word
+pub record Restored (way : Way) (s : Shape) (word copy : List ℕ) (k : ℕ) : Type 0 where
+  pub answer : way .answer s word ≡ Corrected k
+  pub copied : copy ≡ way .word s word
+
+-- the page in the copy decides, whichever way gave the copy
+pub record Deciding (σ : Session) (word scratch copy : List ℕ) (k : ℕ) (word′ scratch′ : List ℕ) (r : Arrived) : Type 0 where
+  pub steps : (way : ℕ) → isWay way ≡ true → Restored (wayOf way) (σ .shape) word copy k → Stepping theWays σ way word scratch word′ scratch′ r

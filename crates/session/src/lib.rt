@@ -1,6 +1,7 @@
 // The session: which pages have come, and how often each function was called.
 mod figures;
 pub mod number;
+mod way;
 
 use correction::Decoded;
 use gtb::Refusal;
@@ -11,11 +12,13 @@ use gtb::size::scratch_length;
 use gtb::size::word_length;
 use page::PageRead;
 ghost use mathlib.Core.Path.{_≡_};
+ghost use mathlib.Core.Bool.{true};
 ghost use Prim.Native.Nat.{_<_};
+ghost use Rattle.gtb.specs.Shape.{Lawful};
 ghost use Rattle.gtb.specs.Answer.{Answered};
 ghost use Rattle.session.specs.Session.{consistent, Consistent, countedOf, countedNumber, Beginning};
-ghost use Rattle.session.specs.Arrival.{clean, Opened, Arriving, Stepping, isAccepted};
-ghost use Rattle.session.specs.Steps.{Adding, Counts, Functions, Settling, Lent, Restored};
+ghost use Rattle.session.specs.Arrival.{isWay, theWays, Opened, Arriving, Stepping, isAccepted};
+ghost use Rattle.session.specs.Steps.{Adding, Counts, Functions, Settling, Lent, Deciding};
 
 // A session handed in from elsewhere may hold anything, a bad shape too.
 pub struct Session {
@@ -109,10 +112,13 @@ impl Session {
         Counted::Calls(calls[at])
     }
 
-    // An arrival: tests 1, 18 and 11, then the step.
-    pub fn arrive(self, word: &mut [u32], scratch: &mut [u32]) -> Arrived
-        ensures { λ r. ⌜ Arriving clean self (now (word .entry)) (now (scratch .entry)) (now (word .exit)) (now (scratch .exit)) r ⌝ }
+    // An arrival, read the way that it names: tests 1, 18 and 11, then the word.
+    pub fn arrive(self, way: u32, word: &mut [u32], scratch: &mut [u32]) -> Arrived
+        ensures { λ r. ⌜ Arriving theWays self way (now (word .entry)) (now (scratch .entry)) (now (word .exit)) (now (scratch .exit)) r ⌝ }
     {
+        if !way::is_way(way) {
+            return self.refused(Refusal::Shape);
+        }
         let shape = self.shape;
         if !gtb::is_lawful(shape) {
             return self.refused(gtb::shape_refusal(shape));
@@ -120,18 +126,30 @@ impl Session {
         if !self.is_consistent() {
             return self.refused(Refusal::Figures);
         }
-        self.step(word, scratch)
+        self.settle_word(way, word, scratch)
     }
 
-    // An arrival at a session whose figures are known to be right. Past tests 1, 18 and 2 it works on a copy, so that a word refused later is still the word that came.
-    pub fn step(self, word: &mut [u32], scratch: &mut [u32]) -> Arrived
+    // An arrival at a session whose figures are known to be right: tests 1 and 18, then the word.
+    pub fn step(self, way: u32, word: &mut [u32], scratch: &mut [u32]) -> Arrived
         requires { ⌜ Consistent self ⌝ }
-        ensures { λ r. ⌜ Stepping clean self (now (word .entry)) (now (scratch .entry)) (now (word .exit)) (now (scratch .exit)) r ⌝ }
+        ensures { λ r. ⌜ Stepping theWays self way (now (word .entry)) (now (scratch .entry)) (now (word .exit)) (now (scratch .exit)) r ⌝ }
     {
+        if !way::is_way(way) {
+            return self.refused(Refusal::Shape);
+        }
         let shape = self.shape;
         if !gtb::is_lawful(shape) {
             return self.refused(gtb::shape_refusal(shape));
         }
+        self.settle_word(way, word, scratch)
+    }
+
+    // A word that arrives, past tests 1, 18 and 11. Past test 2 it works on a copy, so that a word refused later is still the word that came.
+    pub fn settle_word(self, way: u32, word: &mut [u32], scratch: &mut [u32]) -> Arrived
+        requires { ⌜ (isWay way ≡ true) × Lawful (self .shape) × Consistent self ⌝ }
+        ensures { λ r. ⌜ Stepping theWays self way (now (word .entry)) (now (scratch .entry)) (now (word .exit)) (now (scratch .exit)) r ⌝ }
+    {
+        let shape = self.shape;
         let size = word_length(shape);
         if word.len() != size {
             return self.refused(Refusal::Length);
@@ -142,7 +160,13 @@ impl Session {
         let count = info_length(shape);
         let mut copied = [0u32; 961];
         let mut symbols = [0u32; 900];
-        self.read(word, scratch, &mut copied[..size], &mut symbols[..count])
+        self.read(
+            way,
+            word,
+            scratch,
+            &mut copied[..size],
+            &mut symbols[..count],
+        )
     }
 
     // Turned down: the session is as it was.
@@ -155,20 +179,21 @@ impl Session {
         }
     }
 
-    // Tests 3 and 4, on the copy. From here on every answer leaves the scratch cleared.
+    // Test 3 and the way's own, on the copy. From here on every answer leaves the scratch cleared.
     fn read(
         self,
+        way: u32,
         word: &mut [u32],
         scratch: &mut [u32],
         copied: &mut [u32],
         symbols: &mut [u32],
     ) -> Arrived
-        requires { ⌜ Consistent self × Lent (self .shape) (now word) (now scratch) (now copied) (now symbols) ⌝ }
-        ensures { λ r. ⌜ Stepping clean self (now (word .entry)) (now (scratch .entry)) (now (word .exit)) (now (scratch .exit)) r ⌝ }
+        requires { ⌜ (isWay way ≡ true) × Consistent self × Lent (self .shape) (now word) (now scratch) (now copied) (now symbols) ⌝ }
+        ensures { λ r. ⌜ Stepping theWays self way (now (word .entry)) (now (scratch .entry)) (now (word .exit)) (now (scratch .exit)) r ⌝ }
     {
         let shape = self.shape;
         gtb::copy(word, copied);
-        match decoder::decode(shape, copied) {
+        match way::read_word(shape, way, copied) {
             Decoded::Refused(e) => {
                 gtb::clear(scratch);
                 self.refused(e)
@@ -186,8 +211,8 @@ impl Session {
         symbols: &mut [u32],
         k: u32,
     ) -> Arrived
-        requires { ⌜ Consistent self × Lent (self .shape) (now word) (now scratch) (now copied) (now symbols) × Restored (self .shape) (now word) (now copied) k ⌝ }
-        ensures { λ r. ⌜ Stepping clean self (now (word .entry)) (now (scratch .entry)) (now (word .exit)) (now (scratch .exit)) r ⌝ }
+        requires { ⌜ Consistent self × Lent (self .shape) (now word) (now scratch) (now copied) (now symbols) ⌝ }
+        ensures { λ r. ⌜ Deciding self (now (word .entry)) (now (scratch .entry)) (now (copied .entry)) k (now (word .exit)) (now (scratch .exit)) r ⌝ }
     {
         let shape = self.shape;
         gtb::clear(scratch);

@@ -6,7 +6,7 @@ use crate::damage::{apply, make, unmasked, Style};
 use crate::ffi;
 use crate::random::Random;
 use crate::reference::reader::error_of;
-use crate::reference::session::{Session, SESSION_LEN};
+use crate::reference::session::{Session, CLEAN, SESSION_LEN};
 use crate::reference::shape::Shape;
 use crate::reference::writer::codeword;
 use crate::rivals::arrival::{self, Way};
@@ -112,7 +112,7 @@ pub(super) fn batch_size(shape: Shape) -> usize {
 }
 
 /// A reader for one shape.
-type Decode<'a> = &'a dyn Fn(&mut [u32]) -> u32;
+pub(super) type Decode<'a> = &'a dyn Fn(&mut [u32]) -> u32;
 
 fn reading(shape: Shape, kind: Kind) -> Times {
     let mut random = Random::new(1, "reading");
@@ -134,7 +134,7 @@ fn reading(shape: Shape, kind: Kind) -> Times {
 }
 
 /// A reader's work on a copy of the words.
-fn read_batch<'a>(shape: Shape, decode: Decode<'a>, words: &'a [u32]) -> Batch<'a> {
+pub(super) fn read_batch<'a>(shape: Shape, decode: Decode<'a>, words: &'a [u32]) -> Batch<'a> {
     let mut work = words.to_vec();
     Box::new(move || {
         work.copy_from_slice(words);
@@ -147,7 +147,7 @@ fn read_batch<'a>(shape: Shape, decode: Decode<'a>, words: &'a [u32]) -> Batch<'
 }
 
 /// Each answer, and the words as left.
-fn read_all(shape: Shape, decode: Decode, words: &mut [u32]) -> (Vec<u32>, Vec<u32>) {
+pub(super) fn read_all(shape: Shape, decode: Decode, words: &mut [u32]) -> (Vec<u32>, Vec<u32>) {
     let answers = words.chunks_exact_mut(shape.word_len()).map(decode).collect();
     (answers, words.to_vec())
 }
@@ -203,7 +203,7 @@ fn arriving(shape: Shape, kind: Kind) -> Times {
     let plain = Way { decode: straightforward::decode, extract: &by_table };
     let tuned = Way { decode: tuned::decode, extract: &by_rows };
     let contestants: [Arrive; 3] = [
-        &ffi::arrive,
+        &|session, word, scratch, outcome| ffi::arrive(session, CLEAN, word, scratch, outcome),
         &|session, word, scratch, outcome| arrival::arrive(plain, session, word, scratch, outcome),
         &|session, word, scratch, outcome| arrival::arrive(tuned, session, word, scratch, outcome),
     ];

@@ -2,17 +2,18 @@
 
 use crate::call::{answer_of, to_bytes, After, Call, Entry};
 use crate::capture::{page_numbers, Page};
-use crate::damage::{apply, unmasked};
+use crate::damage::{apply, make, unmasked, STYLES};
 use crate::random::Random;
 use crate::reference::session::{Session, LOWEST_AT, PAGES_AT, SESSION_LEN};
 use crate::reference::shape::{Refusal, Shape};
 use crate::reference::writer::codeword;
 
-pub const ENTRIES: [Entry; 13] = [
+pub const ENTRIES: [Entry; 14] = [
     Entry::Encode,
     Entry::Extract,
     Entry::Decode,
     Entry::Looked,
+    Entry::DecodeMajority,
     Entry::Fill,
     Entry::ReadPage,
     Entry::Marks,
@@ -45,6 +46,12 @@ pub fn good(entry: Entry, shape: Shape, random: &mut Random) -> Call {
         Entry::Looked => {
             let word = damaged(shape, codeword(shape, &data), random);
             Call::new(entry, shape, &[&word, &random.numbers(word.len())])
+        }
+        Entry::DecodeMajority => {
+            let mut word = codeword(shape, &data);
+            let weight = random.below(shape.most_votes() + 1);
+            apply(&make(random.pick(&STYLES), shape, weight, random), &mut word);
+            Call::new(entry, shape, &[&word])
         }
         Entry::Fill => {
             let places = some_places(shape, random);
@@ -111,9 +118,12 @@ pub fn turned_down(call: &Call, refusal: Refusal) -> After {
 }
 
 /// The call with a fault that a test after 1 and 18 would find: figures that can't be, a slice of wrong
-/// length, a number too large.
+/// length, a number too large. An arrival's number is its way, which is looked at first.
 pub fn later_faults(call: &Call, random: &mut Random) -> Vec<Call> {
-    let mut calls = vec![Call { number: u32::MAX, ..call.clone() }];
+    let mut calls = vec![];
+    if call.entry != Entry::Arrive {
+        calls.push(Call { number: u32::MAX, ..call.clone() });
+    }
     if call.entry.takes_session() {
         for at in [PAGES_AT, LOWEST_AT] {
             let mut call = call.clone();

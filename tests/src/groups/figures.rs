@@ -191,7 +191,7 @@ fn with_another_fault(make: Make, q: u32, n: u32, random: &mut Random) -> Verdic
 }
 
 /// The shape with a slope that is too large, or stands twice, among those that count for `lawful`.
-fn bad_slope(shape: Shape, lawful: Shape, random: &mut Random) -> Shape {
+pub(super) fn bad_slope(shape: Shape, lawful: Shape, random: &mut Random) -> Shape {
     let mut slopes = shape.slopes;
     let last = lawful.own_slopes().len() - 1;
     let bad = random.pick(&[lawful.q, u32::MAX, slopes[0]]);

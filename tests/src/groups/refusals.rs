@@ -12,11 +12,12 @@ use crate::report::{Group, Unit, Verdict};
 use crate::shrink::expect;
 
 /// Those that test the width of a slice.
-const WIDE: [Entry; 9] = [
+const WIDE: [Entry; 10] = [
     Entry::Encode,
     Entry::Extract,
     Entry::Decode,
     Entry::Looked,
+    Entry::DecodeMajority,
     Entry::Fill,
     Entry::ReadPage,
     Entry::Marks,

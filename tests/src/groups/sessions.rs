@@ -3,10 +3,10 @@
 use super::calls::{old_scratch_len, YES};
 use crate::call::{difference, Call, Entry};
 use crate::capture::{page_numbers, recording, Page};
-use crate::damage::{apply, make, unmasked, STYLES};
+use crate::damage::{allowed, apply, make, STYLES};
 use crate::random::Random;
 use crate::reference::page::{FUNCTIONS, PAGES};
-use crate::reference::session::{Outcome, Session, CALLS_AT, LOWEST_AT, MARKS_AT, PAGES_AT, SESSION_LEN};
+use crate::reference::session::{Outcome, Session, CALLS_AT, LOWEST_AT, MARKS_AT, PAGES_AT, SESSION_LEN, WAYS};
 use crate::reference::shape::{orders_and_directions, Shape, SHAPE_LEN};
 use crate::reference::writer::codeword;
 use crate::report::{Group, Unit, Verdict};
@@ -26,9 +26,10 @@ pub fn groups() -> [Group; 2] {
     [group, queries]
 }
 
-/// What the caller lends beside the session.
+/// The way that the caller names, and what it lends beside the session.
 #[derive(Clone)]
 struct Arrival {
+    way: u32,
     word: Vec<u32>,
     scratch: Vec<u32>,
 }
@@ -47,8 +48,8 @@ impl Run {
         let mut session = self.start.clone();
         let mut outcomes = vec![];
         for (i, arrival) in self.arrivals.iter().enumerate() {
-            let call =
-                Call::new(Entry::Arrive, shape_of(&session), &[&session, &arrival.word, &arrival.scratch, &[9; 3]]);
+            let lent: [&[u32]; 4] = [&session, &arrival.word, &arrival.scratch, &[9; 3]];
+            let call = Call::numbered(Entry::Arrive, shape_of(&session), arrival.way, &lent);
             let (expected, found) = (call.on_reference(), call.on_library());
             if let Some(difference) = difference(Entry::Arrive, &expected, &found) {
                 return Err(format!("at arrival {i}, {difference}"));
@@ -73,9 +74,9 @@ impl Case for Run {
         let session = Session::from_values(&self.start);
         let pages: Vec<usize> = (0..PAGES).filter(|&page| session.taken[page]).collect();
         let calls: Vec<(usize, u32)> = session.calls.into_iter().enumerate().filter(|(_, calls)| *calls > 0).collect();
-        let words: Vec<&Vec<u32>> = self.arrivals.iter().map(|arrival| &arrival.word).collect();
+        let words: Vec<(u32, &Vec<u32>)> = self.arrivals.iter().map(|arrival| (arrival.way, &arrival.word)).collect();
         let Session { shape, figures, .. } = session;
-        format!("{shape:?}, {figures:?}, taken {pages:?}, calls {calls:?}, arrivals {words:?}")
+        format!("{shape:?}, {figures:?}, taken {pages:?}, calls {calls:?}, ways and words {words:?}")
     }
 }
 
@@ -83,15 +84,15 @@ fn shape_of(session: &[u32]) -> Shape {
     Shape::from_values(&session[..SHAPE_LEN])
 }
 
-fn arrival(shape: Shape, word: Vec<u32>, random: &mut Random) -> Arrival {
-    Arrival { word, scratch: random.numbers(shape.scratch_len()) }
+fn arrival(way: u32, shape: Shape, word: Vec<u32>, random: &mut Random) -> Arrival {
+    Arrival { way, word, scratch: random.numbers(shape.scratch_len()) }
 }
 
-/// A page with damage that reading undoes.
+/// A page with damage that reading undoes, by any way.
 fn readable(shape: Shape, page: &Page, random: &mut Random) -> Arrival {
-    let weight = random.below(shape.n as usize);
-    let error = unmasked(shape, weight, random);
-    arrival(shape, page.damaged(shape, &error), random)
+    let way = random.below(WAYS as usize) as u32;
+    let error = allowed(way, shape, random);
+    arrival(way, shape, page.damaged(shape, &error), random)
 }
 
 /// Anything: mostly words that are refused, for every reason.
@@ -115,7 +116,8 @@ fn anything(shape: Shape, page: &Page, random: &mut Random) -> Arrival {
         3 => word.push(0),
         _ => {}
     }
-    let mut arrival = arrival(shape, word, random);
+    let way = if random.one_in(16) { random.number() } else { random.below(WAYS as usize) as u32 };
+    let mut arrival = arrival(way, shape, word, random);
     match random.below(16) {
         0 => arrival.scratch.truncate(shape.scratch_len() - 1),
         1 => arrival.scratch.push(7),
@@ -127,7 +129,7 @@ fn anything(shape: Shape, page: &Page, random: &mut Random) -> Arrival {
 
 fn is_refused(shape: Shape, arrival: &Arrival) -> bool {
     let mut session = Session::fresh(shape).expect("a lawful shape");
-    let outcome = session.arrive(&mut arrival.word.clone(), &mut arrival.scratch.clone());
+    let outcome = session.arrive(arrival.way, &mut arrival.word.clone(), &mut arrival.scratch.clone());
     matches!(outcome, Outcome::Refused(_))
 }
 

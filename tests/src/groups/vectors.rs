@@ -1,7 +1,7 @@
 //! The rules' bench values, and some for other slopes, as calls with what must come of them.
 
 use crate::call::{answer_of, difference, to_bytes, After, Call, Entry};
-use crate::reference::session::{CALLS_AT, LOWEST_AT, MARKS_AT, PAGES_AT, SESSION_LEN};
+use crate::reference::session::{CALLS_AT, CLEAN, LOWEST_AT, MARKS_AT, PAGES_AT, SESSION_LEN, VOTE};
 use crate::reference::shape::{Refusal, Shape, SHAPE_LEN, SLOPES};
 use crate::report::{Group, Unit};
 
@@ -71,7 +71,9 @@ fn words() -> Vec<Vector> {
     };
     let p3 = encode(Shape::new(3, 2, 3), &[3, 5, 6, 7]);
     let decode = |word: &[u32]| Call::new(Entry::Decode, B3, &[word]);
+    let vote = |word: &[u32]| Call::new(Entry::DecodeMajority, B3, &[word]);
     let host = |word: &[u32]| Call::new(Entry::HostReadWord, B3, &[&to_bytes(word)]);
+    let one_damaged = [3, 6, 5, 2, 3, 6, 6, 5, 3];
     vec![
         vector("P3", p3, Ok(0), &[&[3, 5, 6, 7], &[0; 5], &[7, 5, 2, 6, 3, 5, 1, 6, 7]]),
         vector("P4", encode(B3, &[5, 3]), Ok(0), &[&[5, 3], &[0; 7], &P4_WORD]),
@@ -79,6 +81,10 @@ fn words() -> Vec<Vector> {
         vector("P5", decode(&P5_WORD), Ok(2), &[&P4_WORD]),
         vector("P5 for the host", host(&P5_WORD), Ok(2), &[&to_bytes(&P4_WORD)]),
         unchanging("P6", decode(&P6_WORD), Err(Refusal::Uncorrectable)),
+        unchanging("P4 by vote", vote(&P4_WORD), Ok(0)),
+        vector("P4 by vote, 7 on digit 3", vote(&one_damaged), Ok(1), &[&P4_WORD]),
+        unchanging("P5 by vote", vote(&P5_WORD), Err(Refusal::NoMajority)),
+        unchanging("P6 by vote", vote(&P6_WORD), Err(Refusal::NoMajority)),
         unchanging("P6 for the host", host(&P6_WORD), Err(Refusal::Uncorrectable)),
         vector("P7", encode(B8, &[1, 2, 3, 5]), Ok(0), &[&[1, 2, 3, 5], &[0; 5], &P7_WORD]),
         vector("marks 0 5", encode(B8, &[2, 2, 0, 5]), Ok(0), &[&[2, 2, 0, 5], &[0; 5], &IDLE_5_WORD]),
@@ -187,10 +193,27 @@ fn arrivals() -> Vec<Vector> {
         }
         session
     };
-    let arrive = |taken: bool, word: &[u32]| Call::new(Entry::Arrive, B8, &[&session(taken), word, &[7; 5], &[9; 3]]);
+    let arrive_by = |way: u32, taken: bool, word: &[u32]| {
+        Call::numbered(Entry::Arrive, B8, way, &[&session(taken), word, &[7; 5], &[9; 3]])
+    };
+    let arrive = |taken: bool, word: &[u32]| arrive_by(CLEAN, taken, word);
     let damaged = [12, 2, 7, 3, 1, 2, 6, 3, 5];
     let masked = [1, 0, 0, 0, 1, 0, 0, 0, 0];
+    let voted = |word: &[u32]| arrive_by(VOTE, true, word);
+    let no_way = |way: u32| arrive_by(way, false, &P7_WORD);
+    let left = [session(false), P7_WORD.to_vec(), vec![7; 5], vec![2, 1, 0]];
+    let left: Vec<&[u32]> = left.iter().map(Vec::as_slice).collect();
     vec![
+        vector(
+            "taken by vote",
+            arrive_by(VOTE, false, &damaged),
+            Ok(0),
+            &[&session(true), &P7_WORD, &[0; 5], &[0, 1, 1]],
+        ),
+        vector("again by vote", voted(&P7_WORD), Ok(0), &[&session(true), &P7_WORD, &[0; 5], &[1, 1, 0]]),
+        vector("refused by vote", voted(&masked), Ok(0), &[&session(true), &masked, &[0; 5], &[2, 15, 0]]),
+        vector("way 2", no_way(2), Ok(0), &left),
+        vector("way 2^32 - 1", no_way(u32::MAX), Ok(0), &left),
         vector("taken", arrive(false, &P7_WORD), Ok(0), &[&session(true), &P7_WORD, &[0; 5], &[0, 1, 0]]),
         vector("again", arrive(true, &damaged), Ok(0), &[&session(true), &P7_WORD, &[0; 5], &[1, 1, 1]]),
         vector("refused", arrive(true, &masked), Ok(0), &[&session(true), &masked, &[0; 5], &[2, 4, 0]]),

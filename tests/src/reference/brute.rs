@@ -37,6 +37,11 @@ pub fn agreeing<'a>(codewords: &'a [Vec<u32>], received: &[u32], places: &[u32])
     codewords.iter().filter(agrees).collect()
 }
 
+/// Those of the codewords that differ from the received word in at most n/2 symbols.
+pub fn near<'a>(shape: Shape, codewords: &'a [Vec<u32>], received: &[u32]) -> Vec<&'a Vec<u32>> {
+    codewords.iter().filter(|codeword| weight(&xor(codeword, received)) <= shape.most_votes()).collect()
+}
+
 /// All codewords met with all permitted errors: each received word beside its explanation.
 pub fn all_explained(shape: Shape) -> Vec<(Vec<u32>, Explanation)> {
     let words = all_words(shape);

@@ -1,6 +1,6 @@
 //! The tally program, from all its input to all its output.
 
-use super::session::{Outcome, Session};
+use super::session::{Outcome, Session, CLEAN};
 use super::shape::{Refusal, Shape};
 
 /// The most bytes of a line, the newline counted.
@@ -54,7 +54,7 @@ fn word_line(session: &mut Session, line: &[u8]) -> Outcome {
         return Outcome::Refused(Refusal::Syntax);
     };
     let mut scratch = vec![0; session.shape.scratch_len()];
-    session.arrive(&mut word, &mut scratch)
+    session.arrive(CLEAN, &mut word, &mut scratch)
 }
 
 fn values(text: &[u8]) -> Option<Vec<u32>> {

@@ -4,6 +4,7 @@
 use super::page::{read_page, FUNCTIONS, IDLE, PAGES};
 use super::reader::decode;
 use super::shape::{Refusal, Shape, SHAPE_LEN};
+use super::voter::decode_majority;
 use super::writer::information;
 
 /// Where a session as numbers has what: its shape's values first, then the two figures, a mark for each
@@ -27,6 +28,27 @@ impl Figures {
         let pages = taken.iter().filter(|&&yes| yes).count();
         let lowest = taken.iter().position(|&yes| !yes).unwrap_or(PAGES);
         Figures { pages: pages as u32, lowest: lowest as u32 }
+    }
+}
+
+/// The way of reading clean damage, by which the program reads.
+pub const CLEAN: u32 = 0;
+
+/// The way of reading by vote.
+pub const VOTE: u32 = 1;
+
+/// Numbers of ways are below this.
+pub const WAYS: u32 = 2;
+
+/// Restores a word and gives the number of symbols changed.
+type Read = fn(Shape, &mut [u32]) -> Result<u32, Refusal>;
+
+/// The way of reading that an arrival names. A number that is none is 1, whatever the session.
+fn reader(way: u32) -> Result<Read, Refusal> {
+    match way {
+        CLEAN => Ok(decode),
+        VOTE => Ok(decode_majority),
+        _ => Err(Refusal::Shape),
     }
 }
 
@@ -84,11 +106,12 @@ impl Session {
         self.calls.get(function as usize).copied().ok_or(Refusal::Function)
     }
 
-    pub fn arrive(&mut self, word: &mut [u32], scratch: &mut [u32]) -> Outcome {
-        self.try_arrive(word, scratch).unwrap_or_else(Outcome::Refused)
+    pub fn arrive(&mut self, way: u32, word: &mut [u32], scratch: &mut [u32]) -> Outcome {
+        self.try_arrive(way, word, scratch).unwrap_or_else(Outcome::Refused)
     }
 
-    fn try_arrive(&mut self, word: &mut [u32], scratch: &mut [u32]) -> Result<Outcome, Refusal> {
+    fn try_arrive(&mut self, way: u32, word: &mut [u32], scratch: &mut [u32]) -> Result<Outcome, Refusal> {
+        let read = reader(way)?;
         self.judge()?;
         let shape = self.shape;
         if word.len() != shape.word_len() || scratch.len() != shape.scratch_len() {
@@ -96,7 +119,7 @@ impl Session {
         }
         scratch.fill(0);
         let mut restored = word.to_vec();
-        let corrected = decode(shape, &mut restored)?;
+        let corrected = read(shape, &mut restored)?;
         let data = information(shape, &restored);
         let head = read_page(shape, &data)?;
         let page = head.page;

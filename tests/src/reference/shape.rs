@@ -26,6 +26,7 @@ pub enum Refusal {
     Places = 12,
     Unfillable = 13,
     Ambiguous = 14,
+    NoMajority = 15,
     Slope = 18,
 }
 
@@ -136,6 +137,11 @@ impl Shape {
     /// m, the most symbols that reading changes.
     pub fn most_errors(self) -> usize {
         self.n as usize - 1
+    }
+
+    /// The most symbols that reading by vote changes.
+    pub fn most_votes(self) -> usize {
+        self.n as usize / 2
     }
 
     /// 2^b - 1.

@@ -10,18 +10,18 @@ const MAX_ORDER: usize = 31;
 type Lines = [u32; 2 * MAX_ORDER];
 
 /// The syndromes; those of direction 0 stand in `rows`, the others from index 1 on in `lines`.
-struct Syndromes {
-    rows: [u32; MAX_ORDER],
-    lines: [Lines; 8],
+pub(super) struct Syndromes {
+    pub(super) rows: [u32; MAX_ORDER],
+    pub(super) lines: [Lines; 8],
 }
 
 /// Each direction's rotation of one row, (t - 1) × row mod q.
 #[derive(Clone, Copy)]
-struct Offsets([usize; 8]);
+pub(super) struct Offsets(pub(super) [usize; 8]);
 
 impl Offsets {
     /// From one row to the next.
-    fn step(&mut self, q: usize, n: usize) {
+    pub(super) fn step(&mut self, q: usize, n: usize) {
         for t in 2..n {
             let next = self.0[t] + t - 1;
             self.0[t] = if next >= q { next - q } else { next };
@@ -36,7 +36,7 @@ fn xor_onto(sums: &mut [u32], row: &[u32]) {
 }
 
 impl Syndromes {
-    fn of(q: usize, n: usize, word: &[u32]) -> Syndromes {
+    pub(super) fn of(q: usize, n: usize, word: &[u32]) -> Syndromes {
         let mut found = Syndromes { rows: [0; MAX_ORDER], lines: [[0; 2 * MAX_ORDER]; 8] };
         let mut offsets = Offsets([0; 8]);
         for (sum, row) in found.rows.iter_mut().zip(word.chunks_exact(q)) {
@@ -54,7 +54,7 @@ impl Syndromes {
         found
     }
 
-    fn silent(&self, q: usize, n: usize) -> bool {
+    pub(super) fn silent(&self, q: usize, n: usize) -> bool {
         let silent = |values: &[u32]| values[..q].iter().fold(0, |all, value| all | value) == 0;
         silent(&self.rows) && self.lines[1..n].iter().all(|lines| silent(lines))
     }

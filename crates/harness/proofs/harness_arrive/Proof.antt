@@ -11,13 +11,13 @@ refused-requires : tie.Need-refused-requires
 refused-requires c κs = search needs
 
 returns : tie.Need-returns
-returns c = arrive-wrong _ _ _ _ (λ h. c .before .if1 .taken (h .0)) (c .refused .ensures)
+returns c = arrive-wrong _ _ _ _ _ (λ h. c .before .if1 .taken (h .0)) (c .refused .ensures)
 
 refused-requires-2 : tie.Need-refused-requires-2
 refused-requires-2 c κs = search needs
 
 returns-2 : tie.Need-returns-2
-returns-2 c = arrive-wrong _ _ _ _ (λ h. c .before .if2 .taken (h .1)) (c .refused2 .ensures)
+returns-2 c = arrive-wrong _ _ _ _ _ (λ h. c .before .if2 .taken (h .1)) (c .refused2 .ensures)
 
 load-requires : tie.Need-load-requires
 load-requires c κs = search needs
@@ -53,7 +53,7 @@ returns-3 c =
     let passed = answered .before .before .before .before .before in
     let session = passed .before .before .before .before .before .before .args .session .now in
     let arrived = answered .arrive .result in
-    arrive-right session _ _ _ arrived (passed .before .if1 .left) (passed .if2 .left) (answered .before .before .before .load .ensures) (answered .arrive .ensures)
+    arrive-right session _ _ _ _ arrived (passed .before .if1 .left) (passed .if2 .left) (answered .before .before .before .load .ensures) (answered .arrive .ensures)
     (⊎-elim (λ w. written session _ (arrived .session) (arrived .outcome) (w .1 .given .1) (w .6 ∙ w .3 .ensures))
     (λ w. w .1 ∙ as-it-was session (arrived .session) (arrived .outcome) (w .0 .keys2)) (came .match .came)) (c .before .before .put-outcome .ensures)
 

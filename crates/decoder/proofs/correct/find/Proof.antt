@@ -5,8 +5,8 @@ use native.Mathlib.Omega.{arith}
 use borrow.Author.Needs.{needs}
 use Rattle.gtb.specs.declared.Shape.{Shape}
 use Rattle.gtb.specs.Shape.{wordLength}
-use Rattle.decoder.specs.Steps.{judged, Listed}
-use Rattle.correction.specs.Steps.{Within}
+use Rattle.correction.specs.Steps.{Within, Listed}
+use Rattle.decoder.specs.Steps.{judged}
 use Rattle.correction.proofs.CheckNumbers.{checks-fit}
 use Rattle.decoder.proofs.Reading.{within, found-many, found-few, found-none}
 use Rattle.decoder.proofs.correct.find.Statement.{statement}

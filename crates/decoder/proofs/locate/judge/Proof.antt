@@ -6,8 +6,9 @@ use native.Mathlib.Omega.{arith}
 use borrow.Author.Needs.{needs}
 use Rattle.gtb.proofs.Bounds.{bounds}
 use Rattle.correction.proofs.CheckNumbers.{check-lt}
+use Rattle.correction.proofs.Rows.{shift-lt}
 use Rattle.decoder.proofs.Looks.{one-look}
-use Rattle.decoder.proofs.Shifts.{Loud, loud-none, loud-more, shift-lt, judges-silent, judges-loud}
+use Rattle.decoder.proofs.Shifts.{Loud, loud-none, loud-more, judges-silent, judges-loud}
 use Rattle.decoder.proofs.locate.judge.Statement.{statement}
 use Rattle.decoder.proofs.locate.judge.Tie as tie
 

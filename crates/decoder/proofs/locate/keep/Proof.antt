@@ -6,8 +6,8 @@ use native.Mathlib.Omega.{arith}
 use borrow.Author.Needs.{needs}
 use Rattle.gtb.proofs.Bounds.{bounds}
 use Rattle.gtb.proofs.Turns.{square-le}
-use Rattle.decoder.proofs.Numbers.{in-word}
-use Rattle.decoder.proofs.Listing.{listed-keep, listed-skip}
+use Rattle.correction.proofs.Rows.{in-word}
+use Rattle.correction.proofs.Listing.{listed-keep, listed-skip}
 use Rattle.decoder.proofs.locate.keep.Statement.{statement}
 use Rattle.decoder.proofs.locate.keep.Tie as tie
 

@@ -1,13 +1,14 @@
 -- `decoder::locate::locate` meets its contract. The loop's invariant: the list holds the located positions of the rows passed, fewer than n.
 use Prim.Native.Nat.{_+_, _-_, _*_, _<_, _≤_}
-use Rattle.decoder.specs.Steps.{judged, Listed}
+use Rattle.correction.specs.Steps.{Listed}
+use Rattle.decoder.specs.Steps.{judged}
 use native.Mathlib.Nat.{zero-mul, le-antisymm}
 use native.Mathlib.Omega.{arith}
 use borrow.Author.Needs.{needs}
 use Rattle.gtb.proofs.Bounds.{bounds}
 use Rattle.gtb.proofs.Turns.{row-in}
-use Rattle.decoder.proofs.Numbers.{next-row}
-use Rattle.decoder.proofs.Listing.{listed-none, scanned-few, scanned-many}
+use Rattle.correction.proofs.Rows.{next-row}
+use Rattle.correction.proofs.Listing.{listed-none, scanned-few, scanned-many}
 use Rattle.decoder.proofs.locate.locate.Statement.{statement}
 use Rattle.decoder.proofs.locate.locate.Tie as tie
 

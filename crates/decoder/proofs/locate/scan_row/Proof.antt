@@ -1,13 +1,14 @@
 -- `decoder::locate::scan_row` meets its contract. The loop's invariant: the list holds the located positions up to here, fewer than n.
 use mathlib.Core.Path.{refl}
 use Prim.Native.Nat.{_+_, _-_, _*_, _<_, _≤_}
-use Rattle.decoder.specs.Steps.{judged, Listed}
+use Rattle.correction.specs.Steps.{Listed}
+use Rattle.decoder.specs.Steps.{judged}
 use native.Mathlib.Nat.{add-zero, add-assoc, le-antisymm}
 use native.Mathlib.Omega.{arith}
 use borrow.Author.Needs.{needs}
 use Rattle.gtb.proofs.Bounds.{bounds}
 use Rattle.decoder.proofs.Looks.{passed-over}
-use Rattle.decoder.proofs.Listing.{listed-skips, scanned-few, scanned-many}
+use Rattle.correction.proofs.Listing.{listed-skips, scanned-few, scanned-many}
 use Rattle.decoder.proofs.locate.scan_row.Statement.{statement}
 use Rattle.decoder.proofs.locate.scan_row.Tie as tie
 

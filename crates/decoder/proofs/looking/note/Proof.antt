@@ -3,7 +3,7 @@ use Prim.Native.Nat.{_-_, _*_, _≤_}
 use native.Mathlib.Nat.{zero-mul, le-antisymm}
 use borrow.Author.Needs.{needs}
 use Rattle.decoder.specs.Steps.{Noted}
-use Rattle.decoder.proofs.Numbers.{next-row}
+use Rattle.correction.proofs.Rows.{next-row}
 use Rattle.decoder.proofs.Looks.{noted-none, noted-all}
 use Rattle.decoder.proofs.looking.note.Statement.{statement}
 use Rattle.decoder.proofs.looking.note.Tie as tie

@@ -8,7 +8,7 @@ use Rattle.gtb.specs.Shape.{wordLength}
 use Rattle.gtb.proofs.Bounds.{bounds}
 use Rattle.gtb.proofs.Turns.{square-le}
 use Rattle.decoder.specs.Steps.{Noted}
-use Rattle.decoder.proofs.Numbers.{in-word}
+use Rattle.correction.proofs.Rows.{in-word}
 use Rattle.decoder.proofs.Looks.{noted-more}
 use Rattle.decoder.proofs.looking.note_row.Statement.{statement}
 use Rattle.decoder.proofs.looking.note_row.Tie as tie

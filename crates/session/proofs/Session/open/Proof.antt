@@ -17,10 +17,9 @@ abbrev start : tie.After-read-page → tie.Start
 start c = clearing c .before .before .before .before .before .before .before
 
 looked : (c : tie.After-read-page)
-    → Looked (start c .args .self) (start c .args .word .now) (start c .args .scratch .now) (start c .args .copied .now) (start c .args .symbols .now) (start c .args .k) (clearing c .clear .last .0) (gathering c .gather .last .1 .1 .0) (c .read-page .result)
+    → Looked (start c .args .self) (start c .args .word .now) (start c .args .scratch .now) (start c .args .copied .now) (start c .args .symbols .now) (clearing c .clear .last .0) (gathering c .gather .last .1 .1 .0) (c .read-page .result)
 looked c = record {
   lent = start c .pre .1;
-  restored = start c .pre .2;
   cleared = clearing c .clear .ensures;
   gathered = gathering c .gather .ensures;
   page = c .read-page .ensures .answer;

@@ -1,32 +1,36 @@
--- `session::Session::step` meets its contract: tests 1, 18 and 2 turn down as they do in what is opened, and past them the two arrays have room.
-use mathlib.Core.Path.{sym, ap, _∙_}
-use Prim.Native.Nat.{_≤_}
-use native.Mathlib.Omega.{arith}
-use lib.Seq.{length-take-le}
+-- `session::Session::step` meets its contract: tests 1 and 18 turn down as they do in what is opened.
+use mathlib.Core.Path.{_≡_, sym, ap, _∙_}
+use mathlib.Core.Bool.{true}
 use borrow.Author.Needs.{needs}
 use borrow.Author.Tests.{not-true, not-false}
 use Rattle.gtb.specs.Shape.{Lawful}
 use Rattle.gtb.proofs.Answers.{shape-scratch}
-use Rattle.gtb.proofs.Sizes.{sizes}
-use Rattle.session.specs.Arrival.{Bad}
-use Rattle.session.proofs.Arrive.{opened-shape, opened-word, opened-scratch, length-scratch, arriving-bad}
+use Rattle.session.specs.Arrival.{isWay, theWays, Bad}
+use Rattle.session.proofs.Arrive.{opened-way, opened-shape, way-scratch, arriving-bad}
 use Rattle.session.proofs.Session.step.Statement.{statement}
 use Rattle.session.proofs.Session.step.Tie as tie
 
--- past the first test the shape is lawful
-legal : (c : tie.Else1) → Lawful (c .before .before .before .before .before .args .self .shape)
-legal c = sym (c .before .is-lawful .ensures) ∙ not-false _ (c .if1 .left)
+-- the place where the function begins
+abbrev start : tie.Else1 → tie.Start
+start c = c .before .before .before .before
 
--- the copy of the word and the information symbols have room
-word-room : (c : tie.After-word-length) → c .word-length .result ≤ 961
-word-room c = omega (arith, c .word-length .ensures, sizes _ (legal (c .before)) .word)
+-- past the first test there is such a way, past the second the shape is lawful
+known : (c : tie.Else1) → isWay (start c .args .way) ≡ true
+known c = sym (c .before .is-way .ensures) ∙ not-false _ (c .if1 .left)
 
--- the place where the word's length was asked
-abbrev measuring : tie.After-info-length → tie.After-word-length
-measuring c = c .before .before .before .before
+legal : (c : tie.Else2) → Lawful (start (c .before .before .before) .args .self .shape)
+legal c = sym (c .before .is-lawful .ensures) ∙ not-false _ (c .if2 .left)
 
-info-room : (c : tie.After-info-length) → c .info-length .result ≤ 900
-info-room c = omega (arith, c .info-length .ensures, sizes _ (legal (measuring c .before)) .info)
+is-way-requires : tie.Need-is-way-requires
+is-way-requires c κs = search needs
+
+refused-requires : tie.Need-refused-requires
+refused-requires c κs = search needs
+
+returns : tie.Need-returns
+returns c =
+    arriving-bad (opened-way theWays _ _ _ _ (sym (c .before .before .is-way .ensures) ∙ not-true _ (c .before .if1 .taken))) way-scratch
+    (c .refused .ensures)
 
 is-lawful-requires : tie.Need-is-lawful-requires
 is-lawful-requires c κs = search needs
@@ -34,68 +38,22 @@ is-lawful-requires c κs = search needs
 shape-refusal-requires : tie.Need-shape-refusal-requires
 shape-refusal-requires c κs = search needs
 
-refused-requires : tie.Need-refused-requires
-refused-requires c κs = search needs
-
-returns : tie.Need-returns
-returns c =
-    let by = c .before .shape-refusal .ensures in
-    arriving-bad (opened-shape _ _ _ (sym (c .before .before .before .is-lawful .ensures) ∙ not-true _ (c .before .before .if1 .taken)) ∙ ap Bad (sym by))
-    (rw by (shape-scratch _ _)) (c .refused .ensures)
-
-word-length-requires : tie.Need-word-length-requires
-word-length-requires c κs = legal c
-
 refused-requires-2 : tie.Need-refused-requires-2
 refused-requires-2 c κs = search needs
 
 returns-2 : tie.Need-returns-2
 returns-2 c =
-    let w = c .before .before in
-    arriving-bad (opened-word _ _ _ (legal (w .before)) (λ e. c .before .if2 .taken (e ∙ sym (w .word-length .ensures)))) length-scratch (c .refused2 .ensures)
-
-scratch-length-requires : tie.Need-scratch-length-requires
-scratch-length-requires c κs = legal (c .before .before)
-
-refused-requires-3 : tie.Need-refused-requires-3
-refused-requires-3 c κs = search needs
-
-returns-3 : tie.Need-returns-3
-returns-3 c =
-    let x = c .before .before in
-    let w = x .before .before in
+    let asked = c .before .before .before in
+    let by = c .before .shape-refusal .ensures in
     arriving-bad
-    (opened-scratch _ _ _ (legal (w .before)) (x .before .if2 .left ∙ w .word-length .ensures)
-    (λ e. c .before .if3 .taken (e ∙ sym (x .scratch-length .ensures)))) length-scratch (c .refused3 .ensures)
+    (opened-shape theWays _ _ _ _ (known (asked .before .before)) (sym (asked .is-lawful .ensures) ∙ not-true _ (c .before .before .if2 .taken)) ∙ ap Bad (sym by))
+    (rw by (shape-scratch _ _)) (c .refused2 .ensures)
 
-info-length-requires : tie.Need-info-length-requires
-info-length-requires c κs = legal (c .before .before .before .before)
-
-array-borrow-prefix-copied : tie.Need-array-borrow-prefix-copied
-array-borrow-prefix-copied c = word-room (measuring (c .before .before))
-
-slice-aggregate-read : tie.Need-slice-aggregate-read
-slice-aggregate-read c = sym (length-take-le _ _ (word-room (measuring (c .before .before .before))))
-
-array-borrow-prefix-symbols : tie.Need-array-borrow-prefix-symbols
-array-borrow-prefix-symbols c = info-room (c .before .before .before)
-
-slice-aggregate-read-2 : tie.Need-slice-aggregate-read-2
-slice-aggregate-read-2 c = sym (length-take-le _ _ (info-room (c .before .before .before .before)))
-
-read-requires : tie.Need-read-requires
-read-requires c κs =
-    let i = c .before .before .before .before in
-    let w = measuring i in (
-      w .before .before .before .before .before .before .pre,
-      record {
-        lawful = legal (w .before);
-        wordSize = i .before .before .before .if2 .left ∙ w .word-length .ensures;
-        scratchSize = i .before .if3 .left ∙ i .before .before .scratch-length .ensures;
-        copySize = length-take-le _ _ (word-room w) ∙ w .word-length .ensures;
-        symbolsSize = length-take-le _ _ (info-room i) ∙ i .info-length .ensures;
-      },
-    )
+settle-word-requires : tie.Need-settle-word-requires
+settle-word-requires c κs =
+    let passed = c .before .before in
+    let named = passed .before .before .before in
+    (known named, legal passed, start named .pre)
 
 same-length : tie.Need-same-length
 same-length c = search needs
@@ -103,29 +61,21 @@ same-length c = search needs
 same-length-2 : tie.Need-same-length-2
 same-length-2 c = search needs
 
-returns-4 : tie.Need-returns-4
-returns-4 c = c .before .before .before .before .before .before .read .ensures
+returns-3 : tie.Need-returns-3
+returns-3 c = c .before .before .before .before .settle-word .ensures
 
 pub step-spec : {M : Type 1} → statement M
 step-spec =
     tie.close
     (tie.spec
-    is-lawful-requires
-    shape-refusal-requires
+    is-way-requires
     refused-requires
     returns
-    word-length-requires
+    is-lawful-requires
+    shape-refusal-requires
     refused-requires-2
     returns-2
-    scratch-length-requires
-    refused-requires-3
-    returns-3
-    info-length-requires
-    array-borrow-prefix-copied
-    slice-aggregate-read
-    array-borrow-prefix-symbols
-    slice-aggregate-read-2
-    read-requires
+    settle-word-requires
     same-length
     same-length-2
-    returns-4)
+    returns-3)

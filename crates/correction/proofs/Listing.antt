@@ -15,7 +15,7 @@ use Rattle.parity.proofs.XorSums.{xs-zero, cong, more}
 use Rattle.parity.proofs.Sums.{sum-split, count-zero, count-more}
 use Rattle.parity.proofs.Tests.{any-zero, any-more, any-cong}
 use Rattle.gtb.specs.Square.{at}
-use Rattle.decoder.specs.Steps.{Listed, Scanned}
+use Rattle.correction.specs.Steps.{Listed, Scanned}
 
 -- before the first number
 pub listed-none : (p : ℕ → Bool) (places : List ℕ) → length places ≡ 8 → Listed p 0 0 places
@@ -79,7 +79,7 @@ pub scanned-few : {p : ℕ → Bool} {n m k : ℕ} {places : List ℕ} → k < n
 scanned-few l h = record { few = λ l′. h; many = λ l′. absurd (omega arith) }
 
 -- a longer range counts no less
-count-grows : (p : ℕ → Bool) {m m′ : ℕ} → m ≤ m′ → count m p ≤ count m′ p
+pub count-grows : (p : ℕ → Bool) {m m′ : ℕ} → m ≤ m′ → count m p ≤ count m′ p
 unfolding count
 count-grows p {m} {m′} l =
     let e : m + (m′ - m) ≡ m′ = omega arith in

@@ -1,14 +1,14 @@
--- `decoder::locate::shifts_of` meets its contract. The loop's invariant is the contract for the directions below t.
+-- `correction::checks::shifts_of` meets its contract. The loop's invariant is the contract for the directions below t.
 use Prim.Native.Nat.{_-_, _*_, _<_, _≤_}
 use native.Mathlib.Nat.{le-antisymm}
 use native.Mathlib.Omega.{arith}
 use borrow.Author.Needs.{needs}
 use Rattle.gtb.proofs.Bounds.{bounds, positive}
-use Rattle.decoder.specs.Steps.{Shifts}
+use Rattle.correction.specs.Steps.{Shifts}
 use Rattle.correction.proofs.CheckNumbers.{offset-le}
-use Rattle.decoder.proofs.Shifts.{shifts-none, shifts-more}
-use Rattle.decoder.proofs.locate.shifts_of.Statement.{statement}
-use Rattle.decoder.proofs.locate.shifts_of.Tie as tie
+use Rattle.correction.proofs.Rows.{shifts-none, shifts-more}
+use Rattle.correction.proofs.checks.shifts_of.Statement.{statement}
+use Rattle.correction.proofs.checks.shifts_of.Tie as tie
 
 abbrev Inv-loop : tie.InvT-loop
 Inv-loop shape row q n shifts₀ t₀ shifts t = (1 ≤ t) × (t ≤ n) × Shifts shape row t shifts

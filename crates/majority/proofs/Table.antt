@@ -1,0 +1,163 @@
+-- The vote at one position, by the table of syndromes.
+use mathlib.Core.Path.{_≡_, refl, sym, ap, ap₂, _∙_}
+use mathlib.Core.Bool.{Bool, true, false, not, _&&_}
+use mathlib.Core.List.{List}
+use Prim.Native.Nat.{ℕ, zero, suc, _+_, _*_, _/_, _%_, _<_, _≤_}
+use native.Mathlib.Nat.{zero-add, ne-of-lt}
+use native.Mathlib.Omega.{arith}
+use lib.Arith.{digits-div}
+use lib.Dec.{eqb, ltb}
+use lib.ListN.{length, set, replicate, length-set}
+use lib.Seq.{getD-set-same, getD-set-other}
+use borrow.Author.Count.{below-none, below-more}
+use borrow.Author.Tests.{eq-eqb, ne-eqb}
+use Rattle.parity.specs.Count.{bit, count}
+use Rattle.parity.proofs.Tests.{and-no-left}
+use Rattle.parity.proofs.Sums.{count-zero, count-more, count-bound}
+use Rattle.parity.proofs.First.{first-at, first-none}
+use Rattle.gtb.specs.declared.Shape.{Shape}
+use Rattle.gtb.specs.Square.{at}
+use Rattle.correction.specs.Steps.{Shifts}
+use Rattle.correction.proofs.Listing.{count-grows}
+use Rattle.correction.proofs.Rows.{own-check, shift-check}
+use Rattle.majority.specs.Majority.{shows, majority}
+use Rattle.majority.specs.Steps.{checkIn, prevailing, votedIn, changes, passedOver, foundIn, Gathered, Measured}
+use Rattle.majority.proofs.Votes.{shows-cong, majority-quiet, majority-cong}
+
+-- ---- counting
+pub shows-zero : (v : ℕ → ℕ) (x : ℕ) → 0 ≡ shows 0 v x
+unfolding shows
+shows-zero v x = sym (count-zero (λ t. eqb (v t) x))
+
+pub shows-more : {c h : ℕ} (t : ℕ) (v : ℕ → ℕ) (x : ℕ) → c ≡ shows t v x → h ≡ bit (eqb (v t) x) → c + h ≡ shows (t + 1) v x
+unfolding shows
+shows-more t v x e b = ap₂ (λ (a b : ℕ). a + b) e b ∙ sym (count-more t (λ t. eqb (v t) x))
+
+pub shows-le : (t : ℕ) (v : ℕ → ℕ) (x : ℕ) → shows t v x ≤ t
+unfolding shows
+shows-le t v x = count-bound t (λ t. eqb (v t) x)
+
+shows-grows : (t n : ℕ) (v : ℕ → ℕ) (x : ℕ) → t ≤ n → shows t v x ≤ shows n v x
+unfolding shows
+shows-grows t n v x l = count-grows (λ t. eqb (v t) x) l
+
+-- ---- the values of the checks
+pub gathered-none : (s : Shape) (syn : List ℕ) (j : ℕ) → Gathered s syn j 0 (replicate 8 0)
+gathered-none s syn j = record { size = refl; value = below-none (λ t. at (replicate 8 0) t ≡ checkIn s syn j t) }
+
+pub gathered-more : {s : Shape} {syn : List ℕ} {j t : ℕ} {values : List ℕ} (v : ℕ)
+    → t < 8 → v ≡ checkIn s syn j t → Gathered s syn j t values → Gathered s syn j (t + 1) (set values t v)
+gathered-more {s} {syn} {j} {t} {values} v l e h = record {
+  size = length-set values t v ∙ h .size;
+  value = below-more (λ u. at (set values t v) u ≡ checkIn s syn j u) t
+      (λ u lu. getD-set-other values t u v 0 (ne-of-lt lu) ∙ h .value u lu)
+      (getD-set-same values t v 0 (rw (h .size) l) ∙ e);
+}
+
+pub gathered-vote : {s : Shape} {syn : List ℕ} {j : ℕ} {values : List ℕ} → Gathered s syn j (s .n) values → majority (s .n) (at values) ≡ votedIn s syn j
+unfolding votedIn
+gathered-vote {s} {syn} {j} {values} h = majority-cong (s .n) (at values) (checkIn s syn j) (h .value)
+
+-- ---- the value that prevails
+pub no-zero : (n : ℕ) (v : ℕ → ℕ) (x : ℕ) → x ≡ 0 → false ≡ prevailing n v x
+unfolding prevailing
+no-zero n v x z = sym (and-no-left _ (ap not (eq-eqb x 0 z)))
+
+pub by-number : (n : ℕ) (v : ℕ → ℕ) (x c : ℕ) → (x ≡ 0 → ⊥) → c ≡ shows n v x → ltb n (2 * c) ≡ prevailing n v x
+unfolding prevailing
+by-number n v x c ne e = ap (λ (k : ℕ). ltb n (2 * k)) e ∙ sym (ap (λ (b : Bool). not b && ltb n (2 * shows n v x)) (ne-eqb x 0 ne))
+
+-- none of the first t values prevails
+pub record Failed (n : ℕ) (v : ℕ → ℕ) (t : ℕ) : Type 0 where
+  pub fails : (u : ℕ) → u < t → prevailing n v (v u) ≡ false
+
+pub failed-none : (n : ℕ) (v : ℕ → ℕ) → Failed n v 0
+failed-none n v = record { fails = below-none (λ u. prevailing n v (v u) ≡ false) }
+
+pub failed-more : {n : ℕ} {v : ℕ → ℕ} {t : ℕ} → prevailing n v (v t) ≡ false → Failed n v t → Failed n v (t + 1)
+failed-more {n} {v} {t} f h = record { fails = below-more (λ u. prevailing n v (v u) ≡ false) t (h .fails) f }
+
+pub elects : {n : ℕ} {v : ℕ → ℕ} {t : ℕ} → t < n → Failed n v t → prevailing n v (v t) ≡ true → v t ≡ majority n v
+unfolding majority prevailing
+elects {n} {v} {t} l h p = sym (first-at n (λ t. prevailing n v (v t)) v t l (h .fails) p)
+
+pub elects-none : {n : ℕ} {v : ℕ → ℕ} → Failed n v n → 0 ≡ majority n v
+unfolding majority prevailing
+elects-none {n} {v} h = sym (first-none n (λ t. prevailing n v (v t)) v (h .fails))
+
+-- ---- the silent checks on a position
+-- what the checks on column c of the row show, by the shifts
+pub seen : ℕ → List ℕ → List ℕ → ℕ → ℕ → ℕ → ℕ
+seen q syn shifts row c zero = at syn row
+seen q syn shifts row c (suc t) = at syn (suc t * q + (c + at shifts (suc t)) % q)
+
+seen-later : (q : ℕ) (syn shifts : List ℕ) (row c t : ℕ) → 1 ≤ t → seen q syn shifts row c t ≡ at syn (t * q + (c + at shifts t) % q)
+unfolding seen
+seen-later q syn shifts row c zero one = absurd (omega arith)
+seen-later q syn shifts row c (suc t) one = refl
+
+-- that of the row
+pub silent-first : (q : ℕ) (syn shifts : List ℕ) (row c : ℕ) {own : ℕ} → own ≡ bit (eqb (at syn row) 0) → own ≡ shows 1 (seen q syn shifts row c) 0
+unfolding seen
+silent-first q syn shifts row c {own} e = sym (zero-add own) ∙ shows-more {c = 0} {h = own} 0 (seen q syn shifts row c) 0 (shows-zero _ 0) e
+
+-- that of a direction from 1 on
+pub silent-more : (q : ℕ) (syn shifts : List ℕ) (row c t : ℕ) {line h silent : ℕ} → 1 ≤ t → line ≡ (c + at shifts t) % q
+    → h ≡ bit (eqb (at syn (t * q + line)) 0) → silent ≡ shows t (seen q syn shifts row c) 0 → silent + h ≡ shows (t + 1) (seen q syn shifts row c) 0
+silent-more q syn shifts row c t one e b so-far =
+    shows-more t (seen q syn shifts row c) 0 so-far
+    (b ∙ ap (λ (k : ℕ). bit (eqb (at syn (t * q + k)) 0)) e ∙ ap (λ (x : ℕ). bit (eqb x 0)) (sym (seen-later q syn shifts row c t one)))
+
+module _ {s : Shape} {row : ℕ} {shifts : List ℕ} (given : Shifts s row (s .n) shifts) (syn : List ℕ) (c : ℕ) (lc : c < s .q) where
+  seen-check : (t : ℕ) → t < s .n → seen (s .q) syn shifts row c t ≡ checkIn s syn (row * s .q + c) t
+  unfolding seen
+  seen-check zero lt = ap (at syn) (own-check s row lc)
+  seen-check (suc t) lt = ap (at syn) (shift-check given (suc t) c lc lt (omega arith) refl)
+
+  -- half of the checks are silent
+  pub silent-half : (t : ℕ) {silent : ℕ} → t ≤ s .n → silent ≡ shows t (seen (s .q) syn shifts row c) 0 → s .n ≤ 2 * silent → votedIn s syn (row * s .q + c) ≡ 0
+  unfolding votedIn
+  silent-half t l e half =
+      majority-quiet (s .n) _
+      (omega (
+        arith,
+        shows-cong t (seen (s .q) syn shifts row c) (checkIn s syn (row * s .q + c)) 0 (λ u lu. seen-check u (omega arith)),
+        shows-grows t (s .n) (checkIn s syn (row * s .q + c)) 0 l,
+      ))
+
+-- ---- a position that changes, or not
+pub stays : (s : Shape) (syn : List ℕ) (j : ℕ) → votedIn s syn j ≡ 0 → changes s syn j ≡ false
+unfolding changes
+stays s syn j z = ap not (eq-eqb (votedIn s syn j) 0 z)
+
+pub changes-there : (s : Shape) (syn : List ℕ) (j : ℕ) → (votedIn s syn j ≡ 0 → ⊥) → changes s syn j ≡ true
+unfolding changes
+changes-there s syn j ne = ap not (ne-eqb (votedIn s syn j) 0 ne)
+
+-- ---- rows
+module _ (s : Shape) (syn : List ℕ) (loud : Bool) (row c : ℕ) (lc : c < s .q) where
+  row-of : passedOver loud (at syn ((row * s .q + c) / s .q)) ≡ passedOver loud (at syn row)
+  row-of = ap (λ (r : ℕ). passedOver loud (at syn r)) (digits-div row lc)
+
+  -- nothing is found in a row that is passed over
+  pub nothing-found : passedOver loud (at syn row) ≡ true → foundIn s syn loud (row * s .q + c) ≡ false
+  unfolding foundIn
+  nothing-found h = and-no-left _ (ap not (row-of ∙ h))
+
+  -- in another, all that changes
+  pub all-found : passedOver loud (at syn row) ≡ false → foundIn s syn loud (row * s .q + c) ≡ changes s syn (row * s .q + c)
+  unfolding foundIn
+  all-found h = ap (λ (b : Bool). not b && changes s syn (row * s .q + c)) (row-of ∙ h)
+
+-- ---- the list of the errors
+pub measured-none : (s : Shape) (syn places errors : List ℕ) → length errors ≡ 8 → Measured s syn places 0 errors
+measured-none s syn places errors e = record { size = e; error = below-none (λ x. at errors x ≡ votedIn s syn (at places x)) }
+
+pub measured-more : {s : Shape} {syn places : List ℕ} {x : ℕ} {errors : List ℕ} (v : ℕ)
+    → x < 8 → v ≡ votedIn s syn (at places x) → Measured s syn places x errors → Measured s syn places (x + 1) (set errors x v)
+measured-more {s} {syn} {places} {x} {errors} v l e h = record {
+  size = length-set errors x v ∙ h .size;
+  error = below-more (λ y. at (set errors x v) y ≡ votedIn s syn (at places y)) x
+      (λ y ly. getD-set-other errors x y v 0 (ne-of-lt ly) ∙ h .error y ly)
+      (getD-set-same errors x v 0 (rw (h .size) l) ∙ e);
+}

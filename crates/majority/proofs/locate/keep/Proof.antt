@@ -1,0 +1,72 @@
+-- `majority::locate::keep` meets its contract.
+use mathlib.Core.Path.{sym, _∙_}
+use Prim.Native.Nat.{_+_, _*_, _<_}
+use native.Mathlib.Nat.{lt-of-lt-of-le}
+use native.Mathlib.Omega.{arith}
+use borrow.Author.Needs.{needs}
+use Rattle.gtb.proofs.Bounds.{bounds}
+use Rattle.gtb.proofs.Turns.{square-le}
+use Rattle.correction.proofs.Rows.{in-word}
+use Rattle.correction.proofs.Listing.{listed-keep, listed-skip}
+use Rattle.majority.proofs.Table.{stays, changes-there}
+use Rattle.majority.proofs.locate.keep.Statement.{statement}
+use Rattle.majority.proofs.locate.keep.Tie as tie
+
+cast-q : tie.Need-cast-q
+cast-q c = search needs
+
+is-quiet-requires : tie.Need-is-quiet-requires
+is-quiet-requires c κs = search needs
+
+returns : tie.Need-returns
+returns c = record { next = λ p same. listed-skip (same ∙ stays _ _ _ (c .before .is-quiet .ensures (c .if1 .taken))) }
+
+-- the position is in the word, and small
+place : (c : tie.Else1) → c .before .before .before .args .row * c .before .before .before .args .shape .q + c .before .before .before .args .column < 961
+place c =
+    let s = c .before .before .before in
+    lt-of-lt-of-le (in-word (s .args .shape) (s .pre .3) (s .pre .4)) (square-le (s .args .shape .q) (bounds (s .args .shape) (s .pre .0) .q31))
+
+mul-j : tie.Need-mul-j
+mul-j c = omega (arith, place c)
+
+add-j : tie.Need-add-j
+add-j c = omega (arith, place c)
+
+vote-requires : tie.Need-vote-requires
+vote-requires c κs = let s = c .before .before .before in (s .pre .0, in-word (s .args .shape) (s .pre .3) (s .pre .4))
+
+returns-2 : tie.Need-returns-2
+returns-2 c = record { next = λ p same. listed-skip (same ∙ stays _ _ _ (sym (c .before .vote .ensures) ∙ c .if2 .taken)) }
+
+-- there is room for one more
+room : (c : tie.Else2) → c .before .before .before .before .before .args .count < 8
+room c = let s = c .before .before .before .before .before in omega (arith, bounds (s .args .shape) (s .pre .0) .n8, s .pre .5)
+
+mul-places : tie.Need-mul-places
+mul-places c = omega (arith, room c)
+
+element-write-places : tie.Need-element-write-places
+element-write-places c = room c
+
+add-result : tie.Need-add-result
+add-result c = omega (arith, room c)
+
+returns-3 : tie.Need-returns-3
+returns-3 c = record { next = λ p same. listed-keep (same ∙ changes-there _ _ _ (λ z. c .if2 .left (c .before .vote .ensures ∙ z))) (room c) }
+
+pub keep-spec : {M : Type 1} → statement M
+keep-spec =
+    tie.close
+    (tie.spec
+    cast-q
+    is-quiet-requires
+    returns
+    mul-j
+    add-j
+    vote-requires
+    returns-2
+    mul-places
+    element-write-places
+    add-result
+    returns-3)

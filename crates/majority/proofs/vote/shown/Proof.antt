@@ -1,0 +1,68 @@
+-- `majority::vote::shown` meets its contract. The loop's invariant is the contract for the first t values.
+use mathlib.Core.Path.{_≡_}
+use Prim.Native.Nat.{_+_, _-_, _<_, _≤_}
+use native.Mathlib.Nat.{le-antisymm}
+use native.Mathlib.Omega.{arith}
+use borrow.Author.Needs.{needs}
+use Rattle.gtb.specs.Square.{at}
+use Rattle.majority.specs.Majority.{shows}
+use Rattle.majority.proofs.Table.{shows-zero, shows-more, shows-le}
+use Rattle.majority.proofs.vote.shown.Statement.{statement}
+use Rattle.majority.proofs.vote.shown.Tie as tie
+
+abbrev Inv-loop : tie.InvT-loop
+Inv-loop values n x count₀ t₀ count t = (t ≤ n) × (count ≡ shows t (at values) x)
+
+abbrev μ-loop : tie.MeasureT-loop
+μ-loop values n x count₀ t₀ count t = n - t
+
+loop-holds : tie.Need-loop-holds Inv-loop μ-loop
+loop-holds c = (search needs, shows-zero _ _)
+
+-- the value is in the list
+inside : (c : tie.In-loop Inv-loop μ-loop) → c .before .loop .t < 8
+inside c = omega (arith, c .before .before .pre)
+
+mul-hit : tie.Need-mul-hit Inv-loop μ-loop
+mul-hit c = omega (arith, inside c)
+
+element-copy-out-hit : tie.Need-element-copy-out-hit Inv-loop μ-loop
+element-copy-out-hit c = inside c
+
+hit-requires : tie.Need-hit-requires Inv-loop μ-loop
+hit-requires c κs = search needs
+
+-- one more
+next : (c : tie.After-hit Inv-loop μ-loop) → c .before .before .before .loop .count + c .hit .result ≡ shows (c .before .before .before .loop .t + 1) (at (c .before .before .before .before .args .values .now)) (c .before .before .before .before .args .x)
+next c = shows-more _ _ _ (c .before .before .before .loop .inv .1) (c .hit .ensures)
+
+add-count : tie.Need-add-count Inv-loop μ-loop
+add-count c = omega (arith, next c, shows-le (c .before .before .before .loop .t + 1) (at (c .before .before .before .before .args .values .now)) (c .before .before .before .before .args .x), inside (c .before .before))
+
+add-t : tie.Need-add-t Inv-loop μ-loop
+add-t c = search needs
+
+loop-less : tie.Need-loop-less Inv-loop μ-loop
+loop-less c = search needs
+
+loop-again : tie.Need-loop-again Inv-loop μ-loop
+loop-again c = (search needs, next c)
+
+returns : tie.Need-returns Inv-loop μ-loop
+returns c = rw (le-antisymm (c .before .loop .inv .0) (c .loop-test .left)) at (c .before .loop .inv .1)
+
+pub shown-spec : {M : Type 1} → statement M
+shown-spec =
+    tie.close
+    (tie.spec
+    Inv-loop
+    μ-loop
+    loop-holds
+    mul-hit
+    element-copy-out-hit
+    hit-requires
+    add-count
+    add-t
+    loop-less
+    loop-again
+    returns)

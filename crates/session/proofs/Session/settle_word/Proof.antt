@@ -1,0 +1,112 @@
+-- `session::Session::settle_word` meets its contract: test 2 turns down as it does in what is opened, and past it the two arrays have room.
+use mathlib.Core.Path.{sym, _∙_}
+use Prim.Native.Nat.{_≤_}
+use native.Mathlib.Omega.{arith}
+use lib.Seq.{length-take-le}
+use borrow.Author.Needs.{needs}
+use Rattle.gtb.proofs.Sizes.{sizes}
+use Rattle.session.specs.Arrival.{theWays}
+use Rattle.session.proofs.Arrive.{opened-word, opened-scratch, length-scratch, arriving-bad}
+use Rattle.session.proofs.Session.settle_word.Statement.{statement}
+use Rattle.session.proofs.Session.settle_word.Tie as tie
+
+-- the place where the function begins
+abbrev start : tie.After-word-length → tie.Start
+start c = c .before .before .before .before
+
+-- the copy of the word and the information symbols have room
+word-room : (c : tie.After-word-length) → c .word-length .result ≤ 961
+word-room c = omega (arith, c .word-length .ensures, sizes _ (start c .pre .1) .word)
+
+-- the place where the word's length was asked
+abbrev measuring : tie.After-info-length → tie.After-word-length
+measuring c = c .before .before .before .before
+
+info-room : (c : tie.After-info-length) → c .info-length .result ≤ 900
+info-room c = omega (arith, c .info-length .ensures, sizes _ (start (measuring c) .pre .1) .info)
+
+word-length-requires : tie.Need-word-length-requires
+word-length-requires c κs = c .before .before .before .pre .1
+
+refused-requires : tie.Need-refused-requires
+refused-requires c κs = search needs
+
+returns : tie.Need-returns
+returns c =
+    let w = c .before .before in
+    arriving-bad (opened-word theWays _ _ _ _ (start w .pre .0) (start w .pre .1) (λ e. c .before .if1 .taken (e ∙ sym (w .word-length .ensures))))
+    length-scratch (c .refused .ensures)
+
+scratch-length-requires : tie.Need-scratch-length-requires
+scratch-length-requires c κs = start (c .before) .pre .1
+
+refused-requires-2 : tie.Need-refused-requires-2
+refused-requires-2 c κs = search needs
+
+returns-2 : tie.Need-returns-2
+returns-2 c =
+    let x = c .before .before in
+    let w = x .before .before in
+    arriving-bad
+    (opened-scratch theWays _ _ _ _ (start w .pre .0) (start w .pre .1) (x .before .if1 .left ∙ w .word-length .ensures)
+    (λ e. c .before .if2 .taken (e ∙ sym (x .scratch-length .ensures)))) length-scratch (c .refused2 .ensures)
+
+info-length-requires : tie.Need-info-length-requires
+info-length-requires c κs = start (c .before .before .before) .pre .1
+
+array-borrow-prefix-copied : tie.Need-array-borrow-prefix-copied
+array-borrow-prefix-copied c = word-room (measuring (c .before .before))
+
+slice-aggregate-read : tie.Need-slice-aggregate-read
+slice-aggregate-read c = sym (length-take-le _ _ (word-room (measuring (c .before .before .before))))
+
+array-borrow-prefix-symbols : tie.Need-array-borrow-prefix-symbols
+array-borrow-prefix-symbols c = info-room (c .before .before .before)
+
+slice-aggregate-read-2 : tie.Need-slice-aggregate-read-2
+slice-aggregate-read-2 c = sym (length-take-le _ _ (info-room (c .before .before .before .before)))
+
+read-requires : tie.Need-read-requires
+read-requires c κs =
+    let i = c .before .before .before .before in
+    let w = measuring i in
+    let asked = start w .pre in (
+      asked .0,
+      asked .2,
+      record {
+        lawful = asked .1;
+        wordSize = i .before .before .before .if1 .left ∙ w .word-length .ensures;
+        scratchSize = i .before .if2 .left ∙ i .before .before .scratch-length .ensures;
+        copySize = length-take-le _ _ (word-room w) ∙ w .word-length .ensures;
+        symbolsSize = length-take-le _ _ (info-room i) ∙ i .info-length .ensures;
+      },
+    )
+
+same-length : tie.Need-same-length
+same-length c = search needs
+
+same-length-2 : tie.Need-same-length-2
+same-length-2 c = search needs
+
+returns-3 : tie.Need-returns-3
+returns-3 c = c .before .before .before .before .before .before .read .ensures
+
+pub settle-word-spec : {M : Type 1} → statement M
+settle-word-spec =
+    tie.close
+    (tie.spec
+    word-length-requires
+    refused-requires
+    returns
+    scratch-length-requires
+    refused-requires-2
+    returns-2
+    info-length-requires
+    array-borrow-prefix-copied
+    slice-aggregate-read
+    array-borrow-prefix-symbols
+    slice-aggregate-read-2
+    read-requires
+    same-length
+    same-length-2
+    returns-3)

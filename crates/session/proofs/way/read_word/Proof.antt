@@ -1,0 +1,26 @@
+-- `session::way::read_word` meets its contract: what each reader ensures is what its way gives.
+use borrow.Author.Needs.{needs}
+use Rattle.session.proofs.Ways.{reads-clean, reads-vote}
+use Rattle.session.proofs.way.read_word.Statement.{statement}
+use Rattle.session.proofs.way.read_word.Tie as tie
+
+decode-requires : tie.Need-decode-requires
+decode-requires c κs = search needs
+
+same-length : tie.Need-same-length
+same-length c = search needs
+
+returns : tie.Need-returns
+returns c = reads-clean _ (c .before .before .before .before .if1 .taken) (c .before .before .decode .ensures)
+
+decode-majority-requires : tie.Need-decode-majority-requires
+decode-majority-requires c κs = search needs
+
+same-length-2 : tie.Need-same-length-2
+same-length-2 c = search needs
+
+returns-2 : tie.Need-returns-2
+returns-2 c = reads-vote _ (c .before .before .before .before .if1 .left) (c .before .before .decode-majority .ensures)
+
+pub read-word-spec : {M : Type 1} → statement M
+read-word-spec = tie.close (tie.spec decode-requires same-length returns decode-majority-requires same-length-2 returns-2)

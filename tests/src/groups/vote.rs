@@ -1,0 +1,238 @@
+//! Reading by vote: stripes of equal damage, every weight, masked and not, and every word of small shapes. What must come
+//! is said here where the damage settles it, by trying every codeword where these are few, and by the reference elsewhere.
+
+use super::calls::turned_down;
+use crate::call::{difference, After, Call, Entry};
+use crate::damage::{apply, make as damage, unmasked, Error, STYLES};
+use crate::random::Random;
+use crate::reference::brute::{all_codewords, all_words, near};
+use crate::reference::shape::{all_slopes, orders_and_directions, Refusal, Shape};
+use crate::reference::square::{check, weight, xor};
+use crate::reference::writer::codeword;
+use crate::report::{Group, Unit, Verdict};
+use crate::shrink::{self, with_zeros, Case};
+
+/// The reference or the library.
+type Make = fn(&Call) -> After;
+
+const WIDTHS: [u32; 4] = [1, 8, 31, 32];
+
+/// The group for whichever makes the calls.
+pub fn group(name: &'static str, make: Make) -> Group {
+    let mut group = Group::new(name, Unit::Words);
+    for (q, n) in orders_and_directions() {
+        let mut test = |name: &str, body: fn(Make, Shape, &mut Random) -> Verdict| {
+            group.test(format!("{name}, ({q}, {n})"), move |random| of_each_width(make, q, n, body, random));
+        };
+        test("stripes", stripes);
+        test("every weight", weights);
+        test("other codewords", other_codewords);
+        test("random words", random_words);
+        test("lengths, widths and shapes", faults);
+    }
+    for shape in [2, 3].into_iter().flat_map(|n| all_slopes(3, n, 1)) {
+        let name = format!("all words of (3, {}, 1), slopes {:?}", shape.n, shape.own_slopes());
+        group.test(name, move |_| every_word(make, shape));
+    }
+    for (q, n, b) in [(3, 2, 2), (3, 2, 3), (3, 3, 3), (5, 4, 1), (5, 5, 1), (5, 5, 2), (7, 6, 1), (7, 7, 2)] {
+        group.test(format!("sampled words of ({q}, {n}, {b})"), move |random| sampled(make, q, n, b, random));
+    }
+    group
+}
+
+fn of_each_width(
+    make: Make,
+    q: u32,
+    n: u32,
+    body: fn(Make, Shape, &mut Random) -> Verdict,
+    random: &mut Random,
+) -> Verdict {
+    let mut tried = 0;
+    for b in WIDTHS {
+        tried += body(make, random.shape(q, n, b), random)?;
+    }
+    Ok(tried)
+}
+
+fn vote(shape: Shape, word: &[u32]) -> Call {
+    Call::new(Entry::DecodeMajority, shape, &[word])
+}
+
+/// The word is left as this one; the answer is how many of its symbols came otherwise.
+fn read(call: &Call, word: &[u32]) -> After {
+    After { answer: weight(&xor(&call.slices[0], word)) as u64, slices: vec![word.to_vec()] }
+}
+
+/// A call to be compared with the reference.
+#[derive(Clone)]
+struct Lent {
+    make: Make,
+    call: Call,
+}
+
+impl Case for Lent {
+    fn difference(&self) -> Option<String> {
+        difference(self.call.entry, &self.call.on_reference(), &(self.make)(&self.call))
+    }
+
+    fn smaller(&self) -> impl Iterator<Item = Lent> {
+        let with = |word: Vec<u32>| Lent { make: self.make, call: Call { slices: vec![word], ..self.call.clone() } };
+        with_zeros(&self.call.slices[0]).map(with)
+    }
+
+    fn describe(&self) -> String {
+        self.call.text()
+    }
+}
+
+fn expect(make: Make, call: &Call, expected: &After) -> Result<(), String> {
+    let Some(found) = difference(call.entry, expected, &make(call)) else { return Ok(()) };
+    shrink::expect(&Lent { make, call: call.clone() })?;
+    Err(format!("{:.4000}: {found}", call.text()))
+}
+
+/// A codeword with this error: up to n/2 symbols it comes back. With more, the reference says what comes.
+fn expect_damaged(make: Make, shape: Shape, error: &Error, random: &mut Random) -> Result<(), String> {
+    let sent = codeword(shape, &random.symbols(shape, shape.data_len()));
+    let mut word = sent.clone();
+    apply(error, &mut word);
+    let call = vote(shape, &word);
+    if error.len() <= shape.most_votes() {
+        expect(make, &call, &read(&call, &sent))
+    } else {
+        expect(make, &call, &call.on_reference())
+    }
+}
+
+/// Equal damage along a line of each direction: its first symbols, from one to all, and as many at any places of it.
+fn stripes(make: Make, shape: Shape, random: &mut Random) -> Verdict {
+    let mut tried = 0;
+    for t in 0..shape.n as usize {
+        let line = t * shape.q as usize + random.below(shape.q as usize);
+        let on_line: Vec<usize> = (0..shape.word_len()).filter(|&j| check(shape, t, j) == line).collect();
+        for count in (1..=shape.n as usize).chain([shape.q as usize]) {
+            let mut anywhere = on_line.clone();
+            random.shuffle(&mut anywhere);
+            for places in [&on_line, &anywhere] {
+                let symbol = random.nonzero_symbol(shape);
+                let error: Error = places[..count].iter().map(|&j| (j, symbol)).collect();
+                expect_damaged(make, shape, &error, random)?;
+                tried += 1;
+            }
+        }
+    }
+    Ok(tried)
+}
+
+/// Weights from none to n in every style, masked ones among them, and unmasked ones.
+fn weights(make: Make, shape: Shape, random: &mut Random) -> Verdict {
+    let mut tried = 0;
+    for weight in 0..=shape.n as usize {
+        let mut errors = STYLES.map(|style| damage(style, shape, weight, random)).to_vec();
+        if weight <= shape.most_errors() {
+            errors.push(unmasked(shape, weight, random));
+        }
+        for error in errors {
+            expect_damaged(make, shape, &error, random)?;
+            tried += 1;
+        }
+    }
+    Ok(tried)
+}
+
+/// Damage that goes from one codeword towards another, as far as half the way and further.
+fn other_codewords(make: Make, shape: Shape, random: &mut Random) -> Verdict {
+    let mut information = vec![0; shape.data_len()];
+    let at = random.below(information.len());
+    information[at] = random.nonzero_symbol(shape);
+    let apart = codeword(shape, &information);
+    let mut places: Vec<usize> = (0..apart.len()).filter(|&j| apart[j] != 0).collect();
+    random.shuffle(&mut places);
+    let mut tried = 0;
+    for count in 0..=places.len() {
+        let error: Error = places[..count].iter().map(|&j| (j, apart[j])).collect();
+        expect_damaged(make, shape, &error, random)?;
+        tried += 1;
+    }
+    Ok(tried)
+}
+
+/// Words that have nothing to do with a codeword.
+fn random_words(make: Make, shape: Shape, random: &mut Random) -> Verdict {
+    let rounds = 6;
+    for _ in 0..rounds {
+        let call = vote(shape, &random.symbols(shape, shape.word_len()));
+        expect(make, &call, &call.on_reference())?;
+    }
+    Ok(rounds)
+}
+
+/// Tests 1, 18, 2, 3 in this order, also of a word that would be refused with 15.
+fn faults(make: Make, shape: Shape, random: &mut Random) -> Verdict {
+    let mut tried = 0;
+    let mut refused = |shape: Shape, word: &[u32], refusal: Refusal| {
+        tried += 1;
+        let call = vote(shape, word);
+        expect(make, &call, &turned_down(&call, refusal))
+    };
+    let size = shape.word_len();
+    let word = random.symbols(shape, size);
+    let mut wide = word.clone();
+    if let Some(large) = shape.largest().checked_add(1) {
+        wide[random.below(size)] = large;
+        refused(shape, &wide, Refusal::Width)?;
+    }
+    for length in [0, size - 1, size + 1, 4 * size] {
+        let mut word = wide.clone();
+        word.resize(length, u32::MAX);
+        refused(shape, &word, Refusal::Length)?;
+    }
+    let mut slopes = shape.slopes;
+    slopes[shape.most_errors() - 1] = shape.q;
+    let sloped = shape.with_slopes(slopes);
+    for word in [&word, &wide, &wide[..size - 1]] {
+        refused(sloped, word, Refusal::Slope)?;
+        for shape in [Shape { q: 9, ..sloped }, Shape { n: 9, ..sloped }, Shape { b: 33, ..sloped }] {
+            refused(shape, word, Refusal::Shape)?;
+        }
+    }
+    Ok(tried)
+}
+
+/// What the definition says: the codeword that is near enough, if there is one; two would be a fault of the rules.
+fn by_definition(shape: Shape, call: &Call, codewords: &[Vec<u32>]) -> Result<After, String> {
+    match near(shape, codewords, &call.slices[0])[..] {
+        [] => Ok(turned_down(call, Refusal::NoMajority)),
+        [only] => Ok(read(call, only)),
+        _ => Err(format!("{:.4000}: more than one codeword is near", call.text())),
+    }
+}
+
+/// All 2^9 words.
+fn every_word(make: Make, shape: Shape) -> Verdict {
+    let codewords = all_codewords(shape);
+    let words = all_words(shape);
+    for word in &words {
+        let call = vote(shape, word);
+        expect(make, &call, &by_definition(shape, &call, &codewords)?)?;
+    }
+    Ok(words.len() as u64)
+}
+
+/// Small shapes with damage of any weight up to n.
+fn sampled(make: Make, q: u32, n: u32, b: u32, random: &mut Random) -> Verdict {
+    let mut tried = 0;
+    for _ in 0..4 {
+        let shape = random.shape(q, n, b);
+        let codewords = all_codewords(shape);
+        for _ in 0..60 {
+            let mut word = codewords[random.below(codewords.len())].clone();
+            let weight = random.below(shape.n as usize + 1);
+            apply(&damage(random.pick(&STYLES), shape, weight, random), &mut word);
+            let call = vote(shape, &word);
+            expect(make, &call, &by_definition(shape, &call, &codewords)?)?;
+            tried += 1;
+        }
+    }
+    Ok(tried)
+}

@@ -1,0 +1,116 @@
+//! The ways of reading that an arrival names. What must come of each call is said here, not asked of the
+//! reference, which is held to it like the library.
+
+use super::calls::{good, later_faults, reshaped, turned_down};
+use super::figures::{after_arrival, any_calls, bad_slope, figures, plain_marks, session, Come, Make};
+use crate::call::{difference, After, Call, Entry};
+use crate::capture::{page_numbers, recording, Page};
+use crate::damage::{allowed, Error};
+use crate::random::Random;
+use crate::reference::page::FUNCTIONS;
+use crate::reference::session::{CALLS_AT, VOTE, WAYS};
+use crate::reference::shape::{orders_and_directions, Refusal, Shape};
+use crate::reference::square::check;
+use crate::report::{Group, Unit, Verdict};
+
+/// Numbers that name no way.
+const NONE: [u32; 7] = [WAYS, WAYS + 1, 255, 256, 1 << 16, 1 << 31, u32::MAX];
+
+/// The group for whichever makes the calls.
+pub fn group(name: &'static str, make: Make) -> Group {
+    let mut group = Group::new(name, Unit::Calls);
+    for (q, n) in orders_and_directions() {
+        group.test(format!("that are none, ({q}, {n})"), move |random| that_are_none(make, q, n, random));
+        group.test(format!("mixed, ({q}, {n})"), move |random| mixed(make, q, n, random));
+        group.test(format!("stripes, ({q}, {n})"), move |random| stripes(make, q, n, random));
+    }
+    group
+}
+
+fn expect(make: Make, call: &Call, expected: &After) -> Result<(), String> {
+    let shown = |found| format!("{}: {found}", call.text());
+    difference(call.entry, expected, &make(call)).map_or(Ok(()), |found| Err(shown(found)))
+}
+
+/// A number that names no way is 1, whatever else is wrong: bad shapes and slopes, figures that
+/// disagree, lengths, symbols.
+fn that_are_none(make: Make, q: u32, n: u32, random: &mut Random) -> Verdict {
+    let mut tried = 0;
+    for b in [1, 8, 11, 32] {
+        let shape = random.shape(q, n, b);
+        let call = good(Entry::Arrive, shape, random);
+        let mut calls = later_faults(&call, random);
+        for other in [Shape { q: 9, ..shape }, Shape { n: 9, ..shape }, bad_slope(shape, shape, random)] {
+            calls.push(reshaped(&call, other));
+        }
+        calls.push(call);
+        let any = WAYS + (random.number() % (u32::MAX - WAYS));
+        for call in calls {
+            for way in NONE.into_iter().chain([any]) {
+                let call = Call { number: way, ..call.clone() };
+                expect(make, &call, &turned_down(&call, Refusal::Shape))?;
+                tried += 1;
+            }
+        }
+    }
+    Ok(tried)
+}
+
+/// The arrival of a page with this error, read this way.
+fn arrival(way: u32, shape: Shape, session: &[u32], page: &Page, error: &Error, random: &mut Random) -> Call {
+    let scratch = random.numbers(shape.scratch_len());
+    Call::numbered(Entry::Arrive, shape, way, &[session, &page.damaged(shape, error), &scratch, &[9; 3]])
+}
+
+/// The pages of a recording some times each, in any order, each arrival by any way with damage that this
+/// way allows: the answers are those of a plain set of pages, and the counts the recording's own.
+fn mixed(make: Make, q: u32, n: u32, random: &mut Random) -> Verdict {
+    let mut tried = 0;
+    for b in [1, 8, 11, 32] {
+        let shape = random.shape(q, n, b);
+        let pages = recording(shape, 8, random);
+        let mut list: Vec<&Page> = pages.iter().flat_map(|page| vec![page; WAYS as usize]).collect();
+        random.shuffle(&mut list);
+        list.extend(&pages);
+        let mut come = Come::new();
+        let mut state = session(shape, figures(&come), &plain_marks(&come), &[0; FUNCTIONS]);
+        for page in list {
+            let way = random.below(WAYS as usize) as u32;
+            let error = allowed(way, shape, random);
+            let call = arrival(way, shape, &state, page, &error, random);
+            let after = after_arrival(&call, page, error.len() as u32, &mut come);
+            expect(make, &call, &after)?;
+            state.copy_from_slice(&after.slices[0]);
+            tried += 1;
+        }
+        let mut calls = [0; FUNCTIONS];
+        pages.iter().flat_map(Page::calls).for_each(|function| calls[function] += 1);
+        if state[CALLS_AT..] != calls {
+            return Err(format!("{shape:?}: the counts are not the recording's"));
+        }
+    }
+    Ok(tried)
+}
+
+/// Equal damage to the first symbols of a line, of each direction: up to n/2 the vote undoes it.
+fn stripes(make: Make, q: u32, n: u32, random: &mut Random) -> Verdict {
+    let mut tried = 0;
+    for b in [1, 8, 32] {
+        let shape = random.shape(q, n, b);
+        for t in 0..n as usize {
+            let chosen = t * q as usize + random.below(q as usize);
+            let line: Vec<usize> = (0..shape.word_len()).filter(|&j| check(shape, t, j) == chosen).collect();
+            for length in 1..=shape.most_votes() {
+                let symbol = random.nonzero_symbol(shape);
+                let error: Error = line[..length].iter().map(|&j| (j, symbol)).collect();
+                let page = Page::random(shape, random.below(page_numbers(shape)) as u32, random);
+                let mut come = Come::new();
+                let state = session(shape, figures(&come), &plain_marks(&come), &any_calls(random));
+                let call = arrival(VOTE, shape, &state, &page, &error, random);
+                expect(make, &call, &after_arrival(&call, &page, length as u32, &mut come))?;
+                tried += 1;
+            }
+        }
+    }
+    Ok(tried)
+}
