@@ -1,5 +1,6 @@
 //! One call of one entry, made of the reference or of the library, with all that it leaves behind.
 
+use crate::reference::energy::bill;
 use crate::reference::filler::fill;
 use crate::reference::page::{read_page, write_page};
 use crate::reference::reader::{decode, looked};
@@ -21,6 +22,7 @@ pub enum Entry {
     WritePage,
     Fresh,
     Count,
+    Bill,
     Arrive,
     HostReadWord,
     HostReadPage,
@@ -39,13 +41,14 @@ impl Entry {
             Entry::Marks => &["data", "marks"],
             Entry::WritePage => &["marks", "data"],
             Entry::Fresh | Entry::Count => &["session"],
+            Entry::Bill => &["session", "prices"],
             Entry::Arrive => &["session", "word", "scratch", "outcome"],
         }
     }
 
     /// Those whose shape is in the session.
     pub fn takes_session(self) -> bool {
-        matches!(self, Entry::Count | Entry::Arrive)
+        matches!(self, Entry::Count | Entry::Bill | Entry::Arrive)
     }
 
     /// Those of the host pair, which has three numbers for a shape and the standard slopes.
@@ -59,8 +62,8 @@ impl Entry {
     }
 }
 
-/// An entry with its arguments. The shape of `Count` and `Arrive` is in the session; `number` is the
-/// page of `WritePage`, the function of `Count` and the way of `Arrive`. The host's bytes stand as one number each.
+/// An entry with its arguments. The shape of `Count`, `Bill` and `Arrive` is in the session; `number` is
+/// the page of `WritePage`, the function of `Count` and the way of `Arrive`. The host's bytes stand as one number each.
 #[derive(Clone, Debug)]
 pub struct Call {
     pub entry: Entry,
@@ -138,6 +141,7 @@ impl Call {
             (Entry::WritePage, [marks, data]) => answer_of(write_page(shape, self.number, marks, data).map(|()| 0)),
             (Entry::Fresh, [session]) => answer_of(fresh(shape, session)),
             (Entry::Count, [session]) => count(session, self.number),
+            (Entry::Bill, [session, prices]) => bill_answer(session, prices),
             (Entry::Arrive, [session, word, scratch, outcome]) => {
                 answer_of(arrive(session, self.number, word, scratch, outcome))
             }
@@ -180,6 +184,15 @@ fn count(session: &[u32], function: u32) -> u64 {
         _ => Err(Refusal::Length),
     };
     result.map_or_else(|refusal| (1 << 32) + u64::from(refusal.number()), u64::from)
+}
+
+/// A refusal is 2^63 plus its number.
+fn bill_answer(session: &[u32], prices: &[u32]) -> u64 {
+    let result = match session.len() {
+        SESSION_LEN => bill(&Session::from_values(session), prices),
+        _ => Err(Refusal::Length),
+    };
+    result.unwrap_or_else(|refusal| (1 << 63) + u64::from(refusal.number()))
 }
 
 /// The session is written back only after a page was taken.
@@ -233,8 +246,9 @@ pub fn difference(entry: Entry, expected: &After, found: &After) -> Option<Strin
 
 fn shown(answer: u64) -> String {
     match answer {
-        0x8000_0001..=0x8000_0012 => format!("refusal {}", answer - (1 << 31)),
-        0x1_0000_0001..=0x1_0000_0012 => format!("refusal {}", answer - (1 << 32)),
+        0x8000_0001..=0x8000_0013 => format!("refusal {}", answer - (1 << 31)),
+        0x1_0000_0001..=0x1_0000_0013 => format!("refusal {}", answer - (1 << 32)),
+        0x8000_0000_0000_0001..=0x8000_0000_0000_0013 => format!("refusal {}", answer - (1 << 63)),
         _ => answer.to_string(),
     }
 }

@@ -69,6 +69,7 @@ extern "C" {
     ) -> u32;
     fn harness_fresh(shape: *const u32, shape_len: usize, session: *mut u32, session_len: usize) -> u32;
     fn harness_count(session: *const u32, session_len: usize, function: u32) -> u64;
+    fn harness_bill(session: *const u32, session_len: usize, prices: *const u32, prices_len: usize) -> u64;
     fn harness_arrive(
         session: *mut u32,
         session_len: usize,
@@ -178,6 +179,10 @@ pub fn fresh(shape: &[u32], session: &mut [u32]) -> u32 {
 
 pub fn count(session: &[u32], function: u32) -> u64 {
     unsafe { harness_count(session.as_ptr(), session.len(), function) }
+}
+
+pub fn bill(session: &[u32], prices: &[u32]) -> u64 {
+    unsafe { harness_bill(session.as_ptr(), session.len(), prices.as_ptr(), prices.len()) }
 }
 
 pub fn arrive(session: &mut [u32], way: u32, word: &mut [u32], scratch: &mut [u32], outcome: &mut [u32]) -> u32 {

@@ -28,6 +28,7 @@ impl Call {
             (Entry::WritePage, [marks, data]) => ffi::write_page(shape, self.number, marks.lend(), data.lend()).into(),
             (Entry::Fresh, [session]) => ffi::fresh(shape, session.lend()).into(),
             (Entry::Count, [session]) => ffi::count(session.lend(), self.number),
+            (Entry::Bill, [session, prices]) => ffi::bill(session.lend(), prices.lend()),
             (Entry::Arrive, [session, word, scratch, outcome]) => {
                 ffi::arrive(session.lend(), self.number, word.lend(), scratch.lend(), outcome.lend()).into()
             }

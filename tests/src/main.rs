@@ -5,7 +5,7 @@
 //! the program's are run only where TALLY is set.
 
 use shaftglimmer_tests::call::Call;
-use shaftglimmer_tests::groups::{erasures, figures, idle, looked, reference, slopes, stream, text, vectors, vote, ways};
+use shaftglimmer_tests::groups::{energy, erasures, figures, idle, looked, reference, slopes, stream, text, vectors, vote, ways};
 use shaftglimmer_tests::process::Program;
 use shaftglimmer_tests::report::Report;
 use std::env;
@@ -20,6 +20,7 @@ fn main() -> ExitCode {
     report.run(slopes::group("slopes of the reference", Call::on_reference));
     report.run(figures::group("figures of the reference", Call::on_reference));
     report.run(idle::group("idle marks of the reference", Call::on_reference));
+    report.run(energy::group("bills of the reference", Call::on_reference));
     report.run(erasures::group("dead cells of the reference", Call::on_reference));
     report.run(looked::group("checks looked at, of the reference", Call::on_reference));
     report.run(vote::group("votes of the reference", Call::on_reference));
@@ -48,6 +49,7 @@ fn library(report: &mut Report) {
     report.run(slopes::group("slopes of the library", Call::on_library));
     report.run(figures::group("figures of the library", Call::on_library));
     report.run(idle::group("idle marks of the library", Call::on_library));
+    report.run(energy::group("bills of the library", Call::on_library));
     report.run(erasures::group("dead cells of the library", Call::on_library));
     report.run(looked::group("checks looked at, of the library", Call::on_library));
     report.run(vote::group("votes of the library", Call::on_library));

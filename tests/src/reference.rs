@@ -7,6 +7,7 @@
 
 pub mod brute;
 pub mod elimination;
+pub mod energy;
 pub mod filler;
 pub mod page;
 pub mod program;

@@ -61,6 +61,7 @@ refusal-small Refusal.Unfillable = lit≤ tt
 refusal-small Refusal.Ambiguous = lit≤ tt
 refusal-small Refusal.NoMajority = lit≤ tt
 refusal-small Refusal.Slope = lit≤ tt
+refusal-small Refusal.Bill = lit≤ tt
 
 -- a refusal leaves a scratch of the same length
 pub scratch-size : (e : Refusal) (scratch : List ℕ) → length (scratchAfter e scratch) ≡ length scratch

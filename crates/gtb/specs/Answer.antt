@@ -25,6 +25,7 @@ refusalNumber Refusal.Unfillable = 13
 refusalNumber Refusal.Ambiguous = 14
 refusalNumber Refusal.NoMajority = 15
 refusalNumber Refusal.Slope = 18
+refusalNumber Refusal.Bill = 19
 
 -- as one number: 0, or 2^31 plus the refusal's
 abbrev pub statusNumber : Status → ℕ
@@ -59,6 +60,7 @@ isEarly Refusal.Unfillable = false
 isEarly Refusal.Ambiguous = false
 isEarly Refusal.NoMajority = false
 isEarly Refusal.Slope = true
+isEarly Refusal.Bill = false
 
 -- the scratch after a refusal: as lent after an early one, zeros after every other
 unfoldable pub scratchAfter : Refusal → List ℕ → List ℕ

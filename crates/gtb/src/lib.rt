@@ -39,6 +39,7 @@ pub enum Refusal {
     Ambiguous, // several
     NoMajority, // vote
     Slope, // slope
+    Bill, // bill
 }
 
 // The answer of an entry that carries no value.

@@ -25,6 +25,7 @@ pub fn refusal(refusal: Refusal) -> u32
         Refusal::Ambiguous => 14,
         Refusal::NoMajority => 15,
         Refusal::Slope => 18,
+        Refusal::Bill => 19,
     }
 }
 

@@ -26,8 +26,10 @@ use Rattle.session.specs.Session.{freshOf, freshStatus, countedOf}
 use Rattle.session.specs.Arrival.{theWays, outcomeValues}
 use Rattle.session.specs.Arrival as arrival
 use Rattle.session.proofs.Outcome.{the-type}
+use Rattle.energy.specs.declared.Billed.the-variants as billed
+use Rattle.energy.specs.Energy.{billOf}
 use Rattle.harness.specs.Crossing.{shapeIn, sessionOf, valuesOf}
-use Rattle.harness.specs.Entries.{Shaped, pageCrossing, beginningOf, FreshCrossing, countedIn, sessionIn, ArriveCrossing}
+use Rattle.harness.specs.Entries.{Shaped, pageCrossing, beginningOf, FreshCrossing, countedIn, billedIn, sessionIn, ArriveCrossing}
 
 -- ---- a shape of ten values, or not
 module _ {shape : List ℕ} {Promise : Shape → Type 0} {Untouched : Type 0} {r : ℕ} where
@@ -84,6 +86,16 @@ module _ (session : List ℕ) (f : ℕ) where
   pub count-past : length session ≡ 1292 → countedIn session f ≡ countedOf (sessionOf session) f
   unfolding countedIn
   count-past l = rw (eq-eqb _ _ l)
+
+-- ---- a bill
+module _ (session prices : List ℕ) where
+  pub bill-length : (length session ≡ 1292 → ⊥) → billedIn session prices ≡ billed.Refused Refusal.Length
+  unfolding billedIn
+  bill-length l = rw (ne-eqb _ _ l)
+
+  pub bill-past : length session ≡ 1292 → billedIn session prices ≡ billOf (sessionOf session) prices
+  unfolding billedIn
+  bill-past l = rw (eq-eqb _ _ l)
 
 -- ---- an arrival
 -- written after a page was taken

@@ -21,6 +21,9 @@ use Rattle.session.specs.declared.Outcome.the-variants.{Taken, Again, Refused}
 use Rattle.session.specs.declared.Arrived.{Arrived}
 use Rattle.session.specs.Session.{freshOf, countedOf}
 use Rattle.session.specs.Arrival.{theWays, outcomeValues, Arriving}
+use Rattle.energy.specs.declared.Billed.{Billed}
+use Rattle.energy.specs.declared.Billed.the-variants as billed
+use Rattle.energy.specs.Energy.{billOf}
 use Rattle.harness.specs.Crossing.{shapeIn, sessionOf, valuesOf}
 
 -- an answer with what its entry promises crosses as its number
@@ -59,6 +62,10 @@ pub record FreshCrossing (s : Shape) (session session′ : List ℕ) (r : ℕ) :
 -- a count query tests the length of the slice first
 unfoldable pub countedIn : List ℕ → ℕ → Counted
 countedIn session f = unless (eqb (length session) 1292) (counted.Refused Refusal.Length) (countedOf (sessionOf session) f)
+
+-- so does a bill
+unfoldable pub billedIn : List ℕ → List ℕ → Billed
+billedIn session prices = unless (eqb (length session) 1292) (billed.Refused Refusal.Length) (billOf (sessionOf session) prices)
 
 -- a session is written only after a page was taken
 abbrev pub sessionIn : List ℕ → Session → Outcome → List ℕ

@@ -7,6 +7,7 @@ use crate::crossing::load;
 use crate::crossing::load_shape;
 use crate::crossing::put_outcome;
 use crate::crossing::store;
+use energy::Billed;
 use gtb::Refusal;
 use gtb::Status;
 use session::Counted;
@@ -22,7 +23,8 @@ ghost use Rattle.correction.specs.Answer.{decodedNumber};
 ghost use Rattle.erasure.specs.Fill.{Filling};
 ghost use Rattle.page.specs.Page.{Writing};
 ghost use Rattle.session.specs.Session.{countedNumber};
-ghost use Rattle.harness.specs.Entries.{Crosses, Shaped, pageCrossing, MarksCrossing, FreshCrossing, countedIn, ArriveCrossing};
+ghost use Rattle.energy.specs.Energy.{billedNumber};
+ghost use Rattle.harness.specs.Entries.{Crosses, Shaped, pageCrossing, MarksCrossing, FreshCrossing, countedIn, billedIn, ArriveCrossing};
 
 #[no_mangle]
 pub extern "C" fn harness_encode(
@@ -169,6 +171,16 @@ pub extern "C" fn harness_count(session: &[u32], function: u32) -> u64
         return session::number::counted(Counted::Refused(Refusal::Length));
     }
     session::number::counted(load(session).count(function))
+}
+
+#[no_mangle]
+pub extern "C" fn harness_bill(session: &[u32], prices: &[u32]) -> u64
+    ensures { λ r. ⌜ r ≡ billedNumber (billedIn (now (session .entry)) (now (prices .entry))) ⌝ }
+{
+    if session.len() != LENGTH {
+        return energy::number::billed(Billed::Refused(Refusal::Length));
+    }
+    energy::number::billed(energy::bill(load(session), prices))
 }
 
 // The session is written only after a page was taken.

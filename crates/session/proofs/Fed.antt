@@ -224,6 +224,8 @@ pub every-list : (ways : Ways) (s : Shape) → AllSound ways s → (arrivals : L
 every-list ways s sound arrivals answers end run = record {
   agrees = rw (run-end run) (grown-end ways s sound arrivals (freshOf s) emptyMachine (fresh-grown s) .agrees);
   answered = rw (run-answers run) (length-answers ways (freshOf s) arrivals);
+  shape = rw (run-end run) (grown-end ways s sound arrivals (freshOf s) emptyMachine (fresh-grown s) .shape);
+  consistent = rw (run-end run) (grown-end ways s sound arrivals (freshOf s) emptyMachine (fresh-grown s) .consistent);
   figures = λ m l first σ run′.
       grown-pages s σ (held ways s arrivals m)
       (rw (run-end run′) (grown-end ways s sound (take m arrivals) (freshOf s) emptyMachine (fresh-grown s)))

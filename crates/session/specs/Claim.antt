@@ -13,7 +13,7 @@ use Rattle.session.specs.declared.Session.{Session}
 use Rattle.session.specs.declared.Outcome.{Outcome}
 use Rattle.session.specs.declared.Outcome.the-variants.{Taken, Again, Refused}
 use Rattle.session.specs.declared.Arrived.{Arrived}
-use Rattle.session.specs.Session.{freshOf, countOf}
+use Rattle.session.specs.Session.{Consistent, freshOf, countOf}
 use Rattle.session.specs.Arrival.{bySession, Ways, AllSound, Opened, Page, Bad, opened, Arriving}
 use Rattle.session.specs.Recording.{Sheet, sheetAt, Recording, tally, Arrival, arrivalAt, openedAt, TurnedDown, Brings, Fits}
 
@@ -70,6 +70,9 @@ answerAt answers j = getD answers j (Refused Refusal.Shape)
 pub record EveryList (ways : Ways) (s : Shape) (arrivals : List Arrival) (answers : List Outcome) (end : Session) : Type 0 where
   pub agrees : Agrees end (machine ways s emptyMachine arrivals)
   pub answered : length answers ≡ length arrivals
+  -- the session has that shape still, and is consistent
+  pub shape : end .shape ≡ s
+  pub consistent : Consistent end
   -- after every arrival the figures are the number of different pages that have come unrefused, and the lowest number that has not
   pub figures : (m : ℕ) → m ≤ length arrivals → (first : List Outcome) (σ : Session) → Run ways (freshOf s) (take m arrivals) first σ
       → (σ .pages ≡ count 1024 (come ways s arrivals m)) × (σ .lowest ≡ lowestNot 1024 (come ways s arrivals m))

@@ -87,7 +87,7 @@ impl Session {
     }
 
     // Test 11.
-    fn is_consistent(self) -> bool
+    pub fn is_consistent(self) -> bool
         ensures { λ r. ⌜ r ≡ consistent self ⌝ }
     {
         figures::agree(&self.taken, self.pages, self.lowest)

@@ -4,11 +4,12 @@ use crate::call::{answer_of, to_bytes, After, Call, Entry};
 use crate::capture::{page_numbers, Page};
 use crate::damage::{apply, make, unmasked, STYLES};
 use crate::random::Random;
-use crate::reference::session::{Session, LOWEST_AT, PAGES_AT, SESSION_LEN};
+use crate::reference::page::FUNCTIONS;
+use crate::reference::session::{Session, CALLS_AT, LOWEST_AT, PAGES_AT, SESSION_LEN};
 use crate::reference::shape::{Refusal, Shape};
 use crate::reference::writer::codeword;
 
-pub const ENTRIES: [Entry; 14] = [
+pub const ENTRIES: [Entry; 15] = [
     Entry::Encode,
     Entry::Extract,
     Entry::Decode,
@@ -20,6 +21,7 @@ pub const ENTRIES: [Entry; 14] = [
     Entry::WritePage,
     Entry::Fresh,
     Entry::Count,
+    Entry::Bill,
     Entry::Arrive,
     Entry::HostReadWord,
     Entry::HostReadPage,
@@ -64,6 +66,11 @@ pub fn good(entry: Entry, shape: Shape, random: &mut Random) -> Call {
         Entry::WritePage => Call::numbered(entry, shape, number, &[&page.marks, &random.numbers(data.len())]),
         Entry::Fresh => Call::new(entry, shape, &[&random.numbers(SESSION_LEN)]),
         Entry::Count => Call::numbered(entry, shape, random.below(256) as u32, &[&session]),
+        Entry::Bill => {
+            let mut session = session;
+            session[CALLS_AT..].fill_with(|| random.number() >> random.below(32));
+            Call::new(entry, shape, &[&session, &cheap_prices(random)])
+        }
         Entry::Arrive => Call::new(entry, shape, &[&session, &page_word, &scratch, &random.numbers(3)]),
         Entry::HostReadWord => Call::new(entry, shape, &[&to_bytes(&page_word)]),
         Entry::HostReadPage => Call::new(entry, shape, &[&to_bytes(&page_data)]),
@@ -84,6 +91,11 @@ fn some_places(shape: Shape, random: &mut Random) -> Vec<u32> {
     places
 }
 
+/// Prices so low that no sum passes 2^64 - 1.
+fn cheap_prices(random: &mut Random) -> Vec<u32> {
+    (0..FUNCTIONS).map(|_| random.number() >> (8 + random.below(24))).collect()
+}
+
 /// Puts another shape in place of the call's own.
 pub fn reshape(call: &mut Call, shape: Shape) {
     call.shape = shape;
@@ -102,12 +114,13 @@ pub fn reshaped(call: &Call, shape: Shape) -> Call {
 }
 
 /// A call that is turned down and leaves all as lent, each entry in its own way: an arrival says so in
-/// its outcome, a count query above 2^32, and the part that holds the marks is empty.
+/// its outcome, a count query above 2^32, a bill above 2^63, and the part that holds the marks is empty.
 pub fn turned_down(call: &Call, refusal: Refusal) -> After {
     let mut after = After { answer: answer_of(Err(refusal)), slices: call.slices.clone() };
     match call.entry {
         Entry::Marks => after.answer = 0,
         Entry::Count => after.answer = (1 << 32) + u64::from(refusal.number()),
+        Entry::Bill => after.answer = (1 << 63) + u64::from(refusal.number()),
         Entry::Arrive => {
             after.answer = 0;
             after.slices[3] = vec![2, refusal.number(), 0];
@@ -149,7 +162,7 @@ pub fn later_faults(call: &Call, random: &mut Random) -> Vec<Call> {
 /// What the harness needs to get a call across, so that its length comes first: the session and the
 /// outcome, and both of the lists that are to be of one length.
 pub fn crosses(entry: Entry, i: usize) -> bool {
-    matches!((entry, i), (Entry::Count, 0) | (Entry::Arrive, 0 | 3) | (Entry::Marks, _))
+    matches!((entry, i), (Entry::Count | Entry::Bill, 0) | (Entry::Arrive, 0 | 3) | (Entry::Marks, _))
 }
 
 /// The scratch's length before request N7: a row for every check.

@@ -102,7 +102,7 @@ fn sets(random: &mut Random) -> Vec<Come> {
 
 /// Figures that are not those of the set: off by one, swapped, zero, full, of another set, far away,
 /// and right but for the upper bits.
-fn wrong_figures(come: &Come, marks: &[u32]) -> Vec<[u32; 2]> {
+pub(super) fn wrong_figures(come: &Come, marks: &[u32]) -> Vec<[u32; 2]> {
     let [pages, lowest] = figures(come);
     let sum = marks.iter().fold(0, |sum: u32, &mark| sum.wrapping_add(mark));
     let next = (lowest + 1..ALL).find(|page| !come.contains(page)).unwrap_or(ALL);
@@ -119,9 +119,9 @@ fn wrong_figures(come: &Come, marks: &[u32]) -> Vec<[u32; 2]> {
     wrong
 }
 
-/// Calls of both entries that take a session, with this one.
-fn calls_with(session: &[u32], shape: Shape, random: &mut Random) -> [Call; 2] {
-    [Entry::Count, Entry::Arrive].map(|entry| {
+/// Calls of every entry that takes a session, with this one.
+fn calls_with(session: &[u32], shape: Shape, random: &mut Random) -> [Call; 3] {
+    [Entry::Count, Entry::Bill, Entry::Arrive].map(|entry| {
         let mut call = good(entry, shape, random);
         call.slices[0] = session.to_vec();
         call

@@ -80,7 +80,7 @@ fn expect_count(make: Make, shape: Shape, session: &[u32], count: u32) -> Result
 }
 
 /// Pages that have come elsewhere.
-fn some_pages(random: &mut Random) -> Come {
+pub(super) fn some_pages(random: &mut Random) -> Come {
     (0..PAGES as u32).filter(|_| random.one_in(3)).collect()
 }
 

@@ -139,7 +139,7 @@ fn byte_lengths(q: u32, n: u32, random: &mut Random) -> Verdict {
 
 /// Which slice has the symbols that test 3 is about.
 fn judged(entry: Entry) -> usize {
-    usize::from(matches!(entry, Entry::Arrive | Entry::Fill))
+    usize::from(matches!(entry, Entry::Arrive | Entry::Fill | Entry::Bill))
 }
 
 /// Values at 2^b - 1, 2^b and 2^32 - 1 at the ends and somewhere inside each slice.

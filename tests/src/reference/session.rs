@@ -86,7 +86,7 @@ impl Session {
     }
 
     /// Tests 1, 18 and 11, with which every entry begins that is given a session.
-    fn judge(&self) -> Result<(), Refusal> {
+    pub(super) fn judge(&self) -> Result<(), Refusal> {
         self.shape.judge()?;
         if self.figures == Figures::of(&self.taken) {
             Ok(())

@@ -28,6 +28,7 @@ pub enum Refusal {
     Ambiguous = 14,
     NoMajority = 15,
     Slope = 18,
+    Bill = 19,
 }
 
 impl Refusal {

@@ -1,0 +1,62 @@
+-- `energy::bill` meets its contract: each answer follows from the tests passed.
+use mathlib.Core.Path.{sym, ap, _∙_}
+use borrow.Author.Needs.{needs}
+use borrow.Author.Tests.{not-true, not-false, eq-eqb, ne-eqb}
+use Rattle.gtb.specs.Shape.{Lawful}
+use Rattle.gtb.proofs.Answers.{answered}
+use Rattle.session.specs.Session.{Consistent}
+use Rattle.energy.specs.declared.Billed.the-variants.{Refused}
+use Rattle.energy.specs.Energy.{billOf, billedNumber}
+use Rattle.energy.proofs.bill.Statement.{statement}
+use Rattle.energy.proofs.bill.Tie as tie
+
+-- past the first test the shape is lawful, past the second the figures are right
+legal : (c : tie.Else1) → Lawful (c .before .before .before .before .args .t1 .shape)
+legal c = sym (c .before .is-lawful .ensures) ∙ not-false _ (c .if1 .left)
+
+right : (c : tie.Else2) → Consistent (c .before .before .before .before .before .before .args .t1)
+right c = sym (c .before .is-consistent .ensures) ∙ not-false _ (c .if2 .left)
+
+is-lawful-requires : tie.Need-is-lawful-requires
+is-lawful-requires c κs = search needs
+
+shape-refusal-requires : tie.Need-shape-refusal-requires
+shape-refusal-requires c κs = search needs
+
+returns : tie.Need-returns
+unfolding billOf
+returns c = answered billedNumber (rw (sym (c .before .before .is-lawful .ensures) ∙ not-true _ (c .before .if1 .taken)) (ap Refused (c .shape-refusal .ensures)))
+
+is-consistent-requires : tie.Need-is-consistent-requires
+is-consistent-requires c κs = search needs
+
+returns-2 : tie.Need-returns-2
+unfolding billOf
+returns-2 c =
+    answered billedNumber (rw (legal (c .before .before), sym (c .before .is-consistent .ensures) ∙ not-true _ (c .if2 .taken)))
+
+returns-3 : tie.Need-returns-3
+unfolding billOf
+returns-3 c = answered billedNumber (rw (legal (c .before .before .before), right (c .before), ne-eqb _ 256 (c .if3 .taken)))
+
+priced-requires : tie.Need-priced-requires
+priced-requires c κs = search needs
+
+returns-4 : tie.Need-returns-4
+unfolding billOf
+returns-4 c =
+    let past = c .before .before .before in
+    answered billedNumber (rw (legal (past .before .before .before), right (past .before), eq-eqb _ 256 (past .if3 .left)) (c .priced .ensures))
+
+pub bill-spec : {M : Type 1} → statement M
+bill-spec =
+    tie.close
+    (tie.spec
+    is-lawful-requires
+    shape-refusal-requires
+    returns
+    is-consistent-requires
+    returns-2
+    returns-3
+    priced-requires
+    returns-4)
