@@ -1,5 +1,6 @@
 //! One call of one entry, made of the reference or of the library, with all that it leaves behind.
 
+use crate::reference::coverage::cover;
 use crate::reference::energy::bill;
 use crate::reference::filler::fill;
 use crate::reference::page::{read_page, write_page};
@@ -23,6 +24,7 @@ pub enum Entry {
     Fresh,
     Count,
     Bill,
+    Cover,
     Arrive,
     HostReadWord,
     HostReadPage,
@@ -42,18 +44,24 @@ impl Entry {
             Entry::WritePage => &["marks", "data"],
             Entry::Fresh | Entry::Count => &["session"],
             Entry::Bill => &["session", "prices"],
+            Entry::Cover => &["session", "bytes"],
             Entry::Arrive => &["session", "word", "scratch", "outcome"],
         }
     }
 
     /// Those whose shape is in the session.
     pub fn takes_session(self) -> bool {
-        matches!(self, Entry::Count | Entry::Bill | Entry::Arrive)
+        matches!(self, Entry::Count | Entry::Bill | Entry::Cover | Entry::Arrive)
     }
 
     /// Those of the host pair, which has three numbers for a shape and the standard slopes.
     pub fn is_of_host(self) -> bool {
         matches!(self, Entry::HostReadWord | Entry::HostReadPage)
+    }
+
+    /// Those whose last slice is of bytes.
+    pub fn takes_bytes(self) -> bool {
+        self.is_of_host() || self == Entry::Cover
     }
 
     /// Those that are lent their shape as a slice.
@@ -62,8 +70,8 @@ impl Entry {
     }
 }
 
-/// An entry with its arguments. The shape of `Count`, `Bill` and `Arrive` is in the session; `number` is
-/// the page of `WritePage`, the function of `Count` and the way of `Arrive`. The host's bytes stand as one number each.
+/// An entry with its arguments. The shape of `Count`, `Bill`, `Cover` and `Arrive` is in the session;
+/// `number` is the page of `WritePage`, the function of `Count` and the way of `Arrive`. Bytes stand as one number each.
 #[derive(Clone, Debug)]
 pub struct Call {
     pub entry: Entry,
@@ -142,6 +150,7 @@ impl Call {
             (Entry::Fresh, [session]) => answer_of(fresh(shape, session)),
             (Entry::Count, [session]) => count(session, self.number),
             (Entry::Bill, [session, prices]) => bill_answer(session, prices),
+            (Entry::Cover, [session, bytes]) => answer_of(cover_answer(session, bytes)),
             (Entry::Arrive, [session, word, scratch, outcome]) => {
                 answer_of(arrive(session, self.number, word, scratch, outcome))
             }
@@ -193,6 +202,13 @@ fn bill_answer(session: &[u32], prices: &[u32]) -> u64 {
         _ => Err(Refusal::Length),
     };
     result.unwrap_or_else(|refusal| (1 << 63) + u64::from(refusal.number()))
+}
+
+fn cover_answer(session: &[u32], bytes: &mut [u32]) -> Result<u32, Refusal> {
+    match session.len() {
+        SESSION_LEN => cover(&Session::from_values(session), bytes),
+        _ => Err(Refusal::Length),
+    }
 }
 
 /// The session is written back only after a page was taken.

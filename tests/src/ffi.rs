@@ -70,6 +70,7 @@ extern "C" {
     fn harness_fresh(shape: *const u32, shape_len: usize, session: *mut u32, session_len: usize) -> u32;
     fn harness_count(session: *const u32, session_len: usize, function: u32) -> u64;
     fn harness_bill(session: *const u32, session_len: usize, prices: *const u32, prices_len: usize) -> u64;
+    fn harness_coverage(session: *const u32, session_len: usize, bytes: *mut u8, bytes_len: usize) -> u32;
     fn harness_arrive(
         session: *mut u32,
         session_len: usize,
@@ -183,6 +184,10 @@ pub fn count(session: &[u32], function: u32) -> u64 {
 
 pub fn bill(session: &[u32], prices: &[u32]) -> u64 {
     unsafe { harness_bill(session.as_ptr(), session.len(), prices.as_ptr(), prices.len()) }
+}
+
+pub fn coverage(session: &[u32], bytes: &mut [u8]) -> u32 {
+    unsafe { harness_coverage(session.as_ptr(), session.len(), bytes.as_mut_ptr(), bytes.len()) }
 }
 
 pub fn arrive(session: &mut [u32], way: u32, word: &mut [u32], scratch: &mut [u32], outcome: &mut [u32]) -> u32 {

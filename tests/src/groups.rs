@@ -3,6 +3,7 @@
 mod calls;
 #[cfg(not(feature = "reference-only"))]
 pub mod codec;
+pub mod coverage;
 pub mod energy;
 pub mod erasures;
 mod faults;

@@ -29,6 +29,7 @@ impl Call {
             (Entry::Fresh, [session]) => ffi::fresh(shape, session.lend()).into(),
             (Entry::Count, [session]) => ffi::count(session.lend(), self.number),
             (Entry::Bill, [session, prices]) => ffi::bill(session.lend(), prices.lend()),
+            (Entry::Cover, [session, bytes]) => bytes.lend_bytes(|bytes| ffi::coverage(session.lend(), bytes)).into(),
             (Entry::Arrive, [session, word, scratch, outcome]) => {
                 ffi::arrive(session.lend(), self.number, word.lend(), scratch.lend(), outcome.lend()).into()
             }

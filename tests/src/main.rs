@@ -5,7 +5,7 @@
 //! the program's are run only where TALLY is set.
 
 use shaftglimmer_tests::call::Call;
-use shaftglimmer_tests::groups::{energy, erasures, figures, idle, looked, reference, slopes, stream, text, vectors, vote, ways};
+use shaftglimmer_tests::groups::{coverage, energy, erasures, figures, idle, looked, reference, slopes, stream, text, vectors, vote, ways};
 use shaftglimmer_tests::process::Program;
 use shaftglimmer_tests::report::Report;
 use std::env;
@@ -21,6 +21,7 @@ fn main() -> ExitCode {
     report.run(figures::group("figures of the reference", Call::on_reference));
     report.run(idle::group("idle marks of the reference", Call::on_reference));
     report.run(energy::group("bills of the reference", Call::on_reference));
+    report.run(coverage::group("coverage of the reference", Call::on_reference));
     report.run(erasures::group("dead cells of the reference", Call::on_reference));
     report.run(looked::group("checks looked at, of the reference", Call::on_reference));
     report.run(vote::group("votes of the reference", Call::on_reference));
@@ -50,6 +51,7 @@ fn library(report: &mut Report) {
     report.run(figures::group("figures of the library", Call::on_library));
     report.run(idle::group("idle marks of the library", Call::on_library));
     report.run(energy::group("bills of the library", Call::on_library));
+    report.run(coverage::group("coverage of the library", Call::on_library));
     report.run(erasures::group("dead cells of the library", Call::on_library));
     report.run(looked::group("checks looked at, of the library", Call::on_library));
     report.run(vote::group("votes of the library", Call::on_library));

@@ -46,6 +46,11 @@ impl Random {
         (0..length).map(|_| self.number()).collect()
     }
 
+    /// Numbers below 256.
+    pub fn bytes(&mut self, length: usize) -> Vec<u32> {
+        (0..length).map(|_| self.number() >> 24).collect()
+    }
+
     /// A lawful shape of these q, n and b: the standard slopes one time in three, else any.
     pub fn shape(&mut self, q: u32, n: u32, b: u32) -> Shape {
         if self.one_in(3) {

@@ -6,6 +6,7 @@
 //! proposes is accepted only if it meets the rules' definition.
 
 pub mod brute;
+pub mod coverage;
 pub mod elimination;
 pub mod energy;
 pub mod filler;

@@ -29,7 +29,7 @@ use Rattle.session.proofs.Outcome.{the-type}
 use Rattle.energy.specs.declared.Billed.the-variants as billed
 use Rattle.energy.specs.Energy.{billOf}
 use Rattle.harness.specs.Crossing.{shapeIn, sessionOf, valuesOf}
-use Rattle.harness.specs.Entries.{Shaped, pageCrossing, beginningOf, FreshCrossing, countedIn, billedIn, sessionIn, ArriveCrossing}
+use Rattle.harness.specs.Entries.{Shaped, Sessioned, pageCrossing, beginningOf, FreshCrossing, countedIn, billedIn, sessionIn, ArriveCrossing}
 
 -- ---- a shape of ten values, or not
 module _ {shape : List ℕ} {Promise : Shape → Type 0} {Untouched : Type 0} {r : ℕ} where
@@ -38,6 +38,14 @@ module _ {shape : List ℕ} {Promise : Shape → Type 0} {Untouched : Type 0} {r
 
   pub unshaped : (length shape ≡ 10 → ⊥) → r ≡ 2 ^ 31 + refusalNumber Refusal.Length → Untouched → Shaped shape Promise Untouched r
   unshaped other is left = record { right = λ size. absurd (other size); wrong = λ _. (is, left) }
+
+-- ---- a session of 1292 values, or not
+module _ {session : List ℕ} {Promise : Session → Type 0} {Untouched : Type 0} {r : ℕ} where
+  pub sessioned : {σ : Session} → length session ≡ 1292 → σ ≡ sessionOf session → Promise σ → Sessioned session Promise Untouched r
+  sessioned size is promise = record { right = λ _. rw (← is) promise; wrong = λ other. absurd (other size) }
+
+  pub unsessioned : (length session ≡ 1292 → ⊥) → r ≡ 2 ^ 31 + refusalNumber Refusal.Length → Untouched → Sessioned session Promise Untouched r
+  unsessioned other is left = record { right = λ size. absurd (other size); wrong = λ _. (is, left) }
 
 -- ---- the page reader
 module _ (shape symbols : List ℕ) where

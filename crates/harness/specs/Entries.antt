@@ -37,6 +37,11 @@ pub record Shaped (shape : List ℕ) (Promise : Shape → Type 0) (Untouched : T
   pub right : length shape ≡ 10 → Promise (shapeIn shape)
   pub wrong : (length shape ≡ 10 → ⊥) → (r ≡ statusNumber (status.Refused Refusal.Length)) × Untouched
 
+-- an entry that takes a session: it has 1292 values, or the call is turned down in the same way
+pub record Sessioned (session : List ℕ) (Promise : Session → Type 0) (Untouched : Type 0) (r : ℕ) : Type 0 where
+  pub right : length session ≡ 1292 → Promise (sessionOf session)
+  pub wrong : (length session ≡ 1292 → ⊥) → (r ≡ statusNumber (status.Refused Refusal.Length)) × Untouched
+
 -- the page reader
 unfoldable pub pageCrossing : List ℕ → List ℕ → ℕ
 pageCrossing shape symbols = cond (eqb (length shape) 10) (readNumber (pageOf (shapeIn shape) symbols)) (statusNumber (status.Refused Refusal.Length))

@@ -1,4 +1,4 @@
-// Every entry over numbers and slices of u32, so that a program in another language can try it. A shape of other than ten values is 2.
+// Every entry over numbers and slices of u32, one of u8, so that a program in another language can try it. A shape of other than ten values is 2.
 mod crossing;
 
 use crate::crossing::LENGTH;
@@ -24,7 +24,8 @@ ghost use Rattle.erasure.specs.Fill.{Filling};
 ghost use Rattle.page.specs.Page.{Writing};
 ghost use Rattle.session.specs.Session.{countedNumber};
 ghost use Rattle.energy.specs.Energy.{billedNumber};
-ghost use Rattle.harness.specs.Entries.{Crosses, Shaped, pageCrossing, MarksCrossing, FreshCrossing, countedIn, billedIn, ArriveCrossing};
+ghost use Rattle.coverage.specs.Coverage.{coveredNumber, Covering};
+ghost use Rattle.harness.specs.Entries.{Crosses, Shaped, Sessioned, pageCrossing, MarksCrossing, FreshCrossing, countedIn, billedIn, ArriveCrossing};
 
 #[no_mangle]
 pub extern "C" fn harness_encode(
@@ -181,6 +182,16 @@ pub extern "C" fn harness_bill(session: &[u32], prices: &[u32]) -> u64
         return energy::number::billed(Billed::Refused(Refusal::Length));
     }
     energy::number::billed(energy::bill(load(session), prices))
+}
+
+#[no_mangle]
+pub extern "C" fn harness_coverage(session: &[u32], bytes: &mut [u8]) -> u32
+    ensures { λ r. ⌜ Sessioned (now (session .entry)) (λ σ. Crosses coveredNumber (Covering σ (now (bytes .entry)) (now (bytes .exit))) r) (now (bytes .exit) ≡ now (bytes .entry)) r ⌝ }
+{
+    if session.len() != LENGTH {
+        return gtb::number::refused(Refusal::Length);
+    }
+    coverage::number::covered(coverage::cover(load(session), bytes))
 }
 
 // The session is written only after a page was taken.

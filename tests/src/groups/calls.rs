@@ -9,7 +9,7 @@ use crate::reference::session::{Session, CALLS_AT, LOWEST_AT, PAGES_AT, SESSION_
 use crate::reference::shape::{Refusal, Shape};
 use crate::reference::writer::codeword;
 
-pub const ENTRIES: [Entry; 15] = [
+pub const ENTRIES: [Entry; 16] = [
     Entry::Encode,
     Entry::Extract,
     Entry::Decode,
@@ -22,6 +22,7 @@ pub const ENTRIES: [Entry; 15] = [
     Entry::Fresh,
     Entry::Count,
     Entry::Bill,
+    Entry::Cover,
     Entry::Arrive,
     Entry::HostReadWord,
     Entry::HostReadPage,
@@ -70,6 +71,11 @@ pub fn good(entry: Entry, shape: Shape, random: &mut Random) -> Call {
             let mut session = session;
             session[CALLS_AT..].fill_with(|| random.number() >> random.below(32));
             Call::new(entry, shape, &[&session, &cheap_prices(random)])
+        }
+        Entry::Cover => {
+            let mut session = session;
+            session[CALLS_AT..].fill_with(|| random.number() >> random.below(32) >> random.below(32));
+            Call::new(entry, shape, &[&session, &random.bytes(FUNCTIONS)])
         }
         Entry::Arrive => Call::new(entry, shape, &[&session, &page_word, &scratch, &random.numbers(3)]),
         Entry::HostReadWord => Call::new(entry, shape, &[&to_bytes(&page_word)]),
@@ -151,7 +157,7 @@ pub fn later_faults(call: &Call, random: &mut Random) -> Vec<Call> {
             calls.push(call);
         };
         let slice = &call.slices[i];
-        spoiled(vec![u32::MAX; slice.len()]);
+        spoiled(vec![if call.entry.takes_bytes() { 255 } else { u32::MAX }; slice.len()]);
         for length in [0, slice.len().saturating_sub(1), slice.len() + 1] {
             spoiled(resized(slice, length, random));
         }
@@ -162,7 +168,7 @@ pub fn later_faults(call: &Call, random: &mut Random) -> Vec<Call> {
 /// What the harness needs to get a call across, so that its length comes first: the session and the
 /// outcome, and both of the lists that are to be of one length.
 pub fn crosses(entry: Entry, i: usize) -> bool {
-    matches!((entry, i), (Entry::Count | Entry::Bill, 0) | (Entry::Arrive, 0 | 3) | (Entry::Marks, _))
+    matches!((entry, i), (Entry::Count | Entry::Bill | Entry::Cover, 0) | (Entry::Arrive, 0 | 3) | (Entry::Marks, _))
 }
 
 /// The scratch's length before request N7: a row for every check.

@@ -139,7 +139,7 @@ fn byte_lengths(q: u32, n: u32, random: &mut Random) -> Verdict {
 
 /// Which slice has the symbols that test 3 is about.
 fn judged(entry: Entry) -> usize {
-    usize::from(matches!(entry, Entry::Arrive | Entry::Fill | Entry::Bill))
+    usize::from(matches!(entry, Entry::Arrive | Entry::Fill | Entry::Bill | Entry::Cover))
 }
 
 /// Values at 2^b - 1, 2^b and 2^32 - 1 at the ends and somewhere inside each slice.
@@ -236,7 +236,7 @@ fn spoil_figure(call: &mut Call, random: &mut Random) {
 fn spoil_symbol(call: &mut Call, random: &mut Random) {
     let of_places = call.entry == Entry::Fill && random.one_in(2);
     let judged = if of_places { 0 } else { judged(call.entry) };
-    let limit = if call.entry.is_of_host() { 255 } else { u32::MAX };
+    let limit = if call.entry.takes_bytes() { 255 } else { u32::MAX };
     let slice = &mut call.slices[judged];
     if slice.is_empty() || matches!(call.entry, Entry::Fresh | Entry::Count) {
         return;

@@ -1,0 +1,2 @@
+pub mod Coverage
+pub mod Steps

@@ -1,0 +1,58 @@
+// The coverage viewer: which functions were called at all.
+pub mod number;
+
+use gtb::Refusal;
+use session::Session;
+ghost use mathlib.Core.Path.{_≡_};
+ghost use lib.Dec.{ltb};
+ghost use lib.ListN.{length};
+ghost use Rattle.parity.specs.Count.{bit};
+ghost use Rattle.coverage.specs.Coverage.{Covering};
+ghost use Rattle.coverage.specs.Steps.{Marking};
+
+// The answer of the viewer: how many functions were called.
+pub enum Covered {
+    Functions(u32),
+    Refused(Refusal),
+}
+
+// Tests 1, 18, 11, then 2; only after these is the slice written to: a yes or no for each function.
+pub fn cover(session: Session, bytes: &mut [u8]) -> Covered
+    ensures { λ r. ⌜ Covering session (now (bytes .entry)) (now (bytes .exit)) r ⌝ }
+{
+    let shape = session.shape;
+    if !gtb::is_lawful(shape) {
+        return Covered::Refused(gtb::shape_refusal(shape));
+    }
+    if !session.is_consistent() {
+        return Covered::Refused(Refusal::Figures);
+    }
+    if bytes.len() != Session::FUNCTIONS {
+        return Covered::Refused(Refusal::Length);
+    }
+    Covered::Functions(mark(&session.calls, bytes))
+}
+
+// Writes every function's byte, and counts those that are yes.
+fn mark(calls: &[u32; Session::FUNCTIONS], bytes: &mut [u8]) -> u32
+    requires { ⌜ length (now bytes) ≡ 256 ⌝ }
+    ensures { λ r. ⌜ Marking (now (calls .entry)) 256 (now (bytes .exit)) r ⌝ }
+{
+    let mut covered = 0u32;
+    for f in 0..Session::FUNCTIONS {
+        let byte = covers(calls[f]);
+        bytes[f] = byte;
+        covered += byte as u32;
+    }
+    covered
+}
+
+// Yes is 1, no is 0.
+fn covers(calls: u32) -> u8
+    ensures { λ r. ⌜ r ≡ bit (ltb 0 calls) ⌝ }
+{
+    if calls > 0 {
+        return 1;
+    }
+    0
+}

@@ -1,0 +1,164 @@
+//! The coverage viewer: which bytes are yes for which counts, what a refusal leaves, recordings. What must
+//! come of each call is said here, not asked of the reference, which is held to it like the library.
+
+use super::calls::{reshaped, resized, turned_down};
+use super::figures::{any_marks, bad_slope, figures, readable, session, wrong_figures, Make};
+use super::idle::some_pages;
+use crate::call::{difference, After, Call, Entry};
+use crate::capture::{recording_of, Page};
+use crate::random::Random;
+use crate::reference::page::FUNCTIONS;
+use crate::reference::session::{CALLS_AT, SESSION_LEN};
+use crate::reference::shape::{orders_and_directions, Refusal, Shape};
+use crate::report::{Group, Unit, Verdict};
+use std::collections::BTreeSet;
+
+/// Counts above zero, some of which a byte would lose.
+const COUNTS: [u32; 9] = [1, 2, 3, 255, 256, 1 << 16, 1 << 31, 0xffff_ff00, u32::MAX];
+
+/// The group for whichever makes the calls.
+pub fn group(name: &'static str, make: Make) -> Group {
+    let mut group = Group::new(name, Unit::Calls);
+    for (q, n) in orders_and_directions() {
+        let mut test = |name: &str, body: fn(Make, Shape, &mut Random) -> Verdict| {
+            group.test(format!("{name}, ({q}, {n})"), move |random| {
+                let b = random.pick(&[1, 8, 11, 32]);
+                body(make, random.shape(q, n, b), random)
+            });
+        };
+        test("single functions", single_functions);
+        test("any functions", any_functions);
+        test("lengths", lengths);
+        test("several faults", several_faults);
+        test("recordings", recordings);
+    }
+    group
+}
+
+/// A call with these counts, of a session from elsewhere; the slice is full of old bytes.
+fn cover(shape: Shape, calls: &[u32], random: &mut Random) -> Call {
+    let come = some_pages(random);
+    let session = session(shape, figures(&come), &any_marks(&come, random), calls);
+    Call::new(Entry::Cover, shape, &[&session, &random.bytes(FUNCTIONS)])
+}
+
+/// The answer where exactly these functions are yes.
+fn covered(call: &Call, functions: &BTreeSet<usize>) -> After {
+    let bytes = (0..FUNCTIONS).map(|function| u32::from(functions.contains(&function))).collect();
+    After { answer: functions.len() as u64, slices: vec![call.slices[0].clone(), bytes] }
+}
+
+fn expect(make: Make, call: &Call, expected: &After) -> Result<(), String> {
+    let shown = |found| {
+        let calls = call.slices[0].get(CALLS_AT..).unwrap_or(&[]);
+        format!("{:?}, calls {calls:?}, {} bytes: {found}", call.shape, call.slices[1].len())
+    };
+    difference(call.entry, expected, &make(call)).map_or(Ok(()), |found| Err(shown(found)))
+}
+
+/// One function alone was called, 0 among them; and all but one.
+fn single_functions(make: Make, shape: Shape, random: &mut Random) -> Verdict {
+    let any: Vec<usize> = (0..6).map(|_| random.below(FUNCTIONS)).collect();
+    let mut tried = 0;
+    for function in [0, 1, 2, 127, 128, 254, 255].into_iter().chain(any) {
+        for count in COUNTS {
+            let mut calls = vec![0; FUNCTIONS];
+            calls[function] = count;
+            let call = cover(shape, &calls, random);
+            expect(make, &call, &covered(&call, &BTreeSet::from([function])))?;
+            let mut calls = vec![count; FUNCTIONS];
+            calls[function] = 0;
+            let call = cover(shape, &calls, random);
+            let others = (0..FUNCTIONS).filter(|&other| other != function).collect();
+            expect(make, &call, &covered(&call, &others))?;
+            tried += 2;
+        }
+    }
+    Ok(tried)
+}
+
+/// Any of the functions were called, few or many, or none, or all.
+fn any_functions(make: Make, shape: Shape, random: &mut Random) -> Verdict {
+    let rounds = 40;
+    for round in 0..rounds {
+        let often = 1 + random.below(8);
+        let called: BTreeSet<usize> = match round {
+            0 => BTreeSet::new(),
+            1 => (0..FUNCTIONS).collect(),
+            _ => (0..FUNCTIONS).filter(|_| random.one_in(often)).collect(),
+        };
+        let count = |function| if called.contains(&function) { random.pick(&COUNTS) } else { 0 };
+        let calls: Vec<u32> = (0..FUNCTIONS).map(count).collect();
+        let call = cover(shape, &calls, random);
+        expect(make, &call, &covered(&call, &called))?;
+    }
+    Ok(rounds)
+}
+
+/// 255 bytes, 257 and others: 2, and none is written. A session of wrong length: 2.
+fn lengths(make: Make, shape: Shape, random: &mut Random) -> Verdict {
+    let mut tried = 0;
+    for count in [0, 1] {
+        let call = cover(shape, &[count; FUNCTIONS], random);
+        for length in [0, 1, 255, 257, 512, 1024] {
+            let mut call = call.clone();
+            call.slices[1] = random.bytes(length);
+            expect(make, &call, &turned_down(&call, Refusal::Length))?;
+            tried += 1;
+        }
+        for length in [0, FUNCTIONS, SESSION_LEN - 2, SESSION_LEN - 1, SESSION_LEN + 1] {
+            let mut call = call.clone();
+            call.slices[0] = resized(&call.slices[0], length, random);
+            expect(make, &call, &turned_down(&call, Refusal::Length))?;
+            tried += 1;
+        }
+    }
+    Ok(tried)
+}
+
+/// The tests in their order.
+const ORDER: [Refusal; 4] = [Refusal::Shape, Refusal::Slope, Refusal::Figures, Refusal::Length];
+
+/// Every choice of faults: the first in order is the answer, and the slice is as it was.
+fn several_faults(make: Make, shape: Shape, random: &mut Random) -> Verdict {
+    let mut tried = 0;
+    for faults in 0..1 << ORDER.len() {
+        let has =
+            |refusal: Refusal| ORDER.iter().position(|&other| other == refusal).is_some_and(|i| faults >> i & 1 == 1);
+        let come = some_pages(random);
+        let marks = any_marks(&come, random);
+        let wrong = random.pick(&wrong_figures(&come, &marks));
+        let figures = if has(Refusal::Figures) { wrong } else { figures(&come) };
+        let length = if has(Refusal::Length) { random.pick(&[0, 255, 257]) } else { FUNCTIONS };
+        let session = session(shape, figures, &marks, &[random.pick(&COUNTS); FUNCTIONS]);
+        let call = Call::new(Entry::Cover, shape, &[&session, &random.bytes(length)]);
+        let sloped = if has(Refusal::Slope) { bad_slope(shape, shape, random) } else { shape };
+        let b = if has(Refusal::Shape) { 33 } else { shape.b };
+        let call = reshaped(&call, Shape { b, ..sloped });
+        match ORDER.into_iter().find(|&refusal| has(refusal)) {
+            Some(refusal) => expect(make, &call, &turned_down(&call, refusal))?,
+            None => expect(make, &call, &covered(&call, &(0..FUNCTIONS).collect()))?,
+        }
+        tried += 1;
+    }
+    Ok(tried)
+}
+
+/// From a fresh session on: after each arrival yes is said of the functions from 1 on that a page so far
+/// has a mark for.
+fn recordings(make: Make, shape: Shape, random: &mut Random) -> Verdict {
+    let fresh = Call::new(Entry::Fresh, shape, &[&random.numbers(SESSION_LEN)]);
+    let mut session = make(&fresh).slices.swap_remove(0);
+    let pages = recording_of(shape, 8, Page::in_runs, random);
+    let mut arriving: Vec<&Page> = pages.iter().flat_map(|page| vec![page; 1 + random.below(2)]).collect();
+    random.shuffle(&mut arriving);
+    let mut marked = BTreeSet::new();
+    for &page in &arriving {
+        let (call, _) = readable(shape, &session, page, random);
+        session = make(&call).slices.swap_remove(0);
+        marked.extend(page.marks.iter().map(|&mark| mark as usize).filter(|&mark| mark != 0));
+        let call = Call::new(Entry::Cover, shape, &[&session, &random.bytes(FUNCTIONS)]);
+        expect(make, &call, &covered(&call, &marked))?;
+    }
+    Ok(arriving.len() as u64)
+}
