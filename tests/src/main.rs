@@ -5,7 +5,9 @@
 //! the program's are run only where TALLY is set.
 
 use shaftglimmer_tests::call::Call;
-use shaftglimmer_tests::groups::{coverage, energy, erasures, figures, idle, looked, reference, slopes, stream, text, vectors, vote, ways};
+use shaftglimmer_tests::groups::{
+    coverage, energy, erasures, figures, idle, looked, reference, slopes, stream, text, vectors, vote, ways,
+};
 use shaftglimmer_tests::process::Program;
 use shaftglimmer_tests::report::Report;
 use std::env;
