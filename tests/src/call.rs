@@ -1,6 +1,7 @@
 //! One call of one entry, made of the reference or of the library, with all that it leaves behind.
 
 use crate::reference::coverage::cover;
+use crate::reference::double::decode_two;
 use crate::reference::energy::bill;
 use crate::reference::filler::fill;
 use crate::reference::page::{read_page, write_page};
@@ -17,6 +18,7 @@ pub enum Entry {
     Decode,
     Looked,
     DecodeMajority,
+    DecodeTwo,
     Fill,
     ReadPage,
     Marks,
@@ -36,7 +38,7 @@ impl Entry {
         match self {
             Entry::Encode => &["data", "scratch", "word"],
             Entry::Extract => &["word", "scratch", "data"],
-            Entry::Decode | Entry::DecodeMajority | Entry::HostReadWord => &["word"],
+            Entry::Decode | Entry::DecodeMajority | Entry::DecodeTwo | Entry::HostReadWord => &["word"],
             Entry::Looked => &["word", "looked"],
             Entry::Fill => &["places", "word", "scratch"],
             Entry::ReadPage | Entry::HostReadPage => &["data"],
@@ -143,6 +145,7 @@ impl Call {
             (Entry::Decode, [word]) => answer_of(decode(shape, word)),
             (Entry::Looked, [word, list]) => answer_of(looked(shape, word, list).map(|()| 0)),
             (Entry::DecodeMajority, [word]) => answer_of(decode_majority(shape, word)),
+            (Entry::DecodeTwo, [word]) => answer_of(decode_two(shape, word)),
             (Entry::Fill, [places, word, scratch]) => answer_of(fill(shape, places, word, scratch)),
             (Entry::ReadPage, [data]) => answer_of(page_answer(shape, data)),
             (Entry::Marks, [data, marks]) => answer_of(marks_part(shape, data, marks)),

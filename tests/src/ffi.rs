@@ -39,6 +39,7 @@ extern "C" {
         looked_len: usize,
     ) -> u32;
     fn harness_decode_majority(shape: *const u32, shape_len: usize, word: *mut u32, word_len: usize) -> u32;
+    fn harness_decode_two(shape: *const u32, shape_len: usize, word: *mut u32, word_len: usize) -> u32;
     fn harness_fill(
         shape: *const u32,
         shape_len: usize,
@@ -135,6 +136,10 @@ pub fn looked(shape: &[u32], word: &[u32], looked: &mut [u32]) -> u32 {
 
 pub fn decode_majority(shape: &[u32], word: &mut [u32]) -> u32 {
     unsafe { harness_decode_majority(shape.as_ptr(), shape.len(), word.as_mut_ptr(), word.len()) }
+}
+
+pub fn decode_two(shape: &[u32], word: &mut [u32]) -> u32 {
+    unsafe { harness_decode_two(shape.as_ptr(), shape.len(), word.as_mut_ptr(), word.len()) }
 }
 
 pub fn fill(shape: &[u32], places: &[u32], word: &mut [u32], scratch: &mut [u32]) -> u32 {

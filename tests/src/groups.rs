@@ -4,6 +4,7 @@ mod calls;
 #[cfg(not(feature = "reference-only"))]
 pub mod codec;
 pub mod coverage;
+pub mod double;
 pub mod energy;
 pub mod erasures;
 mod faults;

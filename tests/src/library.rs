@@ -20,6 +20,7 @@ impl Call {
             (Entry::Decode, [word]) => ffi::decode(shape, word.lend()).into(),
             (Entry::Looked, [word, looked]) => ffi::looked(shape, word.lend(), looked.lend()).into(),
             (Entry::DecodeMajority, [word]) => ffi::decode_majority(shape, word.lend()).into(),
+            (Entry::DecodeTwo, [word]) => ffi::decode_two(shape, word.lend()).into(),
             (Entry::Fill, [places, word, scratch]) => {
                 ffi::fill(shape, places.lend(), word.lend(), scratch.lend()).into()
             }

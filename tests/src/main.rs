@@ -6,7 +6,7 @@
 
 use shaftglimmer_tests::call::Call;
 use shaftglimmer_tests::groups::{
-    coverage, energy, erasures, figures, idle, looked, reference, slopes, stream, text, vectors, vote, ways,
+    coverage, double, energy, erasures, figures, idle, looked, reference, slopes, stream, text, vectors, vote, ways,
 };
 use shaftglimmer_tests::process::Program;
 use shaftglimmer_tests::report::Report;
@@ -28,6 +28,7 @@ fn main() -> ExitCode {
     report.run(looked::group("checks looked at, of the reference", Call::on_reference));
     report.run(vote::group("votes of the reference", Call::on_reference));
     report.run(ways::group("ways of the reference", Call::on_reference));
+    report.run(double::group("two wrong symbols of the reference", Call::on_reference));
     report.run(reference::group());
     library(&mut report);
     program(&mut report);
@@ -58,6 +59,7 @@ fn library(report: &mut Report) {
     report.run(looked::group("checks looked at, of the library", Call::on_library));
     report.run(vote::group("votes of the library", Call::on_library));
     report.run(ways::group("ways of the library", Call::on_library));
+    report.run(double::group("two wrong symbols of the library", Call::on_library));
     report.run(codec::group());
     report.run(words::group());
     report.run(refusals::group());

@@ -7,6 +7,7 @@
 
 pub mod brute;
 pub mod coverage;
+pub mod double;
 pub mod elimination;
 pub mod energy;
 pub mod filler;

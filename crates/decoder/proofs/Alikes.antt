@@ -26,7 +26,7 @@ use Rattle.decoder.specs.Looking.{lookedAt, lookingOf}
 use Rattle.decoder.specs.Decode.{located, alone, errorAt, restored, correctable, decodeOf}
 
 module _ (s : Shape) (slopes : List ℕ) (alike : Alike s slopes) where
-  check-alike : (f : ℕ → ℕ) (j t : ℕ) → t < s .n → onCheck (reslope s slopes) f j t ≡ onCheck s f j t
+  pub check-alike : (f : ℕ → ℕ) (j t : ℕ) → t < s .n → onCheck (reslope s slopes) f j t ≡ onCheck s f j t
   check-alike f j t l = syndrome-alike s slopes alike f t (lineOf (reslope s slopes) t j) l ∙ ap (Rattle.gtb.specs.Square.syndrome s f t) (line-alike s slopes alike t j l)
 
   located-alike : (f : ℕ → ℕ) (j : ℕ) → located (reslope s slopes) f j ≡ located s f j

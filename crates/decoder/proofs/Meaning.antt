@@ -150,7 +150,7 @@ module _ (s : Shape) (law : Lawful s) (w : List ℕ) (hw : Word s w) (ok : corre
 
 -- ---- the four tests
 -- an answer is no refusal
-corrected-not : (e : Refusal) (k : ℕ) → Refused e ≡ Corrected k → ⊥
+pub corrected-not : (e : Refusal) (k : ℕ) → Refused e ≡ Corrected k → ⊥
 corrected-not e k h = let z : _≡_ {A = ℕ} 0 1 = cc in omega arith
 
 -- an accepted word is explained by the restored one

@@ -16,7 +16,7 @@ use Rattle.correction.specs.declared.Decoded.{Decoded}
 use Rattle.correction.specs.declared.Decoded.the-variants.{Refused}
 use Rattle.decoder.specs.Decode.{correctable, decodeOf}
 
-next : (t : Bool) (e e′ : Refusal) (r : Decoded) → (t ≡ false → e ≡ e′ → ⊥) → (r ≡ Refused e′ → ⊥) → unless t (Refused e) r ≡ Refused e′ → ⊥
+pub next : (t : Bool) (e e′ : Refusal) (r : Decoded) → (t ≡ false → e ≡ e′ → ⊥) → (r ≡ Refused e′ → ⊥) → unless t (Refused e) r ≡ Refused e′ → ⊥
 next t e e′ r ne = unless-never t (Refused e) r (λ f h. ne f (cc))
 
 -- it has no other

@@ -60,6 +60,8 @@ refusal-small Refusal.Places = lit≤ tt
 refusal-small Refusal.Unfillable = lit≤ tt
 refusal-small Refusal.Ambiguous = lit≤ tt
 refusal-small Refusal.NoMajority = lit≤ tt
+refusal-small Refusal.Directions = lit≤ tt
+refusal-small Refusal.NoPair = lit≤ tt
 refusal-small Refusal.Slope = lit≤ tt
 refusal-small Refusal.Bill = lit≤ tt
 

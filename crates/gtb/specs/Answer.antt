@@ -24,6 +24,8 @@ refusalNumber Refusal.Places = 12
 refusalNumber Refusal.Unfillable = 13
 refusalNumber Refusal.Ambiguous = 14
 refusalNumber Refusal.NoMajority = 15
+refusalNumber Refusal.Directions = 16
+refusalNumber Refusal.NoPair = 17
 refusalNumber Refusal.Slope = 18
 refusalNumber Refusal.Bill = 19
 
@@ -59,6 +61,8 @@ isEarly Refusal.Places = false
 isEarly Refusal.Unfillable = false
 isEarly Refusal.Ambiguous = false
 isEarly Refusal.NoMajority = false
+isEarly Refusal.Directions = true
+isEarly Refusal.NoPair = false
 isEarly Refusal.Slope = true
 isEarly Refusal.Bill = false
 

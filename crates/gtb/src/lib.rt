@@ -38,6 +38,8 @@ pub enum Refusal {
     Unfillable, // none
     Ambiguous, // several
     NoMajority, // vote
+    Directions, // directions
+    NoPair, // pair
     Slope, // slope
     Bill, // bill
 }

@@ -24,6 +24,8 @@ pub fn refusal(refusal: Refusal) -> u32
         Refusal::Unfillable => 13,
         Refusal::Ambiguous => 14,
         Refusal::NoMajority => 15,
+        Refusal::Directions => 16,
+        Refusal::NoPair => 17,
         Refusal::Slope => 18,
         Refusal::Bill => 19,
     }

@@ -9,12 +9,13 @@ use crate::reference::session::{Session, CALLS_AT, LOWEST_AT, PAGES_AT, SESSION_
 use crate::reference::shape::{Refusal, Shape};
 use crate::reference::writer::codeword;
 
-pub const ENTRIES: [Entry; 16] = [
+pub const ENTRIES: [Entry; 17] = [
     Entry::Encode,
     Entry::Extract,
     Entry::Decode,
     Entry::Looked,
     Entry::DecodeMajority,
+    Entry::DecodeTwo,
     Entry::Fill,
     Entry::ReadPage,
     Entry::Marks,
@@ -32,7 +33,7 @@ pub const ENTRIES: [Entry; 16] = [
 pub const YES: [u32; 8] = [1, 1, 2, 255, 256, 1 << 16, 1 << 31, u32::MAX];
 
 /// A call that nothing is wrong with; what it only writes to is full of old numbers. Of the host pair
-/// it has the standard slopes.
+/// it has the standard slopes. Reading two wrong symbols refuses every shape of two directions.
 pub fn good(entry: Entry, shape: Shape, random: &mut Random) -> Call {
     let shape = if entry.is_of_host() { shape.standard() } else { shape };
     let scratch = random.numbers(shape.scratch_len());
@@ -56,6 +57,7 @@ pub fn good(entry: Entry, shape: Shape, random: &mut Random) -> Call {
             apply(&make(random.pick(&STYLES), shape, weight, random), &mut word);
             Call::new(entry, shape, &[&word])
         }
+        Entry::DecodeTwo => Call::new(entry, shape, &[&two_damaged(shape, codeword(shape, &data), random)]),
         Entry::Fill => {
             let places = some_places(shape, random);
             let mut word = codeword(shape, &data);
@@ -86,6 +88,13 @@ pub fn good(entry: Entry, shape: Shape, random: &mut Random) -> Call {
 fn damaged(shape: Shape, mut word: Vec<u32>, random: &mut Random) -> Vec<u32> {
     let weight = random.below(shape.n as usize);
     apply(&unmasked(shape, weight, random), &mut word);
+    word
+}
+
+/// At most two wrong symbols, often such that cancel.
+fn two_damaged(shape: Shape, mut word: Vec<u32>, random: &mut Random) -> Vec<u32> {
+    let (style, weight) = (random.pick(&STYLES), random.below(3));
+    apply(&make(style, shape, weight, random), &mut word);
     word
 }
 

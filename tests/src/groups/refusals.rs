@@ -12,12 +12,13 @@ use crate::report::{Group, Unit, Verdict};
 use crate::shrink::expect;
 
 /// Those that test the width of a slice.
-const WIDE: [Entry; 10] = [
+const WIDE: [Entry; 11] = [
     Entry::Encode,
     Entry::Extract,
     Entry::Decode,
     Entry::Looked,
     Entry::DecodeMajority,
+    Entry::DecodeTwo,
     Entry::Fill,
     Entry::ReadPage,
     Entry::Marks,

@@ -72,6 +72,7 @@ fn words() -> Vec<Vector> {
     let p3 = encode(Shape::new(3, 2, 3), &[3, 5, 6, 7]);
     let decode = |word: &[u32]| Call::new(Entry::Decode, B3, &[word]);
     let vote = |word: &[u32]| Call::new(Entry::DecodeMajority, B3, &[word]);
+    let decode_two = |shape: Shape, word: &[u32]| Call::new(Entry::DecodeTwo, shape, &[word]);
     let host = |word: &[u32]| Call::new(Entry::HostReadWord, B3, &[&to_bytes(word)]);
     let one_damaged = [3, 6, 5, 2, 3, 6, 6, 5, 3];
     vec![
@@ -86,6 +87,14 @@ fn words() -> Vec<Vector> {
         unchanging("P5 by vote", vote(&P5_WORD), Err(Refusal::NoMajority)),
         unchanging("P6 by vote", vote(&P6_WORD), Err(Refusal::NoMajority)),
         unchanging("P6 for the host", host(&P6_WORD), Err(Refusal::Uncorrectable)),
+        unchanging("P4 as two", decode_two(B3, &P4_WORD), Ok(0)),
+        vector("P5 as two", decode_two(B3, &P5_WORD), Ok(2), &[&P4_WORD]),
+        vector("P6 as two", decode_two(B3, &P6_WORD), Ok(2), &[&P4_WORD]),
+        unchanging("three on a row as two", decode_two(B3, &[3, 6, 5, 2, 4, 1, 6, 5, 3]), Err(Refusal::NoPair)),
+        unchanging("P7 as two", decode_two(B8, &P7_WORD), Err(Refusal::Directions)),
+        unchanging("P7 cut off, as two", decode_two(B8, &P7_WORD[..8]), Err(Refusal::Directions)),
+        unchanging("P4 cut off, as two", decode_two(B3, &P4_WORD[..8]), Err(Refusal::Length)),
+        unchanging("P4 with an 8, as two", decode_two(B3, &[8, 6, 5, 5, 3, 6, 6, 5, 3]), Err(Refusal::Width)),
         vector("P7", encode(B8, &[1, 2, 3, 5]), Ok(0), &[&[1, 2, 3, 5], &[0; 5], &P7_WORD]),
         vector("marks 0 5", encode(B8, &[2, 2, 0, 5]), Ok(0), &[&[2, 2, 0, 5], &[0; 5], &IDLE_5_WORD]),
         vector("marks 0 0", encode(B8, &[4, 2, 0, 0]), Ok(0), &[&[4, 2, 0, 0], &[0; 5], &IDLE_WORD]),

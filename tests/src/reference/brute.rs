@@ -42,6 +42,12 @@ pub fn near<'a>(shape: Shape, codewords: &'a [Vec<u32>], received: &[u32]) -> Ve
     codewords.iter().filter(|codeword| weight(&xor(codeword, received)) <= shape.most_votes()).collect()
 }
 
+/// Those of the codewords that differ from the received word in at most so many symbols, and in how many.
+pub fn within(codewords: &[Vec<u32>], received: &[u32], most: usize) -> Vec<Explanation> {
+    let beside = |codeword: &Vec<u32>| (codeword.clone(), weight(&xor(codeword, received)));
+    codewords.iter().map(beside).filter(|(_, differ)| *differ <= most).collect()
+}
+
 /// All codewords met with all permitted errors: each received word beside its explanation.
 pub fn all_explained(shape: Shape) -> Vec<(Vec<u32>, Explanation)> {
     let words = all_words(shape);

@@ -27,6 +27,8 @@ pub enum Refusal {
     Unfillable = 13,
     Ambiguous = 14,
     NoMajority = 15,
+    Directions = 16,
+    NoPair = 17,
     Slope = 18,
     Bill = 19,
 }

@@ -1,0 +1,13 @@
+pub mod Pairs
+pub mod Near
+pub mod Equation
+pub mod Meaning
+pub mod Crossings
+pub mod Attempts
+pub mod Finding
+pub mod Trials
+pub mod Answers
+pub mod Agreement
+pub mod Alikes
+pub mod Refusals
+pub mod Examples

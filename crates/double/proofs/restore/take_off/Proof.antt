@@ -1,0 +1,31 @@
+-- `double::restore::take_off` meets its contract.
+use mathlib.Core.List.{List, [], _∷_}
+use Prim.Native.Nat.{ℕ}
+use borrow.Author.Needs.{needs}
+use Rattle.double.specs.declared.Pair.{Pair}
+use Rattle.decoder.proofs.Answers.{placed}
+use Rattle.double.proofs.Trials.{pair-within, pair-taken}
+use Rattle.double.proofs.restore.take_off.Statement.{statement}
+use Rattle.double.proofs.restore.take_off.Tie as tie
+
+abbrev places : Pair → List ℕ
+places p = p .a ∷ p .b ∷ 0 ∷ 0 ∷ 0 ∷ 0 ∷ 0 ∷ 0 ∷ []
+
+abbrev errors : Pair → List ℕ
+errors p = p .x ∷ p .y ∷ 0 ∷ 0 ∷ 0 ∷ 0 ∷ 0 ∷ 0 ∷ []
+
+apply-requires : tie.Need-apply-requires
+apply-requires c κs =
+    let start = c .before .before .before .before in
+    placed {places = places (start .args .pair)} (start .args .word .now) (start .pre .0) (pair-within (start .args .shape) (places (start .args .pair)) [] (start .pre .1) (start .pre .2))
+
+same-length : tie.Need-same-length
+same-length c = search needs
+
+returns : tie.Need-returns
+returns c =
+    let start = c .before .before .before .before .before .before .before in
+    pair-taken (start .args .shape) (places (start .args .pair)) (errors (start .args .pair)) (start .pre .1) (start .pre .2) (start .pre .0) (c .before .before .apply .ensures)
+
+pub take-off-spec : {M : Type 1} → statement M
+take-off-spec = tie.close (tie.spec apply-requires same-length returns)

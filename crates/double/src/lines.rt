@@ -1,0 +1,62 @@
+// Lines that are not silent, and where two lines meet.
+use correction::checks::check_number;
+use gtb::Shape;
+ghost use Prim.Native.Nat.{_+_, _*_, _<_, _≤_};
+ghost use Rattle.gtb.specs.Shape.{Lawful};
+ghost use Rattle.double.specs.Steps.{FirstLine, LastLine, Crosses, OnRow};
+
+// The first line of direction t that is not silent.
+pub fn first_line(shape: Shape, syn: &[u32; 248], t: usize) -> usize
+    requires { ⌜ Lawful shape × (t < shape .n) ⌝ }
+    ensures { λ r. ⌜ FirstLine shape (now (syn .entry)) t r ⌝ }
+{
+    let q = shape.q as usize;
+    for line in 0..q {
+        if syn[t * q + line] != 0 {
+            return line;
+        }
+    }
+    0
+}
+
+// The last one.
+pub fn last_line(shape: Shape, syn: &[u32; 248], t: usize) -> usize
+    requires { ⌜ Lawful shape × (t < shape .n) ⌝ }
+    ensures { λ r. ⌜ LastLine shape (now (syn .entry)) t r ⌝ }
+{
+    let q = shape.q as usize;
+    for k in 0..q {
+        let line = q - 1 - k;
+        if syn[t * q + line] != 0 {
+            return line;
+        }
+    }
+    0
+}
+
+// The position in a row on a line of direction u, from 1 on.
+fn on_row(shape: Shape, u: usize, row: usize, line: usize) -> usize
+    requires { ⌜ Lawful shape × (1 ≤ u) × (u < shape .n) × (row < shape .q) × (line < shape .q) ⌝ }
+    ensures { λ r. ⌜ OnRow shape u row line r ⌝ }
+{
+    let q = shape.q as usize;
+    row * q + (line + (q - gtb::slope(shape, u)) * row) % q
+}
+
+// The position on line a of direction t and line b of direction u: in row a, or found row by row.
+pub fn cross(shape: Shape, t: usize, u: usize, a: usize, b: usize) -> usize
+    requires { ⌜ Lawful shape × (t < u) × (u < shape .n) × (a < shape .q) × (b < shape .q) ⌝ }
+    ensures { λ r. ⌜ Crosses shape t u a b r ⌝ }
+{
+    if t == 0 {
+        return on_row(shape, u, a, b);
+    }
+    let q = shape.q as usize;
+    for row in 0..q {
+        let j = on_row(shape, u, row, b);
+        if check_number(shape, t, j) == t * q + a {
+            return j;
+        }
+    }
+    0
+}

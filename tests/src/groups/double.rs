@@ -1,0 +1,307 @@
+//! Two wrong symbols, whether they cancel on a check or not. What must come is said here where the case itself
+//! settles it, by trying every codeword where these are few, and by the reference elsewhere.
+
+use crate::call::{answer_of, difference, After, Call, Entry};
+use crate::damage::{apply, make as damage, unmasked, Style, STYLES};
+use crate::groups::calls::{resized, turned_down};
+use crate::random::Random;
+use crate::reference::brute::{all_codewords, all_words, within};
+use crate::reference::shape::{all_slopes, orders_and_directions, Refusal, Shape};
+use crate::reference::square::check;
+use crate::reference::writer::codeword;
+use crate::report::{Group, Unit, Verdict};
+use crate::shrink::{self, with_zeros, Case};
+
+const WIDTHS: [u32; 4] = [1, 8, 31, 32];
+
+/// The reference or the library.
+type Make = fn(&Call) -> After;
+
+/// The group for whichever makes the calls.
+pub fn group(name: &'static str, make: Make) -> Group {
+    let mut group = Group::new(name, Unit::Words);
+    for (q, n) in orders_and_directions() {
+        let mut test = |name: &str, body: fn(Make, Shape, &mut Random) -> Verdict| {
+            group.test(format!("{name}, ({q}, {n})"), move |random| of_each_width(make, q, n, body, random));
+        };
+        if n == 2 {
+            test("two directions", two_directions);
+            continue;
+        }
+        test("pairs on one line", on_one_line);
+        test("at most two", at_most_two);
+        test("three and more", three_and_more);
+        test("random words", random_words);
+        test("as clean reading", as_clean_reading);
+        test("lengths", lengths);
+        test("widths", widths);
+        if q <= 5 {
+            test("all pairs of places", all_pairs);
+        }
+    }
+    for shape in all_slopes(3, 3, 1) {
+        let name = format!("all words of (3, 3, 1), slopes {:?}", shape.own_slopes());
+        group.test(name, move |_| every_word(make, shape));
+    }
+    for (q, n, b) in [(3, 3, 2), (3, 3, 4), (5, 3, 1), (5, 4, 1), (5, 5, 1), (5, 5, 2), (7, 6, 1), (7, 7, 2)] {
+        group.test(format!("sampled words of ({q}, {n}, {b})"), move |random| sampled(make, q, n, b, random));
+    }
+    group
+}
+
+fn of_each_width(
+    make: Make,
+    q: u32,
+    n: u32,
+    body: fn(Make, Shape, &mut Random) -> Verdict,
+    random: &mut Random,
+) -> Verdict {
+    let mut tried = 0;
+    for b in WIDTHS {
+        tried += body(make, random.shape(q, n, b), random)?;
+    }
+    Ok(tried)
+}
+
+fn call(shape: Shape, word: &[u32]) -> Call {
+    Call::new(Entry::DecodeTwo, shape, &[word])
+}
+
+fn random_codeword(shape: Shape, random: &mut Random) -> Vec<u32> {
+    codeword(shape, &random.symbols(shape, shape.data_len()))
+}
+
+/// Restored to this word, with so many symbols changed.
+fn restored(word: &[u32], changed: usize) -> After {
+    After { answer: answer_of(Ok(changed as u32)), slices: vec![word.to_vec()] }
+}
+
+/// A call to be compared with the reference.
+#[derive(Clone)]
+struct Lent {
+    make: Make,
+    call: Call,
+}
+
+impl Case for Lent {
+    fn difference(&self) -> Option<String> {
+        difference(self.call.entry, &self.call.on_reference(), &(self.make)(&self.call))
+    }
+
+    fn smaller(&self) -> impl Iterator<Item = Lent> {
+        let with = |word: Vec<u32>| Lent { make: self.make, call: Call { slices: vec![word], ..self.call.clone() } };
+        with_zeros(&self.call.slices[0]).map(with)
+    }
+
+    fn describe(&self) -> String {
+        self.call.text()
+    }
+}
+
+fn expect(make: Make, call: &Call, expected: &After) -> Result<(), String> {
+    let Some(found) = difference(call.entry, expected, &make(call)) else { return Ok(()) };
+    shrink::expect(&Lent { make, call: call.clone() })?;
+    Err(format!("{:.4000}: {found}", call.text()))
+}
+
+/// Equal symbols cancel on a check that both are on, unequal ones show their XOR there.
+fn two_symbols(shape: Shape, random: &mut Random) -> Vec<(u32, u32)> {
+    let first = random.nonzero_symbol(shape);
+    let second = random.nonzero_symbol(shape);
+    if first == second {
+        vec![(first, second)]
+    } else {
+        vec![(first, first), (first, second)]
+    }
+}
+
+/// A codeword with these symbols XORed onto these two places: it is restored, with two changed.
+fn expect_pair(make: Make, shape: Shape, (i, j): (usize, usize), random: &mut Random) -> Verdict {
+    let sent = random_codeword(shape, random);
+    let pairs = two_symbols(shape, random);
+    for &(first, second) in &pairs {
+        let mut word = sent.clone();
+        apply(&vec![(i, first), (j, second)], &mut word);
+        expect(make, &call(shape, &word), &restored(&sent, 2))?;
+    }
+    Ok(pairs.len() as u64)
+}
+
+fn all_pairs(make: Make, shape: Shape, random: &mut Random) -> Verdict {
+    let mut tried = 0;
+    for j in 0..shape.word_len() {
+        for i in 0..j {
+            tried += expect_pair(make, shape, (i, j), random)?;
+        }
+    }
+    Ok(tried)
+}
+
+/// Two places of each line of each direction: neighbours, the ends, any two.
+fn on_one_line(make: Make, shape: Shape, random: &mut Random) -> Verdict {
+    let mut tried = 0;
+    let (q, n) = (shape.q as usize, shape.n as usize);
+    for (t, line) in (0..n).flat_map(|t| (0..q).map(move |line| (t, line))) {
+        let places: Vec<usize> = (0..shape.word_len()).filter(|&j| check(shape, t, j) == t * q + line).collect();
+        let any = random.positions(2, q);
+        for (a, b) in [(line, (line + 1) % q), (0, q - 1), (any[0], any[1])] {
+            tried += expect_pair(make, shape, (places[a], places[b]), random)?;
+        }
+    }
+    Ok(tried)
+}
+
+/// None, one or two wrong symbols in every style.
+fn at_most_two(make: Make, shape: Shape, random: &mut Random) -> Verdict {
+    let mut tried = 0;
+    for _ in 0..rounds(shape) {
+        for (style, weight) in STYLES.into_iter().flat_map(|style| (0..3).map(move |weight| (style, weight))) {
+            let sent = random_codeword(shape, random);
+            let mut word = sent.clone();
+            apply(&damage(style, shape, weight, random), &mut word);
+            expect(make, &call(shape, &word), &restored(&sent, weight))?;
+            tried += 1;
+        }
+    }
+    Ok(tried)
+}
+
+/// Three wrong symbols or four: the sent word is not given, since it is too far; a nearer codeword or 17 is.
+fn three_and_more(make: Make, shape: Shape, random: &mut Random) -> Verdict {
+    let mut tried = 0;
+    for _ in 0..rounds(shape) {
+        for (style, weight) in STYLES.into_iter().flat_map(|style| [3, 4].map(|weight| (style, weight))) {
+            let sent = random_codeword(shape, random);
+            let mut word = sent.clone();
+            apply(&damage(style, shape, weight, random), &mut word);
+            let call = call(shape, &word);
+            let expected = call.on_reference();
+            if weight == 3 && expected != turned_down(&call, Refusal::NoPair) {
+                return Err(format!("{:.4000}: a codeword within two symbols, though six part them", call.text()));
+            }
+            expect(make, &call, &expected)?;
+            tried += 1;
+        }
+    }
+    Ok(tried)
+}
+
+/// Small words are read more often, since they cost less.
+fn rounds(shape: Shape) -> u32 {
+    (1_000 / (shape.q * shape.q)).clamp(2, 40)
+}
+
+/// Words that have nothing to do with a codeword, and codewords with damage all over.
+fn random_words(make: Make, shape: Shape, random: &mut Random) -> Verdict {
+    let tried = rounds(shape);
+    for _ in 0..tried {
+        let call = call(shape, &random.symbols(shape, shape.word_len()));
+        expect(make, &call, &call.on_reference())?;
+    }
+    Ok(tried.into())
+}
+
+/// Where clean reading changes at most two symbols, the answer and the word are the same.
+fn as_clean_reading(make: Make, shape: Shape, random: &mut Random) -> Verdict {
+    let mut tried = 0;
+    for _ in 0..rounds(shape) {
+        for weight in 0..3 {
+            let mut word = random_codeword(shape, random);
+            apply(&unmasked(shape, weight, random), &mut word);
+            let clean = make(&Call::new(Entry::Decode, shape, &[&word]));
+            if clean.answer != weight as u64 {
+                return Err(format!("{:.4000}: clean reading refuses it", call(shape, &word).text()));
+            }
+            expect(make, &call(shape, &word), &clean)?;
+            tried += 1;
+        }
+    }
+    Ok(tried)
+}
+
+/// A word of every kind of length, with symbols that fit or not: 2.
+fn lengths(make: Make, shape: Shape, random: &mut Random) -> Verdict {
+    let right = shape.word_len();
+    let wrong = [0, 1, shape.q as usize, right - 1, right + 1, 4 * right];
+    for length in wrong {
+        for filler in [shape.largest(), u32::MAX] {
+            let mut word = resized(&random_codeword(shape, random), length, random);
+            word.iter_mut().take(1).for_each(|symbol| *symbol = filler);
+            let call = call(shape, &word);
+            expect(make, &call, &turned_down(&call, Refusal::Length))?;
+        }
+    }
+    Ok(2 * wrong.len() as u64)
+}
+
+/// One symbol that is too large: 3, whatever else is wrong with the word.
+fn widths(make: Make, shape: Shape, random: &mut Random) -> Verdict {
+    let Some(large) = shape.largest().checked_add(1) else { return Ok(0) };
+    let mut tried = 0;
+    for at in [0, random.below(shape.word_len()), shape.word_len() - 1] {
+        for (weight, value) in [(0, large), (2, large), (3, u32::MAX)] {
+            let mut word = random_codeword(shape, random);
+            apply(&damage(Style::Spread, shape, weight, random), &mut word);
+            word[at] = value;
+            let call = call(shape, &word);
+            expect(make, &call, &turned_down(&call, Refusal::Width))?;
+            tried += 1;
+        }
+    }
+    Ok(tried)
+}
+
+/// 16 for every word: whole ones, damaged ones, such as 2 or 3 would come of.
+fn two_directions(make: Make, shape: Shape, random: &mut Random) -> Verdict {
+    let sent = random_codeword(shape, random);
+    let mut damaged = sent.clone();
+    apply(&damage(Style::Spread, shape, 2, random), &mut damaged);
+    let mut wide = sent.clone();
+    wide[0] = u32::MAX;
+    let short = resized(&sent, sent.len() - 1, random);
+    let long = resized(&wide, sent.len() + 1, random);
+    let words = [sent, damaged, wide, short, long, vec![]];
+    for word in &words {
+        let call = call(shape, word);
+        expect(make, &call, &turned_down(&call, Refusal::Directions))?;
+    }
+    Ok(words.len() as u64)
+}
+
+/// What must come by the definition: the one codeword within two symbols, or 17.
+fn by_definition(codewords: &[Vec<u32>], call: &Call) -> Result<After, String> {
+    match &within(codewords, &call.slices[0], 2)[..] {
+        [] => Ok(turned_down(call, Refusal::NoPair)),
+        [(near, differ)] => Ok(restored(near, *differ)),
+        _ => Err(format!("{:.4000}: two codewords within two symbols", call.text())),
+    }
+}
+
+/// All 2^9 words.
+fn every_word(make: Make, shape: Shape) -> Verdict {
+    let codewords = all_codewords(shape);
+    let words = all_words(shape);
+    for word in &words {
+        let call = call(shape, word);
+        expect(make, &call, &by_definition(&codewords, &call)?)?;
+    }
+    Ok(words.len() as u64)
+}
+
+/// Codewords with up to five wrong symbols, and words of any kind.
+fn sampled(make: Make, q: u32, n: u32, b: u32, random: &mut Random) -> Verdict {
+    let rounds = 150;
+    let shape = random.shape(q, n, b);
+    let codewords = all_codewords(shape);
+    for _ in 0..rounds {
+        let mut word = random_codeword(shape, random);
+        let (style, weight) = (random.pick(&STYLES), random.below(6));
+        apply(&damage(style, shape, weight, random), &mut word);
+        if random.one_in(8) {
+            word = random.symbols(shape, shape.word_len());
+        }
+        let call = call(shape, &word);
+        expect(make, &call, &by_definition(&codewords, &call)?)?;
+    }
+    Ok(rounds)
+}
