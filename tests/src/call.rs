@@ -28,6 +28,7 @@ pub enum Entry {
     Bill,
     Cover,
     Arrive,
+    Batch,
     HostReadWord,
     HostReadPage,
 }
@@ -48,12 +49,13 @@ impl Entry {
             Entry::Bill => &["session", "prices"],
             Entry::Cover => &["session", "bytes"],
             Entry::Arrive => &["session", "word", "scratch", "outcome"],
+            Entry::Batch => &["session", "words", "scratch", "outcomes"],
         }
     }
 
     /// Those whose shape is in the session.
     pub fn takes_session(self) -> bool {
-        matches!(self, Entry::Count | Entry::Bill | Entry::Cover | Entry::Arrive)
+        matches!(self, Entry::Count | Entry::Bill | Entry::Cover | Entry::Arrive | Entry::Batch)
     }
 
     /// Those of the host pair, which has three numbers for a shape and the standard slopes.
@@ -72,8 +74,9 @@ impl Entry {
     }
 }
 
-/// An entry with its arguments. The shape of `Count`, `Bill`, `Cover` and `Arrive` is in the session;
-/// `number` is the page of `WritePage`, the function of `Count` and the way of `Arrive`. Bytes stand as one number each.
+/// An entry with its arguments. The shape of `Count`, `Bill`, `Cover`, `Arrive` and `Batch` is in the session;
+/// `number` is the page of `WritePage`, the function of `Count` and the way of `Arrive` and `Batch`. Bytes stand
+/// as one number each.
 #[derive(Clone, Debug)]
 pub struct Call {
     pub entry: Entry,
@@ -157,6 +160,9 @@ impl Call {
             (Entry::Arrive, [session, word, scratch, outcome]) => {
                 answer_of(arrive(session, self.number, word, scratch, outcome))
             }
+            (Entry::Batch, [session, words, scratch, outcomes]) => {
+                answer_of(batch(session, self.number, words, scratch, outcomes))
+            }
             (Entry::HostReadWord, [bytes]) => answer_of(host_read_word(shape.standard(), bytes)),
             (Entry::HostReadPage, [bytes]) => answer_of(host_read_page(shape.standard(), bytes)),
             _ => panic!("wrong number of slices for {:?}", self.entry),
@@ -229,6 +235,26 @@ fn arrive(
     let answer = state.arrive(way, word, scratch);
     outcome.copy_from_slice(&answer.values());
     if let Outcome::Taken { .. } = answer {
+        session.copy_from_slice(&state.values());
+    }
+    Ok(0)
+}
+
+/// The session is written back only after a page was taken.
+fn batch(
+    session: &mut [u32],
+    way: u32,
+    words: &mut [u32],
+    scratch: &mut [u32],
+    outcomes: &mut [u32],
+) -> Result<u32, Refusal> {
+    if session.len() != SESSION_LEN {
+        return Err(Refusal::Length);
+    }
+    let mut state = Session::from_values(session);
+    let before = state.figures;
+    state.arrive_all(way, words, scratch, outcomes)?;
+    if state.figures != before {
         session.copy_from_slice(&state.values());
     }
     Ok(0)

@@ -83,6 +83,17 @@ extern "C" {
         outcome: *mut u32,
         outcome_len: usize,
     ) -> u32;
+    fn harness_batch(
+        session: *mut u32,
+        session_len: usize,
+        way: u32,
+        words: *mut u32,
+        words_len: usize,
+        scratch: *mut u32,
+        scratch_len: usize,
+        outcomes: *mut u32,
+        outcomes_len: usize,
+    ) -> u32;
 }
 
 // SAFETY, for every call below: each pointer and length is that of a live slice, exclusively lent
@@ -207,6 +218,22 @@ pub fn arrive(session: &mut [u32], way: u32, word: &mut [u32], scratch: &mut [u3
             scratch.len(),
             outcome.as_mut_ptr(),
             outcome.len(),
+        )
+    }
+}
+
+pub fn batch(session: &mut [u32], way: u32, words: &mut [u32], scratch: &mut [u32], outcomes: &mut [u32]) -> u32 {
+    unsafe {
+        harness_batch(
+            session.as_mut_ptr(),
+            session.len(),
+            way,
+            words.as_mut_ptr(),
+            words.len(),
+            scratch.as_mut_ptr(),
+            scratch.len(),
+            outcomes.as_mut_ptr(),
+            outcomes.len(),
         )
     }
 }

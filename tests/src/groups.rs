@@ -1,5 +1,6 @@
 //! The groups of tests.
 
+pub mod batches;
 mod calls;
 #[cfg(not(feature = "reference-only"))]
 pub mod codec;

@@ -34,6 +34,9 @@ impl Call {
             (Entry::Arrive, [session, word, scratch, outcome]) => {
                 ffi::arrive(session.lend(), self.number, word.lend(), scratch.lend(), outcome.lend()).into()
             }
+            (Entry::Batch, [session, words, scratch, outcomes]) => {
+                ffi::batch(session.lend(), self.number, words.lend(), scratch.lend(), outcomes.lend()).into()
+            }
             (Entry::HostReadWord, [bytes]) => bytes.lend_bytes(|bytes| ffi::host_read_word(host_shape, bytes)).into(),
             (Entry::HostReadPage, [bytes]) => bytes.lend_bytes(|bytes| ffi::host_read_page(host_shape, bytes)).into(),
             _ => panic!("wrong number of slices for {:?}", self.entry),

@@ -1,5 +1,5 @@
 -- What the entries answer and leave, by the tests passed.
-use mathlib.Core.Path.{_≡_, refl, ap, _∙_}
+use mathlib.Core.Path.{_≡_, refl, sym, ap, _∙_}
 use mathlib.Core.Bool.{Bool, true, false}
 use mathlib.Core.List.{List, [], _∷_}
 use mathlib.Core.Logic.{⊎-elim}
@@ -28,8 +28,10 @@ use Rattle.session.specs.Arrival as arrival
 use Rattle.session.proofs.Outcome.{the-type}
 use Rattle.energy.specs.declared.Billed.the-variants as billed
 use Rattle.energy.specs.Energy.{billOf}
+use Rattle.batch.specs.declared.Delivered.{Delivered}
+use Rattle.batch.specs.Batch.{Batching}
 use Rattle.harness.specs.Crossing.{shapeIn, sessionOf, valuesOf}
-use Rattle.harness.specs.Entries.{Shaped, Sessioned, pageCrossing, beginningOf, FreshCrossing, countedIn, billedIn, sessionIn, ArriveCrossing}
+use Rattle.harness.specs.Entries.{Shaped, Sessioned, pageCrossing, beginningOf, FreshCrossing, countedIn, billedIn, sessionIn, ArriveCrossing, sessionAfter, BatchCrossing}
 
 -- ---- a shape of ten values, or not
 module _ {shape : List ℕ} {Promise : Shape → Type 0} {Untouched : Type 0} {r : ℕ} where
@@ -133,8 +135,27 @@ module _ (session : List ℕ) (way : ℕ) (word scratch outcome : List ℕ) wher
     wrong = λ h. absurd (h (l, m));
   }
 
--- an outcome has three values
-pub outcome-size : (r : Outcome) → length (outcomeValues r) ≡ 3
-outcome-size (Taken p k) = refl
-outcome-size (Again p k) = refl
-outcome-size (Refused e) = refl
+-- ---- a bundle
+module _ (session : List ℕ) (way : ℕ) (words scratch outcomes : List ℕ) where
+  pub batch-wrong : {r : ℕ} → (length session ≡ 1292 → ⊥) → r ≡ 2 ^ 31 + refusalNumber Refusal.Length
+      → BatchCrossing session way words scratch outcomes session words scratch outcomes r
+  batch-wrong h is = record {
+    right = λ l. absurd (h l);
+    wrong = λ _. record { sessionLeft = refl; wordLeft = refl; scratchLeft = refl; outcomeLeft = refl; answer = is };
+  }
+
+  module _ {σ : Session} (r : Delivered) {session′ words′ scratch′ outcomes′ : List ℕ} {answer : ℕ} (l : length session ≡ 1292) (is : σ ≡ sessionOf session) (holds : Batching σ way words scratch outcomes words′ scratch′ outcomes′ r) (crossed : answer ≡ statusNumber (r .status)) where
+    batch-right : session′ ≡ sessionAfter session (r .session) → BatchCrossing session way words scratch outcomes session′ words′ scratch′ outcomes′ answer
+    batch-right left = record {
+      right = λ _. record { delivered = r; holds = rw (← is) holds; sessionLeft = left; answer = crossed };
+      wrong = λ h. absurd (h l);
+    }
+
+    -- no page more: as it was; else written
+    pub batch-kept : r .session .pages ≡ σ .pages → session′ ≡ session → BatchCrossing session way words scratch outcomes session′ words′ scratch′ outcomes′ answer
+    batch-kept same left = batch-right (left ∙ sym (rw (eq-eqb (r .session .pages) (sessionOf session .pages) (same ∙ ap (λ (τ : Session). τ .pages) is))))
+
+    pub batch-written : (r .session .pages ≡ σ .pages → ⊥) → session′ ≡ valuesOf (r .session)
+        → BatchCrossing session way words scratch outcomes session′ words′ scratch′ outcomes′ answer
+    batch-written more left =
+        batch-right (left ∙ sym (rw (ne-eqb (r .session .pages) (sessionOf session .pages) (λ e. more (e ∙ ap (λ (τ : Session). τ .pages) (sym is))))))

@@ -24,6 +24,8 @@ use Rattle.session.specs.Arrival.{theWays, outcomeValues, Arriving}
 use Rattle.energy.specs.declared.Billed.{Billed}
 use Rattle.energy.specs.declared.Billed.the-variants as billed
 use Rattle.energy.specs.Energy.{billOf}
+use Rattle.batch.specs.declared.Delivered.{Delivered}
+use Rattle.batch.specs.Batch.{Batching}
 use Rattle.harness.specs.Crossing.{shapeIn, sessionOf, valuesOf}
 
 -- an answer with what its entry promises crosses as its number
@@ -97,3 +99,18 @@ pub record Untouched (session word scratch outcome session′ word′ scratch′
 pub record ArriveCrossing (session : List ℕ) (way : ℕ) (word scratch outcome session′ word′ scratch′ outcome′ : List ℕ) (r : ℕ) : Type 0 where
   pub right : length session ≡ 1292 → length outcome ≡ 3 → Arrives session way word scratch session′ word′ scratch′ outcome′ r
   pub wrong : ((length session ≡ 1292) × (length outcome ≡ 3) → ⊥) → Untouched session word scratch outcome session′ word′ scratch′ outcome′ r
+
+-- a session is written where it changed, and then it has a page more
+abbrev pub sessionAfter : List ℕ → Session → List ℕ
+sessionAfter session σ = cond (eqb (σ .pages) (sessionOf session .pages)) session (valuesOf σ)
+
+-- a bundle of words, where the session has its length
+pub record Delivers (session : List ℕ) (way : ℕ) (words scratch outcomes session′ words′ scratch′ outcomes′ : List ℕ) (r : ℕ) : Type 0 where
+  pub delivered : Delivered
+  pub holds : Batching (sessionOf session) way words scratch outcomes words′ scratch′ outcomes′ delivered
+  pub sessionLeft : session′ ≡ sessionAfter session (delivered .session)
+  pub answer : r ≡ statusNumber (delivered .status)
+
+pub record BatchCrossing (session : List ℕ) (way : ℕ) (words scratch outcomes session′ words′ scratch′ outcomes′ : List ℕ) (r : ℕ) : Type 0 where
+  pub right : length session ≡ 1292 → Delivers session way words scratch outcomes session′ words′ scratch′ outcomes′ r
+  pub wrong : (length session ≡ 1292 → ⊥) → Untouched session words scratch outcomes session′ words′ scratch′ outcomes′ r

@@ -26,7 +26,7 @@ ghost use Rattle.page.specs.Page.{Writing};
 ghost use Rattle.session.specs.Session.{countedNumber};
 ghost use Rattle.energy.specs.Energy.{billedNumber};
 ghost use Rattle.coverage.specs.Coverage.{coveredNumber, Covering};
-ghost use Rattle.harness.specs.Entries.{Crosses, Shaped, Sessioned, pageCrossing, MarksCrossing, FreshCrossing, countedIn, billedIn, ArriveCrossing};
+ghost use Rattle.harness.specs.Entries.{Crosses, Shaped, Sessioned, pageCrossing, MarksCrossing, FreshCrossing, countedIn, billedIn, ArriveCrossing, BatchCrossing};
 
 #[no_mangle]
 pub extern "C" fn harness_encode(
@@ -229,4 +229,30 @@ pub extern "C" fn harness_arrive(
     }
     put_outcome(outcome, answer);
     0
+}
+
+// The session is written only after a page was taken.
+#[no_mangle]
+pub extern "C" fn harness_batch(
+    session: &mut [u32],
+    way: u32,
+    words: &mut [u32],
+    scratch: &mut [u32],
+    outcomes: &mut [u32],
+) -> u32
+    ensures { λ r. ⌜ BatchCrossing (now (session .entry)) way (now (words .entry)) (now (scratch .entry)) (now (outcomes .entry)) (now (session .exit)) (now (words .exit)) (now (scratch .exit)) (now (outcomes .exit)) r ⌝ }
+{
+    if session.len() != LENGTH {
+        return gtb::number::refused(Refusal::Length);
+    }
+    let before = load(session);
+    let delivered = batch::arrive_all(before, way, words, scratch, outcomes);
+    let status = delivered.status;
+    let answer = gtb::number::status(status);
+    let after = delivered.session;
+    if after.pages == before.pages {
+        return answer;
+    }
+    store(after, session);
+    answer
 }

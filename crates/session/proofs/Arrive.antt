@@ -72,7 +72,7 @@ length-scratch = refl
 -- ---- the answers
 
 -- the scratch after a page was read, whatever the answer
-page-scratch : (scratch : List ℕ) (number k : ℕ) (a b : Bool)
+pub page-scratch : (scratch : List ℕ) (number k : ℕ) (a b : Bool)
     → outcomeScratch scratch (cond a (Again number k) (cond b (Refused Refusal.Overflow) (Taken number k))) ≡ replicate (length scratch) 0
 unfolding answer.scratchAfter
 page-scratch scratch number k true b = refl

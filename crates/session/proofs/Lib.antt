@@ -17,3 +17,4 @@ pub mod Fits
 pub mod Demand
 pub mod Undamaged
 pub mod Alikes
+pub mod Joins

@@ -1,7 +1,7 @@
 // The session: which pages have come, and how often each function was called.
 mod figures;
 pub mod number;
-mod way;
+pub mod way;
 
 use correction::Decoded;
 use gtb::Refusal;

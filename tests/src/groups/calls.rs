@@ -5,11 +5,11 @@ use crate::capture::{page_numbers, Page};
 use crate::damage::{apply, make, unmasked, STYLES};
 use crate::random::Random;
 use crate::reference::page::FUNCTIONS;
-use crate::reference::session::{Session, CALLS_AT, LOWEST_AT, PAGES_AT, SESSION_LEN};
+use crate::reference::session::{Session, CALLS_AT, LOWEST_AT, OUTCOMES_LEN, PAGES_AT, SESSION_LEN};
 use crate::reference::shape::{Refusal, Shape};
 use crate::reference::writer::codeword;
 
-pub const ENTRIES: [Entry; 17] = [
+pub const ENTRIES: [Entry; 18] = [
     Entry::Encode,
     Entry::Extract,
     Entry::Decode,
@@ -25,6 +25,7 @@ pub const ENTRIES: [Entry; 17] = [
     Entry::Bill,
     Entry::Cover,
     Entry::Arrive,
+    Entry::Batch,
     Entry::HostReadWord,
     Entry::HostReadPage,
 ];
@@ -80,6 +81,11 @@ pub fn good(entry: Entry, shape: Shape, random: &mut Random) -> Call {
             Call::new(entry, shape, &[&session, &random.bytes(FUNCTIONS)])
         }
         Entry::Arrive => Call::new(entry, shape, &[&session, &page_word, &scratch, &random.numbers(3)]),
+        Entry::Batch => {
+            let others = (0..random.below(3)).flat_map(|_| random.symbols(shape, shape.word_len()));
+            let words: Vec<u32> = page_word.iter().copied().chain(others).collect();
+            Call::new(entry, shape, &[&session, &words, &scratch, &random.numbers(OUTCOMES_LEN)])
+        }
         Entry::HostReadWord => Call::new(entry, shape, &[&to_bytes(&page_word)]),
         Entry::HostReadPage => Call::new(entry, shape, &[&to_bytes(&page_data)]),
     }
@@ -146,10 +152,10 @@ pub fn turned_down(call: &Call, refusal: Refusal) -> After {
 }
 
 /// The call with a fault that a test after 1 and 18 would find: figures that can't be, a slice of wrong
-/// length, a number too large. An arrival's number is its way, which is looked at first.
+/// length, a number too large. The number of an arrival or a bundle is its way, which is looked at first.
 pub fn later_faults(call: &Call, random: &mut Random) -> Vec<Call> {
     let mut calls = vec![];
-    if call.entry != Entry::Arrive {
+    if !matches!(call.entry, Entry::Arrive | Entry::Batch) {
         calls.push(Call { number: u32::MAX, ..call.clone() });
     }
     if call.entry.takes_session() {
@@ -177,7 +183,10 @@ pub fn later_faults(call: &Call, random: &mut Random) -> Vec<Call> {
 /// What the harness needs to get a call across, so that its length comes first: the session and the
 /// outcome, and both of the lists that are to be of one length.
 pub fn crosses(entry: Entry, i: usize) -> bool {
-    matches!((entry, i), (Entry::Count | Entry::Bill | Entry::Cover, 0) | (Entry::Arrive, 0 | 3) | (Entry::Marks, _))
+    matches!(
+        (entry, i),
+        (Entry::Count | Entry::Bill | Entry::Cover | Entry::Batch, 0) | (Entry::Arrive, 0 | 3) | (Entry::Marks, _)
+    )
 }
 
 /// The scratch's length before request N7: a row for every check.

@@ -120,8 +120,8 @@ pub(super) fn wrong_figures(come: &Come, marks: &[u32]) -> Vec<[u32; 2]> {
 }
 
 /// Calls of every entry that takes a session, with this one.
-fn calls_with(session: &[u32], shape: Shape, random: &mut Random) -> [Call; 4] {
-    [Entry::Count, Entry::Bill, Entry::Cover, Entry::Arrive].map(|entry| {
+fn calls_with(session: &[u32], shape: Shape, random: &mut Random) -> [Call; 5] {
+    [Entry::Count, Entry::Bill, Entry::Cover, Entry::Arrive, Entry::Batch].map(|entry| {
         let mut call = good(entry, shape, random);
         call.slices[0] = session.to_vec();
         call

@@ -12,7 +12,7 @@ use crate::report::{Group, Unit, Verdict};
 use crate::shrink::expect;
 
 /// Those that test the width of a slice.
-const WIDE: [Entry; 11] = [
+const WIDE: [Entry; 12] = [
     Entry::Encode,
     Entry::Extract,
     Entry::Decode,
@@ -24,6 +24,7 @@ const WIDE: [Entry; 11] = [
     Entry::Marks,
     Entry::WritePage,
     Entry::Arrive,
+    Entry::Batch,
 ];
 
 pub fn group() -> Group {
@@ -96,7 +97,7 @@ fn lengths(q: u32, n: u32, random: &mut Random) -> Verdict {
 /// touched.
 fn scratch_lengths(q: u32, n: u32, random: &mut Random) -> Verdict {
     let mut tried = 0;
-    for entry in [Entry::Encode, Entry::Extract, Entry::Fill, Entry::Arrive] {
+    for entry in [Entry::Encode, Entry::Extract, Entry::Fill, Entry::Arrive, Entry::Batch] {
         let shape = random.shape(q, n, 11);
         let right = shape.scratch_len();
         for length in [old_scratch_len(shape), right - 1, right + 1] {
@@ -140,7 +141,7 @@ fn byte_lengths(q: u32, n: u32, random: &mut Random) -> Verdict {
 
 /// Which slice has the symbols that test 3 is about.
 fn judged(entry: Entry) -> usize {
-    usize::from(matches!(entry, Entry::Arrive | Entry::Fill | Entry::Bill | Entry::Cover))
+    usize::from(matches!(entry, Entry::Arrive | Entry::Batch | Entry::Fill | Entry::Bill | Entry::Cover))
 }
 
 /// Values at 2^b - 1, 2^b and 2^32 - 1 at the ends and somewhere inside each slice.

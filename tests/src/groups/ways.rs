@@ -38,7 +38,8 @@ fn that_are_none(make: Make, q: u32, n: u32, random: &mut Random) -> Verdict {
     let mut tried = 0;
     for b in [1, 8, 11, 32] {
         let shape = random.shape(q, n, b);
-        let call = good(Entry::Arrive, shape, random);
+        let entry = random.pick(&[Entry::Arrive, Entry::Batch]);
+        let call = good(entry, shape, random);
         let mut calls = later_faults(&call, random);
         for other in [Shape { q: 9, ..shape }, Shape { n: 9, ..shape }, bad_slope(shape, shape, random)] {
             calls.push(reshaped(&call, other));

@@ -40,6 +40,10 @@ pub const VOTE: u32 = 1;
 /// Numbers of ways are below this.
 pub const WAYS: u32 = 2;
 
+/// How many words a bundle has at most, and how long its list of outcomes is.
+pub const BUNDLE: usize = 64;
+pub const OUTCOMES_LEN: usize = 3 * BUNDLE;
+
 /// Restores a word and gives the number of symbols changed.
 type Read = fn(Shape, &mut [u32]) -> Result<u32, Refusal>;
 
@@ -108,6 +112,28 @@ impl Session {
 
     pub fn arrive(&mut self, way: u32, word: &mut [u32], scratch: &mut [u32]) -> Outcome {
         self.try_arrive(way, word, scratch).unwrap_or_else(Outcome::Refused)
+    }
+
+    /// A bundle of words: the single arrivals, first word first. A refusal is of the whole call and changes nothing.
+    pub fn arrive_all(
+        &mut self,
+        way: u32,
+        words: &mut [u32],
+        scratch: &mut [u32],
+        outcomes: &mut [u32],
+    ) -> Result<(), Refusal> {
+        reader(way)?;
+        self.judge()?;
+        let size = self.shape.word_len();
+        let whole = words.len() % size == 0 && (1..=BUNDLE).contains(&(words.len() / size));
+        if !whole || scratch.len() != self.shape.scratch_len() || outcomes.len() != OUTCOMES_LEN {
+            return Err(Refusal::Length);
+        }
+        outcomes.fill(0);
+        for (word, values) in words.chunks_exact_mut(size).zip(outcomes.chunks_exact_mut(3)) {
+            values.copy_from_slice(&self.arrive(way, word, scratch).values());
+        }
+        Ok(())
     }
 
     fn try_arrive(&mut self, way: u32, word: &mut [u32], scratch: &mut [u32]) -> Result<Outcome, Refusal> {

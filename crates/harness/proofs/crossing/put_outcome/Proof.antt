@@ -3,7 +3,7 @@ use mathlib.Core.Path.{sym, ap, _∙_}
 use lib.ListN.{length}
 use borrow.Author.Needs.{needs}
 use Rattle.session.proofs.Arrive.{whole-copy}
-use Rattle.harness.proofs.Answers.{outcome-size}
+use Rattle.session.proofs.Joins.{outcome-size}
 use Rattle.harness.proofs.crossing.put_outcome.Statement.{statement}
 use Rattle.harness.proofs.crossing.put_outcome.Tie as tie
 

@@ -1,0 +1,136 @@
+-- The answers to the whole call, and that the contract leaves one answer, one session and one of each slice.
+use mathlib.Core.Path.{_≡_, refl, sym, ap, ap₂, _∙_}
+use mathlib.Core.Bool.{true, false, _&&_}
+use mathlib.Core.List.{List}
+use Prim.Native.Nat.{ℕ, _<_}
+use lib.Dec.{eqb}
+use lib.ListN.{length, take, drop}
+use borrow.Author.Tests.{eqb-true, eq-eqb, ne-eqb}
+use Rattle.parity.proofs.Tests.{and-left, and-right}
+use Rattle.gtb.specs.declared.Shape.{Shape}
+use Rattle.gtb.specs.declared.Refusal.{Refusal}
+use Rattle.gtb.specs.declared.Status.{Status}
+use Rattle.gtb.specs.declared.Status.the-variants as status
+use Rattle.gtb.specs.Shape.{lawful, shapeRefusal, wordLength, scratchLength}
+use Rattle.gtb.specs.Answer.{statusNumber}
+use Rattle.gtb.proofs.Answers.{same-refusal, never-done, never-refused, unless-done}
+use Rattle.session.specs.declared.Session.{Session}
+use Rattle.session.specs.declared.Outcome.{Outcome}
+use Rattle.session.specs.Session.{consistent}
+use Rattle.session.specs.Arrival.{isWay, wayOf, wordAfter}
+use Rattle.session.specs.Claim.{answerAt}
+use Rattle.session.proofs.Demand.{run-unique}
+use Rattle.batch.specs.declared.Delivered.{Delivered}
+use Rattle.batch.specs.Batch.{wordsIn, wholeRun, wordAt, batchStatus, valuesOf, Arrivals, Batching}
+use Rattle.batch.specs.Steps.{Tested}
+use Rattle.batch.proofs.Runs.{run-words, same-words}
+
+-- ---- test 2, by what fails it first
+module _ (s : Shape) (words scratch outcomes : List ℕ) where
+  pub fits-run : wholeRun s words ≡ false → false ≡ (wholeRun s words && eqb (length scratch) (scratchLength s) && eqb (length outcomes) 192)
+  fits-run bad = sym (rw bad)
+
+  pub fits-scratch : wholeRun s words ≡ true → (length scratch ≡ scratchLength s → ⊥)
+      → false ≡ (wholeRun s words && eqb (length scratch) (scratchLength s) && eqb (length outcomes) 192)
+  fits-scratch run bad = sym (rw (run, ne-eqb (length scratch) (scratchLength s) bad))
+
+  pub fits-list : wholeRun s words ≡ true → length scratch ≡ scratchLength s
+      → eqb (length outcomes) 192 ≡ (wholeRun s words && eqb (length scratch) (scratchLength s) && eqb (length outcomes) 192)
+  fits-list run room = sym (rw (run, eq-eqb (length scratch) (scratchLength s) room))
+
+module _ (σ : Session) (k : ℕ) (words scratch outcomes : List ℕ) where
+  -- ---- the tests
+  pub status-way : isWay k ≡ false → status.Refused Refusal.Shape ≡ batchStatus σ k words scratch outcomes
+  unfolding batchStatus
+  status-way bad = sym (rw bad)
+
+  pub status-shape : isWay k ≡ true → lawful (σ .shape) ≡ false → status.Refused (shapeRefusal (σ .shape)) ≡ batchStatus σ k words scratch outcomes
+  unfolding batchStatus
+  status-shape known bad = sym (rw (known, bad))
+
+  pub status-figures : isWay k ≡ true → lawful (σ .shape) ≡ true → consistent σ ≡ false → status.Refused Refusal.Figures ≡ batchStatus σ k words scratch outcomes
+  unfolding batchStatus
+  status-figures known law bad = sym (rw (known, law, bad))
+
+  -- test 2 on all that is lent
+  abbrev sized : Type 0
+  sized = (wholeRun (σ .shape) words && eqb (length scratch) (scratchLength (σ .shape)) && eqb (length outcomes) 192) ≡ true
+
+  abbrev unsized : Type 0
+  unsized = (wholeRun (σ .shape) words && eqb (length scratch) (scratchLength (σ .shape)) && eqb (length outcomes) 192) ≡ false
+
+  pub status-length : isWay k ≡ true → lawful (σ .shape) ≡ true → consistent σ ≡ true → unsized → status.Refused Refusal.Length ≡ batchStatus σ k words scratch outcomes
+  unfolding batchStatus
+  status-length known law right bad = sym (rw (known, law, right, bad))
+
+  pub status-done : isWay k ≡ true → lawful (σ .shape) ≡ true → consistent σ ≡ true → sized → status.Done ≡ batchStatus σ k words scratch outcomes
+  unfolding batchStatus
+  status-done known law right fit = sym (rw (known, law, right, fit))
+
+  -- not turned down: all tests were passed
+  pub status-tested : batchStatus σ k words scratch outcomes ≡ status.Done → Tested σ k words scratch outcomes
+  unfolding batchStatus
+  status-tested h =
+      let (known, h₁) = unless-done (isWay k) _ _ h in
+      let (law, h₂) = unless-done (lawful (σ .shape)) _ _ h₁ in
+      let (right, h₃) = unless-done (consistent σ) _ _ h₂ in
+      let (fit, h₄) = unless-done (wholeRun (σ .shape) words && eqb (length scratch) (scratchLength (σ .shape)) && eqb (length outcomes) 192) _ _ h₃ in
+      let two = and-left (wholeRun (σ .shape) words && eqb (length scratch) (scratchLength (σ .shape))) (eqb (length outcomes) 192) fit in
+      record {
+        known = known;
+        lawful = law;
+        consistent = right;
+        run = and-left (wholeRun (σ .shape) words) (eqb (length scratch) (scratchLength (σ .shape))) two;
+        scratchSize = eqb-true _ _ (and-right (wholeRun (σ .shape) words) (eqb (length scratch) (scratchLength (σ .shape))) two);
+        outcomesSize = eqb-true _ _ (and-right (wholeRun (σ .shape) words && eqb (length scratch) (scratchLength (σ .shape))) (eqb (length outcomes) 192) fit);
+      }
+
+  -- ---- the two answers
+  pub batching-refused : {r : Delivered} (e : Refusal) → batchStatus σ k words scratch outcomes ≡ status.Refused e → r .session ≡ σ → r .status ≡ status.Refused e
+      → Batching σ k words scratch outcomes words scratch outcomes r
+  batching-refused e h same is = record {
+    status = is ∙ sym h;
+    number = ap statusNumber (is ∙ sym h);
+    refused = λ e′ h′. (same, refl, refl, refl);
+    done = λ h′. absurd (never-done e (sym is ∙ h′));
+  }
+
+  pub batching-done : {r : Delivered} {words′ scratch′ outcomes′ : List ℕ} → batchStatus σ k words scratch outcomes ≡ status.Done → r .status ≡ status.Done
+      → Arrivals σ k words scratch words′ scratch′ outcomes′ (r .session) → Batching σ k words scratch outcomes words′ scratch′ outcomes′ r
+  batching-done h is arrivals = record {
+    status = is ∙ sym h;
+    number = ap statusNumber (is ∙ sym h);
+    refused = λ e h′. absurd (never-refused e (sym is ∙ h′));
+    done = λ h′. arrivals;
+  }
+
+-- ---- there is one answer
+module _ {σ : Session} {k : ℕ} {words scratch outcomes : List ℕ} {words₁ scratch₁ outcomes₁ words₂ scratch₂ outcomes₂ : List ℕ} where
+  -- so with all that the arrivals leave
+  arrivals-unique : {end₁ end₂ : Session} → Tested σ k words scratch outcomes → Arrivals σ k words scratch words₁ scratch₁ outcomes₁ end₁ → Arrivals σ k words scratch words₂ scratch₂ outcomes₂ end₂
+      → (end₁ ≡ end₂) × (words₁ ≡ words₂) × (scratch₁ ≡ scratch₂) × (outcomes₁ ≡ outcomes₂)
+  arrivals-unique tested a b =
+      let (answers, ends) = run-unique (a .run) (b .run) in
+      let whole = run-words (σ .shape) (tested .lawful) words (tested .run) in
+      let word : ℕ → List Outcome → List ℕ = λ i rs. wordAfter (wordAt (σ .shape) words i) (wayOf k .word (σ .shape) (wordAt (σ .shape) words i)) (answerAt rs i) in (
+        ends,
+        same-words (wordLength (σ .shape)) words₁ words₂ (wordsIn (σ .shape) words) (a .size ∙ whole .size) (b .size ∙ whole .size)
+            (λ i l. a .word i l ∙ ap (word i) answers ∙ sym (b .word i l)),
+        a .scratchLeft ∙ sym (b .scratchLeft),
+        a .outcomesLeft ∙ ap valuesOf answers ∙ sym (b .outcomesLeft),
+      )
+
+  unique-by : {r₁ r₂ : Delivered} (answer : Status) → batchStatus σ k words scratch outcomes ≡ answer
+      → Batching σ k words scratch outcomes words₁ scratch₁ outcomes₁ r₁ → Batching σ k words scratch outcomes words₂ scratch₂ outcomes₂ r₂
+      → (r₁ .session ≡ r₂ .session) × (words₁ ≡ words₂) × (scratch₁ ≡ scratch₂) × (outcomes₁ ≡ outcomes₂)
+  unique-by status.Done h a b = arrivals-unique (status-tested σ k words scratch outcomes h) (a .done (a .status ∙ h)) (b .done (b .status ∙ h))
+  unique-by (status.Refused e) h a b =
+      let x = a .refused e (a .status ∙ h) in
+      let y = b .refused e (b .status ∙ h) in
+      (x .0 ∙ sym (y .0), x .1 ∙ sym (y .1), x .2 ∙ sym (y .2), x .3 ∙ sym (y .3))
+
+  pub batching-unique : {r₁ r₂ : Delivered} → Batching σ k words scratch outcomes words₁ scratch₁ outcomes₁ r₁ → Batching σ k words scratch outcomes words₂ scratch₂ outcomes₂ r₂
+      → (r₁ ≡ r₂) × (words₁ ≡ words₂) × (scratch₁ ≡ scratch₂) × (outcomes₁ ≡ outcomes₂)
+  batching-unique a b =
+      let u = unique-by (batchStatus σ k words scratch outcomes) refl a b in
+      (ap₂ (λ (τ : Session) (answer : Status). record { session = τ; status = answer }) (u .0) (a .status ∙ sym (b .status)), u .1, u .2, u .3)

@@ -1,0 +1,5 @@
+pub mod Runs
+pub mod Outcomes
+pub mod Turns
+pub mod Answers
+pub mod Demand

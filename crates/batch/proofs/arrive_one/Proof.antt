@@ -1,0 +1,47 @@
+-- `batch::arrive_one` meets its contract.
+use borrow.Author.Needs.{needs}
+use Rattle.batch.proofs.Turns.{one-arrival}
+use Rattle.batch.proofs.arrive_one.Statement.{statement}
+use Rattle.batch.proofs.arrive_one.Tie as tie
+
+settle-word-requires : tie.Need-settle-word-requires
+settle-word-requires c κs = let ready = c .before .before .before .before .before .pre in (ready .known, ready .lawful, ready .consistent)
+
+outcome-requires : tie.Need-outcome-requires
+outcome-requires c κs = search needs
+
+slice-aggregate-copy : tie.Need-slice-aggregate-copy
+slice-aggregate-copy c = search needs
+
+copy-requires : tie.Need-copy-requires
+copy-requires c κs = search needs
+
+same-length : tie.Need-same-length
+same-length c = search needs
+
+same-length-2 : tie.Need-same-length-2
+same-length-2 c = search needs
+
+same-length-3 : tie.Need-same-length-3
+same-length-3 c = search needs
+
+returns : tie.Need-returns
+returns c =
+    let copied = c .before .before .before in
+    let made = copied .before .before .before in
+    let settled = made .before .before .before .before .before in
+    one-arrival (settled .settle-word .result) (settled .before .before .before .before .before .before .pre) (settled .settle-word .ensures)
+    (made .outcome .ensures) (copied .copy .ensures)
+
+pub arrive-one-spec : {M : Type 1} → statement M
+arrive-one-spec =
+    tie.close
+    (tie.spec
+    settle-word-requires
+    outcome-requires
+    slice-aggregate-copy
+    copy-requires
+    same-length
+    same-length-2
+    same-length-3
+    returns)
