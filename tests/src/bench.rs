@@ -5,6 +5,7 @@ mod double;
 mod erasures;
 mod processor;
 mod program;
+mod proposals;
 mod votes;
 mod words;
 
@@ -36,6 +37,10 @@ pub fn run() {
     println!();
     missed.extend(double::table());
     println!();
+    println!("Proposals: right ones checked, against reading the damaged words that they are for.");
+    println!();
+    missed.extend(proposals::table());
+    println!();
     missed.extend(program::table());
     println!();
     println!(
@@ -45,7 +50,7 @@ pub fn run() {
         "0.50 of the straightforward way for n places and 1.50 for half of all; the program on (17, 4, 32) at least"
     );
     println!("150 MB/s or at most 1.50 of the Rust program's time; reading by vote at most 1.20 of the tuned vote;");
-    println!("reading two wrong symbols at most 1.50 of clean reading.");
+    println!("reading two wrong symbols at most 1.50 of clean reading, checking a proposal at most 1.00 of it.");
     if missed.is_empty() {
         println!("Every target measured is met.");
     }

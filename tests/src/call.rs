@@ -1,5 +1,6 @@
 //! One call of one entry, made of the reference or of the library, with all that it leaves behind.
 
+use crate::reference::checker::check;
 use crate::reference::coverage::cover;
 use crate::reference::double::decode_two;
 use crate::reference::energy::bill;
@@ -20,6 +21,7 @@ pub enum Entry {
     DecodeMajority,
     DecodeTwo,
     Fill,
+    Check,
     ReadPage,
     Marks,
     WritePage,
@@ -42,6 +44,7 @@ impl Entry {
             Entry::Decode | Entry::DecodeMajority | Entry::DecodeTwo | Entry::HostReadWord => &["word"],
             Entry::Looked => &["word", "looked"],
             Entry::Fill => &["places", "word", "scratch"],
+            Entry::Check => &["received", "proposed"],
             Entry::ReadPage | Entry::HostReadPage => &["data"],
             Entry::Marks => &["data", "marks"],
             Entry::WritePage => &["marks", "data"],
@@ -150,6 +153,7 @@ impl Call {
             (Entry::DecodeMajority, [word]) => answer_of(decode_majority(shape, word)),
             (Entry::DecodeTwo, [word]) => answer_of(decode_two(shape, word)),
             (Entry::Fill, [places, word, scratch]) => answer_of(fill(shape, places, word, scratch)),
+            (Entry::Check, [received, proposed]) => answer_of(check(shape, received, proposed)),
             (Entry::ReadPage, [data]) => answer_of(page_answer(shape, data)),
             (Entry::Marks, [data, marks]) => answer_of(marks_part(shape, data, marks)),
             (Entry::WritePage, [marks, data]) => answer_of(write_page(shape, self.number, marks, data).map(|()| 0)),

@@ -50,6 +50,14 @@ extern "C" {
         scratch: *mut u32,
         scratch_len: usize,
     ) -> u32;
+    fn harness_check(
+        shape: *const u32,
+        shape_len: usize,
+        received: *const u32,
+        received_len: usize,
+        proposed: *const u32,
+        proposed_len: usize,
+    ) -> u32;
     fn harness_read_page(shape: *const u32, shape_len: usize, data: *const u32, data_len: usize) -> u32;
     fn harness_marks(
         shape: *const u32,
@@ -165,6 +173,12 @@ pub fn fill(shape: &[u32], places: &[u32], word: &mut [u32], scratch: &mut [u32]
             scratch.as_mut_ptr(),
             scratch.len(),
         )
+    }
+}
+
+pub fn check(shape: &[u32], received: &[u32], proposed: &[u32]) -> u32 {
+    unsafe {
+        harness_check(shape.as_ptr(), shape.len(), received.as_ptr(), received.len(), proposed.as_ptr(), proposed.len())
     }
 }
 

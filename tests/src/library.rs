@@ -24,6 +24,7 @@ impl Call {
             (Entry::Fill, [places, word, scratch]) => {
                 ffi::fill(shape, places.lend(), word.lend(), scratch.lend()).into()
             }
+            (Entry::Check, [received, proposed]) => ffi::check(shape, received.lend(), proposed.lend()).into(),
             (Entry::ReadPage, [data]) => ffi::read_page(shape, data.lend()).into(),
             (Entry::Marks, [data, marks]) => ffi::marks(shape, data.lend(), marks.lend()).into(),
             (Entry::WritePage, [marks, data]) => ffi::write_page(shape, self.number, marks.lend(), data.lend()).into(),

@@ -6,8 +6,8 @@
 
 use shaftglimmer_tests::call::Call;
 use shaftglimmer_tests::groups::{
-    batches, coverage, double, energy, erasures, figures, idle, looked, reference, slopes, stream, text, vectors, vote,
-    ways,
+    batches, coverage, double, energy, erasures, figures, idle, looked, proposals, reference, slopes, stream, text,
+    vectors, vote, ways,
 };
 use shaftglimmer_tests::process::Program;
 use shaftglimmer_tests::report::Report;
@@ -31,6 +31,7 @@ fn main() -> ExitCode {
     report.run(ways::group("ways of the reference", Call::on_reference));
     report.run(double::group("two wrong symbols of the reference", Call::on_reference));
     report.run(batches::group("bundles of the reference", Call::on_reference));
+    report.run(proposals::group("proposals of the reference", Call::on_reference));
     report.run(reference::group());
     library(&mut report);
     program(&mut report);
@@ -63,6 +64,7 @@ fn library(report: &mut Report) {
     report.run(ways::group("ways of the library", Call::on_library));
     report.run(double::group("two wrong symbols of the library", Call::on_library));
     report.run(batches::group("bundles of the library", Call::on_library));
+    report.run(proposals::group("proposals of the library", Call::on_library));
     report.run(codec::group());
     report.run(words::group());
     report.run(refusals::group());

@@ -6,6 +6,7 @@
 //! proposes is accepted only if it meets the rules' definition.
 
 pub mod brute;
+pub mod checker;
 pub mod coverage;
 pub mod double;
 pub mod elimination;

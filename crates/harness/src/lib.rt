@@ -26,6 +26,7 @@ ghost use Rattle.page.specs.Page.{Writing};
 ghost use Rattle.session.specs.Session.{countedNumber};
 ghost use Rattle.energy.specs.Energy.{billedNumber};
 ghost use Rattle.coverage.specs.Coverage.{coveredNumber, Covering};
+ghost use Rattle.verify.specs.Verify.{verdictNumber, Checking};
 ghost use Rattle.harness.specs.Entries.{Crosses, Shaped, Sessioned, pageCrossing, MarksCrossing, FreshCrossing, countedIn, billedIn, ArriveCrossing, BatchCrossing};
 
 #[no_mangle]
@@ -255,4 +256,15 @@ pub extern "C" fn harness_batch(
     }
     store(after, session);
     answer
+}
+
+// A proposal checked; both words are only read.
+#[no_mangle]
+pub extern "C" fn harness_check(shape: &[u32], received: &[u32], proposed: &[u32]) -> u32
+    ensures { λ r. ⌜ Shaped (now (shape .entry)) (λ s. Crosses verdictNumber (Checking s (now (received .entry)) (now (proposed .entry))) r) Unit r ⌝ }
+{
+    if shape.len() != SHAPE {
+        return gtb::number::refused(Refusal::Length);
+    }
+    verify::number::verdict(verify::check(load_shape(shape), received, proposed))
 }

@@ -4,12 +4,12 @@ use crate::call::{answer_of, to_bytes, After, Call, Entry};
 use crate::capture::{page_numbers, Page};
 use crate::damage::{apply, make, unmasked, STYLES};
 use crate::random::Random;
-use crate::reference::page::FUNCTIONS;
+use crate::reference::page::{FUNCTIONS, PAGES};
 use crate::reference::session::{Session, CALLS_AT, LOWEST_AT, OUTCOMES_LEN, PAGES_AT, SESSION_LEN};
 use crate::reference::shape::{Refusal, Shape};
 use crate::reference::writer::codeword;
 
-pub const ENTRIES: [Entry; 18] = [
+pub const ENTRIES: [Entry; 19] = [
     Entry::Encode,
     Entry::Extract,
     Entry::Decode,
@@ -17,6 +17,7 @@ pub const ENTRIES: [Entry; 18] = [
     Entry::DecodeMajority,
     Entry::DecodeTwo,
     Entry::Fill,
+    Entry::Check,
     Entry::ReadPage,
     Entry::Marks,
     Entry::WritePage,
@@ -64,6 +65,10 @@ pub fn good(entry: Entry, shape: Shape, random: &mut Random) -> Call {
             let mut word = codeword(shape, &data);
             places.iter().for_each(|&place| word[place as usize] = random.symbol(shape));
             Call::new(entry, shape, &[&places, &word, &scratch])
+        }
+        Entry::Check => {
+            let sent = codeword(shape, &data);
+            Call::new(entry, shape, &[&damaged(shape, sent.clone(), random), &sent])
         }
         Entry::ReadPage => Call::new(entry, shape, &[&page_data]),
         Entry::Marks => Call::new(entry, shape, &[&page_data, &random.numbers(page_data.len())]),
@@ -115,6 +120,22 @@ fn some_places(shape: Shape, random: &mut Random) -> Vec<u32> {
 /// Prices so low that no sum passes 2^64 - 1.
 fn cheap_prices(random: &mut Random) -> Vec<u32> {
     (0..FUNCTIONS).map(|_| random.number() >> (8 + random.below(24))).collect()
+}
+
+/// A session from elsewhere: any pages marked, counts near both ends. Its figures are right.
+pub fn any_session(shape: Shape, random: &mut Random) -> Vec<u32> {
+    let mut session = shape.values().to_vec();
+    let marks: Vec<u32> = (0..PAGES).map(|_| if random.one_in(3) { random.pick(&YES) } else { 0 }).collect();
+    session.push(marks.iter().filter(|&&mark| mark != 0).count() as u32);
+    session.push(marks.iter().position(|&mark| mark == 0).unwrap_or(PAGES) as u32);
+    session.extend(marks);
+    let mut count = || match random.below(3) {
+        0 => 0,
+        1 => random.number(),
+        _ => u32::MAX - random.below(4) as u32,
+    };
+    session.extend((0..FUNCTIONS).map(|_| count()));
+    session
 }
 
 /// Puts another shape in place of the call's own.

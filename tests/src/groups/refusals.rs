@@ -12,7 +12,7 @@ use crate::report::{Group, Unit, Verdict};
 use crate::shrink::expect;
 
 /// Those that test the width of a slice.
-const WIDE: [Entry; 12] = [
+const WIDE: [Entry; 13] = [
     Entry::Encode,
     Entry::Extract,
     Entry::Decode,
@@ -20,6 +20,7 @@ const WIDE: [Entry; 12] = [
     Entry::DecodeMajority,
     Entry::DecodeTwo,
     Entry::Fill,
+    Entry::Check,
     Entry::ReadPage,
     Entry::Marks,
     Entry::WritePage,

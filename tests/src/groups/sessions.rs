@@ -1,6 +1,6 @@
 //! Arrivals in sessions grown from a fresh one and in sessions handed in from elsewhere.
 
-use super::calls::{old_scratch_len, YES};
+use super::calls::{any_session, old_scratch_len};
 use crate::call::{difference, Call, Entry};
 use crate::capture::{page_numbers, recording, Page};
 use crate::damage::{allowed, apply, make, STYLES};
@@ -196,22 +196,6 @@ fn handed_in(q: u32, n: u32, random: &mut Random) -> Verdict {
         }
     }
     Ok(tried)
-}
-
-/// Its figures are right.
-fn any_session(shape: Shape, random: &mut Random) -> Vec<u32> {
-    let mut session = shape.values().to_vec();
-    let marks: Vec<u32> = (0..PAGES).map(|_| if random.one_in(3) { random.pick(&YES) } else { 0 }).collect();
-    session.push(marks.iter().filter(|&&mark| mark != 0).count() as u32);
-    session.push(marks.iter().position(|&mark| mark == 0).unwrap_or(PAGES) as u32);
-    session.extend(marks);
-    let mut count = || match random.below(3) {
-        0 => 0,
-        1 => random.number(),
-        _ => u32::MAX - random.below(4) as u32,
-    };
-    session.extend((0..FUNCTIONS).map(|_| count()));
-    session
 }
 
 /// Another figure, or another mark under the same figures.

@@ -1,0 +1,68 @@
+-- `verify::compare::any_masked` meets its contract. The loop's invariant: none of the places passed is on a silent check.
+use mathlib.Core.Path.{_≡_, sym, ap₂, _∙_}
+use mathlib.Core.Bool.{Bool, false, _||_}
+use Prim.Native.Nat.{_-_, _<_, _≤_}
+use Rattle.parity.specs.Count.{any}
+use Rattle.parity.proofs.Tests.{any-zero, any-more, any-intro}
+use Rattle.gtb.specs.Square.{at}
+use Rattle.verify.specs.Steps.{hushed}
+use native.Mathlib.Nat.{le-antisymm}
+use native.Mathlib.Omega.{arith}
+use borrow.Author.Needs.{needs}
+use Rattle.verify.proofs.compare.any_masked.Statement.{statement}
+use Rattle.verify.proofs.compare.any_masked.Tie as tie
+
+abbrev Inv-loop : tie.InvT-loop
+Inv-loop shape syn places count x₀ x = (x ≤ count) × (any x (λ y. hushed shape syn (at places y)) ≡ false)
+
+abbrev μ-loop : tie.MeasureT-loop
+μ-loop shape syn places count x₀ x = count - x
+
+loop-holds : tie.Need-loop-holds Inv-loop μ-loop
+loop-holds c = (search needs, any-zero _)
+
+-- the list has 8 entries
+inside : (c : tie.In-loop Inv-loop μ-loop) → c .before .loop .x < 8
+inside c = omega (arith, c .before .before .pre .1 .few)
+
+mul-is-masked : tie.Need-mul-is-masked Inv-loop μ-loop
+mul-is-masked c = omega (arith, inside c)
+
+element-copy-out-is-masked : tie.Need-element-copy-out-is-masked Inv-loop μ-loop
+element-copy-out-is-masked c = inside c
+
+is-masked-requires : tie.Need-is-masked-requires Inv-loop μ-loop
+is-masked-requires c κs =
+    let p = c .before .before .before .pre in
+    (p .0, p .1 .below (c .before .before .loop .x) (c .before .loop-test .taken))
+
+returns : tie.Need-returns Inv-loop μ-loop
+returns c = sym (any-intro _ _ (c .before .before .before .before .loop .x) (c .before .before .before .loop-test .taken) (sym (c .before .is-masked .ensures) ∙ c .if1 .taken))
+
+add-x : tie.Need-add-x Inv-loop μ-loop
+add-x c = search needs
+
+loop-less : tie.Need-loop-less Inv-loop μ-loop
+loop-less c = search needs
+
+loop-again : tie.Need-loop-again Inv-loop μ-loop
+loop-again c = (search needs, any-more _ _ ∙ ap₂ (λ (x y : Bool). x || y) (c .before .before .before .before .loop .inv .1) (sym (c .before .is-masked .ensures) ∙ c .if1 .left))
+
+returns-2 : tie.Need-returns-2 Inv-loop μ-loop
+returns-2 c = sym (rw (le-antisymm (c .before .loop .inv .0) (c .loop-test .left)) at (c .before .loop .inv .1))
+
+pub any-masked-spec : {M : Type 1} → statement M
+any-masked-spec =
+    tie.close
+    (tie.spec
+    Inv-loop
+    μ-loop
+    loop-holds
+    mul-is-masked
+    element-copy-out-is-masked
+    is-masked-requires
+    returns
+    add-x
+    loop-less
+    loop-again
+    returns-2)

@@ -1,0 +1,87 @@
+-- `verify::compare::is_masked` meets its contract. The loop's invariant: no check passed is silent.
+use mathlib.Core.Path.{_≡_, sym, ap, ap₂, _∙_}
+use mathlib.Core.Bool.{Bool, false, _||_}
+use Prim.Native.Nat.{_-_, _<_, _≤_}
+use lib.Dec.{eqb}
+use Rattle.parity.specs.Count.{any}
+use Rattle.parity.proofs.Tests.{any-zero, any-more, any-intro}
+use Rattle.gtb.specs.Square.{at}
+use Rattle.correction.specs.Error.{checkOf}
+use Rattle.correction.proofs.CheckNumbers.{check-fits}
+use Rattle.verify.specs.Steps.{hushed}
+use native.Mathlib.Nat.{le-antisymm}
+use native.Mathlib.Omega.{arith}
+use borrow.Author.Needs.{needs}
+use borrow.Author.Tests.{eq-eqb, ne-eqb}
+use Rattle.verify.proofs.compare.is_masked.Statement.{statement}
+use Rattle.verify.proofs.compare.is_masked.Tie as tie
+
+abbrev Inv-loop : tie.InvT-loop
+Inv-loop shape syn j n t₀ t = (t ≤ n) × (any t (λ u. eqb (at syn (checkOf shape j u)) 0) ≡ false)
+
+abbrev μ-loop : tie.MeasureT-loop
+μ-loop shape syn j n t₀ t = n - t
+
+cast-n : tie.Need-cast-n Inv-loop μ-loop
+cast-n c = search needs
+
+loop-holds : tie.Need-loop-holds Inv-loop μ-loop
+loop-holds c = (search needs, any-zero _)
+
+check-number-requires : tie.Need-check-number-requires Inv-loop μ-loop
+check-number-requires c κs = search needs
+
+-- the check is in the table
+inside : (c : tie.After-check-number Inv-loop μ-loop) → c .check-number .result < 248
+inside c =
+    let s = c .before .before .before .before in
+    rw (c .check-number .ensures) (check-fits (s .args .shape) (s .pre .0) (c .before .before .loop .t) (s .args .j) (c .before .loop-test .taken) (s .pre .1))
+
+mul-if1 : tie.Need-mul-if1 Inv-loop μ-loop
+mul-if1 c = omega (arith, inside c)
+
+element-copy-out-if1 : tie.Need-element-copy-out-if1 Inv-loop μ-loop
+element-copy-out-if1 c = inside c
+
+returns : tie.Need-returns Inv-loop μ-loop
+unfolding hushed
+returns c =
+    let s = c .before .before .before .before .before .before .args in
+    sym
+    (any-intro _ (λ u. eqb (at (s .syn .now) (checkOf (s .shape) (s .j) u)) 0) (c .before .before .before .before .loop .t) (c .before .before .before .loop-test .taken)
+    (eq-eqb _ 0 (sym (ap (at (s .syn .now)) (c .before .before .check-number .ensures)) ∙ c .if1 .taken)))
+
+add-t : tie.Need-add-t Inv-loop μ-loop
+add-t c = search needs
+
+loop-less : tie.Need-loop-less Inv-loop μ-loop
+loop-less c = search needs
+
+loop-again : tie.Need-loop-again Inv-loop μ-loop
+loop-again c =
+    let s = c .before .before .before .before .before .before .args in (
+      search needs,
+      any-more _ _
+          ∙ ap₂ (λ (x y : Bool). x || y) (c .before .before .before .before .loop .inv .1) (ne-eqb _ 0 (λ z. c .if1 .left (ap (at (s .syn .now)) (c .before .before .check-number .ensures) ∙ z))),
+    )
+
+returns-2 : tie.Need-returns-2 Inv-loop μ-loop
+unfolding hushed
+returns-2 c = sym (rw (le-antisymm (c .before .loop .inv .0) (c .loop-test .left)) at (c .before .loop .inv .1))
+
+pub is-masked-spec : {M : Type 1} → statement M
+is-masked-spec =
+    tie.close
+    (tie.spec
+    Inv-loop
+    μ-loop
+    cast-n
+    loop-holds
+    check-number-requires
+    mul-if1
+    element-copy-out-if1
+    returns
+    add-t
+    loop-less
+    loop-again
+    returns-2)

@@ -1,0 +1,89 @@
+-- `verify::compare::measure` meets its contract. The loop's invariant is the contract for the first x errors.
+use mathlib.Core.Path.{refl}
+use Prim.Native.Nat.{_-_, _<_, _≤_}
+use lib.ListN.{length}
+use Rattle.parity.specs.Xor.{_⊕_}
+use Rattle.gtb.specs.Square.{at}
+use Rattle.verify.specs.Steps.{Measured}
+use native.Mathlib.Nat.{le-antisymm}
+use native.Mathlib.Omega.{arith}
+use borrow.Author.Needs.{needs}
+use Rattle.verify.proofs.Table.{measured-none, measured-more}
+use Rattle.verify.proofs.compare.measure.Statement.{statement}
+use Rattle.verify.proofs.compare.measure.Tie as tie
+
+abbrev Inv-loop : tie.InvT-loop
+Inv-loop received proposed places count errors₀ x₀ errors x = (x ≤ count) × Measured received proposed places x errors
+
+abbrev μ-loop : tie.MeasureT-loop
+μ-loop received proposed places count errors₀ x₀ errors x = count - x
+
+loop-holds : tie.Need-loop-holds Inv-loop μ-loop
+loop-holds c = (search needs, measured-none _ _ _ _ (c .pre .1))
+
+-- the lists have 8 entries
+inside : (c : tie.In-loop Inv-loop μ-loop) → c .before .loop .x < 8
+inside c = omega (arith, c .before .before .pre .0)
+
+-- the place is in both words
+place : (c : tie.In-loop Inv-loop μ-loop)
+    → (at (c .before .before .args .places .now) (c .before .loop .x) < length (c .before .before .args .received .now))
+    × (at (c .before .before .args .places .now) (c .before .loop .x) < length (c .before .before .args .proposed .now))
+place c = c .before .before .pre .2 (c .before .loop .x) (c .loop-test .taken)
+
+mul-j : tie.Need-mul-j Inv-loop μ-loop
+mul-j c = omega (arith, inside c)
+
+element-copy-out-j : tie.Need-element-copy-out-j Inv-loop μ-loop
+element-copy-out-j c = inside c
+
+mul-errors : tie.Need-mul-errors Inv-loop μ-loop
+mul-errors c = omega (arith, place (c .before) .0)
+
+shared-slice-read-errors : tie.Need-shared-slice-read-errors Inv-loop μ-loop
+shared-slice-read-errors c = place (c .before .before) .0
+
+mul-errors-2 : tie.Need-mul-errors-2 Inv-loop μ-loop
+mul-errors-2 c = omega (arith, place (c .before .before) .1)
+
+shared-slice-read-errors-2 : tie.Need-shared-slice-read-errors-2 Inv-loop μ-loop
+shared-slice-read-errors-2 c = place (c .before .before .before) .1
+
+mul-errors-3 : tie.Need-mul-errors-3 Inv-loop μ-loop
+mul-errors-3 c = omega (arith, inside (c .before .before .before))
+
+element-write-errors : tie.Need-element-write-errors Inv-loop μ-loop
+element-write-errors c = inside (c .before .before .before)
+
+add-x : tie.Need-add-x Inv-loop μ-loop
+add-x c = search needs
+
+loop-less : tie.Need-loop-less Inv-loop μ-loop
+loop-less c = search needs
+
+loop-again : tie.Need-loop-again Inv-loop μ-loop
+unfolding _⊕_
+loop-again c = (search needs, measured-more _ (inside (c .before .before .before)) refl (c .before .before .before .before .loop .inv .1))
+
+returns : tie.Need-returns Inv-loop μ-loop
+returns c = rw (le-antisymm (c .before .loop .inv .0) (c .loop-test .left)) at (c .before .loop .inv .1)
+
+pub measure-spec : {M : Type 1} → statement M
+measure-spec =
+    tie.close
+    (tie.spec
+    Inv-loop
+    μ-loop
+    loop-holds
+    mul-j
+    element-copy-out-j
+    mul-errors
+    shared-slice-read-errors
+    mul-errors-2
+    shared-slice-read-errors-2
+    mul-errors-3
+    element-write-errors
+    add-x
+    loop-less
+    loop-again
+    returns)

@@ -1,0 +1,70 @@
+-- `verify::locate::locate` meets its contract. The loop's invariant: the list holds the differing positions of the rows passed, fewer than n.
+use Prim.Native.Nat.{_+_, _-_, _*_, _<_, _≤_}
+use Rattle.correction.specs.Steps.{Listed}
+use Rattle.verify.specs.Steps.{differs}
+use native.Mathlib.Nat.{zero-mul, le-antisymm}
+use native.Mathlib.Omega.{arith}
+use borrow.Author.Needs.{needs}
+use Rattle.gtb.proofs.Bounds.{bounds}
+use Rattle.gtb.proofs.Turns.{row-in}
+use Rattle.correction.proofs.Rows.{next-row}
+use Rattle.correction.proofs.Listing.{listed-none, scanned-few, scanned-many}
+use Rattle.verify.proofs.locate.locate.Statement.{statement}
+use Rattle.verify.proofs.locate.locate.Tie as tie
+
+abbrev Inv-loop : tie.InvT-loop
+Inv-loop shape received proposed places₀ q n found₀ row₀ places found row = (row ≤ q) × (found < n) × Listed (differs received proposed) (row * q) found places
+
+abbrev μ-loop : tie.MeasureT-loop
+μ-loop shape received proposed places₀ q n found₀ row₀ places found row = q - row
+
+cast-q : tie.Need-cast-q Inv-loop μ-loop
+cast-q c = search needs
+
+cast-n : tie.Need-cast-n Inv-loop μ-loop
+cast-n c = search needs
+
+loop-holds : tie.Need-loop-holds Inv-loop μ-loop
+loop-holds c =
+    let s = c .before .before .before .before in
+    (search needs, omega (arith, bounds (s .args .shape) (s .pre .0) .n2), rw (zero-mul (s .args .shape .q)) (listed-none _ _ (s .pre .3)))
+
+scan-row-requires : tie.Need-scan-row-requires Inv-loop μ-loop
+scan-row-requires c κs =
+    let i = c .before .before .loop .inv in
+    let p = c .before .before .before .before .before .before .before .pre in
+    (p .0, p .1, p .2, c .before .loop-test .taken, i .1, i .2)
+
+returns : tie.Need-returns Inv-loop μ-loop
+returns c =
+    let s = c .before .before .before .before .before .before .before .before .before .args .shape in
+    let row = c .before .before .before .before .loop .row in
+    scanned-many (row * s .q + s .q) (row-in row (s .q) (c .before .before .before .loop-test .taken)) (c .before .scan-row .ensures .many (c .if1 .taken))
+
+add-row : tie.Need-add-row Inv-loop μ-loop
+add-row c = search needs
+
+loop-less : tie.Need-loop-less Inv-loop μ-loop
+loop-less c = search needs
+
+loop-again : tie.Need-loop-again Inv-loop μ-loop
+loop-again c = (search needs, c .if1 .left, rw next-row (c .before .scan-row .ensures .few (c .if1 .left)))
+
+returns-2 : tie.Need-returns-2 Inv-loop μ-loop
+returns-2 c = scanned-few (c .before .loop .inv .1) (rw (le-antisymm (c .before .loop .inv .0) (c .loop-test .left)) at (c .before .loop .inv .2))
+
+pub locate-spec : {M : Type 1} → statement M
+locate-spec =
+    tie.close
+    (tie.spec
+    Inv-loop
+    μ-loop
+    cast-q
+    cast-n
+    loop-holds
+    scan-row-requires
+    returns
+    add-row
+    loop-less
+    loop-again
+    returns-2)

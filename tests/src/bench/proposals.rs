@@ -1,0 +1,77 @@
+//! Checking proposals, against reading the received words.
+
+use super::contest::{timed, times, Batch, Times};
+use super::words::batch_size;
+use crate::damage::{apply, unmasked};
+use crate::ffi;
+use crate::random::Random;
+use crate::reference::shape::Shape;
+use crate::reference::writer::codeword;
+use std::hint::black_box;
+
+/// How much of the time of reading is allowed.
+const TARGET: f64 = 1.0;
+
+/// Prints the table; gives the row of the first shape if it misses its target.
+pub fn table() -> Vec<String> {
+    println!("| shape | proposals | ns a word | checked / read |");
+    println!("|---|---|---:|---:|");
+    let shapes = [Shape::new(17, 4, 32), Shape::new(3, 2, 8), Shape::new(31, 8, 32)];
+    let rows = shapes.map(row);
+    rows.into_iter().take(1).flatten().collect()
+}
+
+/// Prints a row; gives it if it misses the target.
+fn row(shape: Shape) -> Option<String> {
+    let Times { ours, to_others } = checking(shape);
+    let Shape { q, n, b, .. } = shape;
+    let row = format!("| ({q}, {n}, {b}) | right ones for damaged words | {ours:.0} | {:.2} |", to_others[0]);
+    println!("{row}");
+    (to_others[0] > TARGET).then_some(row)
+}
+
+/// A damaged word, and the codeword that it was.
+type Pair = (Vec<u32>, Vec<u32>);
+
+fn checking(shape: Shape) -> Times {
+    let mut random = Random::new(1, "checking");
+    let mut pair = || {
+        let sent = codeword(shape, &random.symbols(shape, shape.data_len()));
+        let mut received = sent.clone();
+        let weight = 1 + random.below(shape.most_errors());
+        apply(&unmasked(shape, weight, &mut random), &mut received);
+        (received, sent)
+    };
+    let pairs: Vec<Pair> = (0..batch_size(shape)).map(|_| pair()).collect();
+    let values = black_box(shape).values();
+    assert!(
+        pairs.iter().all(|(received, sent)| ffi::check(&values, received, sent) == 1),
+        "a right proposal got no yes"
+    );
+    times(pairs.len(), [checked(&values, &pairs), read(&values, &pairs)])
+}
+
+fn checked<'a>(values: &'a [u32], pairs: &'a [Pair]) -> Batch<'a> {
+    Box::new(move || {
+        timed(|| {
+            for (received, sent) in pairs {
+                black_box(ffi::check(values, received, sent));
+            }
+        })
+    })
+}
+
+/// Reading works on copies, which are made outside the time.
+fn read<'a>(values: &'a [u32], pairs: &'a [Pair]) -> Batch<'a> {
+    let mut work: Vec<Vec<u32>> = pairs.iter().map(|(received, _)| received.clone()).collect();
+    Box::new(move || {
+        for (word, (received, _)) in work.iter_mut().zip(pairs) {
+            word.copy_from_slice(received);
+        }
+        timed(|| {
+            for word in &mut work {
+                black_box(ffi::decode(values, word));
+            }
+        })
+    })
+}

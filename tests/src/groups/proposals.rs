@@ -1,0 +1,224 @@
+//! Words that somebody else restored, against the words that were received. What must come is said here where
+//! the case itself settles it, by trying every error where these are few, and by the reference elsewhere.
+
+use super::calls::any_session;
+use super::figures::Make;
+use crate::call::{answer_of, difference, After, Call, Entry};
+use crate::capture::{page_numbers, Page};
+use crate::damage::{apply, make as damage, spelled_out, unmasked, Style, STYLES};
+use crate::random::Random;
+use crate::reference::brute::{all_codewords, all_words, explanations};
+use crate::reference::session::{Session, CLEAN};
+use crate::reference::shape::{all_slopes, orders_and_directions, Refusal, Shape};
+use crate::reference::square::is_unmasked;
+use crate::reference::writer::codeword;
+use crate::report::{Group, Unit, Verdict};
+
+const WIDTHS: [u32; 5] = [1, 8, 11, 31, 32];
+
+/// The group for whichever makes the calls.
+pub fn group(name: &'static str, make: Make) -> Group {
+    let mut group = Group::new(name, Unit::Calls);
+    for (q, n) in orders_and_directions() {
+        let mut test = |name: &str, body: fn(Make, Shape, &mut Random) -> Verdict| {
+            group.test(format!("{name}, ({q}, {n})"), move |random| of_each_width(make, q, n, body, random));
+        };
+        test("right ones", right);
+        test("near ones", near);
+        test("masked or too much difference", masked_or_many);
+        test("any damage, any codeword", anything);
+        test("lengths and widths", lengths_and_widths);
+        test("arrivals", arrivals);
+    }
+    for shape in [2, 3].into_iter().flat_map(|n| all_slopes(3, n, 1)) {
+        let name = format!("all words of (3, {}, 1), slopes {:?}", shape.n, shape.own_slopes());
+        group.test(name, move |_| every_pair(make, shape));
+    }
+    group
+}
+
+fn of_each_width(
+    make: Make,
+    q: u32,
+    n: u32,
+    body: fn(Make, Shape, &mut Random) -> Verdict,
+    random: &mut Random,
+) -> Verdict {
+    let mut tried = 0;
+    for b in WIDTHS {
+        tried += body(make, random.shape(q, n, b), random)?;
+    }
+    Ok(tried)
+}
+
+fn check(shape: Shape, received: &[u32], proposed: &[u32]) -> Call {
+    Call::new(Entry::Check, shape, &[received, proposed])
+}
+
+/// This answer, and both words as lent.
+fn expect(make: Make, call: &Call, answer: Result<u32, Refusal>) -> Result<(), String> {
+    let expected = After { answer: answer_of(answer), slices: call.slices.clone() };
+    let shown = |found| format!("{}: {found}", call.text());
+    difference(call.entry, &expected, &make(call)).map_or(Ok(()), |found| Err(shown(found)))
+}
+
+fn some_codeword(shape: Shape, random: &mut Random) -> Vec<u32> {
+    codeword(shape, &random.symbols(shape, shape.data_len()))
+}
+
+fn damaged(word: &[u32], error: &[(usize, u32)]) -> Vec<u32> {
+    let mut word = word.to_vec();
+    apply(&error.to_vec(), &mut word);
+    word
+}
+
+/// The sent word for damage that reading undoes: yes, and reading gives just that word.
+fn right(make: Make, shape: Shape, random: &mut Random) -> Verdict {
+    let mut tried = 0;
+    for weight in 0..=shape.most_errors() {
+        for _ in 0..4 {
+            let sent = some_codeword(shape, random);
+            let received = damaged(&sent, &unmasked(shape, weight, random));
+            expect(make, &check(shape, &received, &sent), Ok(1))?;
+            let read = make(&Call::new(Entry::Decode, shape, &[&received]));
+            if read.answer != weight as u64 || read.slices[0] != sent {
+                return Err(format!("{shape:?}: reading does not give the proposal that gets yes"));
+            }
+            tried += 2;
+        }
+    }
+    Ok(tried)
+}
+
+/// The sent word with one symbol changed, and the received word itself: no codewords, unless undamaged.
+fn near(make: Make, shape: Shape, random: &mut Random) -> Verdict {
+    let mut tried = 0;
+    for weight in 0..=shape.most_errors() {
+        let sent = some_codeword(shape, random);
+        let error = unmasked(shape, weight, random);
+        let received = damaged(&sent, &error);
+        expect(make, &check(shape, &received, &received), Ok(u32::from(weight == 0)))?;
+        let elsewhere = damage(Style::Spread, shape, 1, random);
+        let partly = error.iter().map(|&wrong| vec![wrong]);
+        for change in partly.chain([elsewhere]) {
+            expect(make, &check(shape, &received, &damaged(&sent, &change)), Ok(0))?;
+            tried += 1;
+        }
+        tried += 1;
+    }
+    Ok(tried)
+}
+
+/// The sent word is a codeword, but the damage is masked, or stands on n symbols and more: no.
+fn masked_or_many(make: Make, shape: Shape, random: &mut Random) -> Verdict {
+    let mut tried = 0;
+    for weight in 2..=shape.n as usize + 2 {
+        for style in STYLES {
+            let error = damage(style, shape, weight, random);
+            let clean = is_unmasked(shape, &spelled_out(shape, &error));
+            if clean && weight <= shape.most_errors() {
+                continue;
+            }
+            let sent = some_codeword(shape, random);
+            expect(make, &check(shape, &damaged(&sent, &error), &sent), Ok(0))?;
+            tried += 1;
+        }
+    }
+    let sent = some_codeword(shape, random);
+    let error = unmasked(shape, shape.n as usize, random);
+    expect(make, &check(shape, &damaged(&sent, &error), &sent), Ok(0))?;
+    Ok(tried + 1)
+}
+
+/// Another codeword, and words that are none, by the reference.
+fn anything(make: Make, shape: Shape, random: &mut Random) -> Verdict {
+    let mut tried = 0;
+    for weight in 0..=shape.n as usize + 2 {
+        let sent = some_codeword(shape, random);
+        let style = random.pick(&STYLES);
+        let received = damaged(&sent, &damage(style, shape, weight, random));
+        let others = [sent, some_codeword(shape, random), random.symbols(shape, shape.word_len()), received.clone()];
+        for proposed in others {
+            for call in [check(shape, &received, &proposed), check(shape, &proposed, &received)] {
+                let expected = call.on_reference();
+                let found = difference(call.entry, &expected, &make(&call));
+                found.map_or(Ok(()), |found| Err(format!("{}: {found}", call.text())))?;
+                tried += 1;
+            }
+        }
+    }
+    Ok(tried)
+}
+
+/// A wrong length of either is 2, whatever the symbols; then a wide symbol in either is 3.
+fn lengths_and_widths(make: Make, shape: Shape, random: &mut Random) -> Verdict {
+    let mut tried = 0;
+    let sent = some_codeword(shape, random);
+    let received = damaged(&sent, &unmasked(shape, shape.most_errors(), random));
+    let right = check(shape, &received, &sent);
+    for i in 0..2 {
+        let length = shape.word_len();
+        for other in [0, length - 1, length + 1, 2 * length] {
+            let mut call = right.clone();
+            call.slices[i].resize(other, u32::MAX);
+            expect(make, &call, Err(Refusal::Length))?;
+            call.slices[1 - i][0] = u32::MAX;
+            expect(make, &call, Err(Refusal::Length))?;
+            tried += 2;
+        }
+        for at in [0, random.below(length), length - 1].into_iter().filter(|_| shape.b < 32) {
+            for wide in [shape.largest() + 1, u32::MAX] {
+                let mut call = right.clone();
+                call.slices[i][at] = wide;
+                expect(make, &call, Err(Refusal::Width))?;
+                tried += 1;
+            }
+        }
+    }
+    Ok(tried)
+}
+
+/// Proposals that get yes in place of the received words, from a fresh session and from one that comes from
+/// elsewhere: after each arrival the same session, and the same outcome but for the symbols changed.
+fn arrivals(make: Make, shape: Shape, random: &mut Random) -> Verdict {
+    let fresh = Session::fresh(shape).expect("a lawful shape").values();
+    let mut tried = 0;
+    for start in [fresh, any_session(shape, random)] {
+        let mut sessions = [start.clone(), start];
+        for _ in 0..6 {
+            let page = Page::random(shape, random.below(page_numbers(shape).min(4)) as u32, random);
+            let sent = page.codeword(shape);
+            let weight = random.below(shape.n as usize);
+            let received = damaged(&sent, &unmasked(shape, weight, random));
+            expect(make, &check(shape, &received, &sent), Ok(1))?;
+            let scratch = random.numbers(shape.scratch_len());
+            let mut outcomes = vec![];
+            for (session, word) in sessions.iter_mut().zip([&received, &sent]) {
+                let call = Call::numbered(Entry::Arrive, shape, CLEAN, &[session, word, &scratch, &[9; 3]]);
+                let after = make(&call);
+                session.copy_from_slice(&after.slices[0]);
+                outcomes.push(after.slices[3][..2].to_vec());
+            }
+            if sessions[0] != sessions[1] || outcomes[0] != outcomes[1] {
+                return Err(format!("{shape:?}: an arrival of the proposal ends otherwise: {outcomes:?}"));
+            }
+            tried += 3;
+        }
+    }
+    Ok(tried)
+}
+
+/// Every received word with every codeword and with itself: yes exactly for what explains it.
+fn every_pair(make: Make, shape: Shape) -> Verdict {
+    let codewords = all_codewords(shape);
+    let mut tried = 0;
+    for received in all_words(shape) {
+        let found = explanations(shape, &received);
+        for proposed in codewords.iter().chain([&received]) {
+            let explains = found.iter().any(|(word, _)| word == proposed);
+            expect(make, &check(shape, &received, proposed), Ok(explains.into()))?;
+            tried += 1;
+        }
+    }
+    Ok(tried)
+}
