@@ -6,6 +6,7 @@ use lib.Dec.{eqb}
 use Rattle.parity.specs.Count.{any}
 use Rattle.parity.proofs.Tests.{any-zero, any-more, any-intro}
 use Rattle.gtb.specs.Square.{at}
+use Rattle.gtb.proofs.Bounds.{bounds}
 use Rattle.correction.specs.Error.{checkOf}
 use Rattle.correction.proofs.CheckNumbers.{check-fits}
 use Rattle.verify.specs.Steps.{hushed}
@@ -26,7 +27,7 @@ cast-n : tie.Need-cast-n Inv-loop μ-loop
 cast-n c = search needs
 
 loop-holds : tie.Need-loop-holds Inv-loop μ-loop
-loop-holds c = (search needs, any-zero _)
+loop-holds c = (let b = bounds _ (c .before .pre .0) in omega arith, any-zero _)
 
 check-number-requires : tie.Need-check-number-requires Inv-loop μ-loop
 check-number-requires c κs = search needs
