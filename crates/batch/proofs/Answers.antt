@@ -52,6 +52,11 @@ module _ (σ : Session) (k : ℕ) (words scratch outcomes : List ℕ) where
   unfolding batchStatus
   status-figures known law bad = sym (rw (known, law, bad))
 
+  pub status-directions : isWay k ≡ true → lawful (σ .shape) ≡ true → consistent σ ≡ true → wayOf k .suits (σ .shape) ≡ false
+      → status.Refused Refusal.Directions ≡ batchStatus σ k words scratch outcomes
+  unfolding batchStatus
+  status-directions known law right bad = sym (rw (known, law, right, bad))
+
   -- test 2 on all that is lent
   abbrev sized : Type 0
   sized = (wholeRun (σ .shape) words && eqb (length scratch) (scratchLength (σ .shape)) && eqb (length outcomes) 192) ≡ true
@@ -59,13 +64,13 @@ module _ (σ : Session) (k : ℕ) (words scratch outcomes : List ℕ) where
   abbrev unsized : Type 0
   unsized = (wholeRun (σ .shape) words && eqb (length scratch) (scratchLength (σ .shape)) && eqb (length outcomes) 192) ≡ false
 
-  pub status-length : isWay k ≡ true → lawful (σ .shape) ≡ true → consistent σ ≡ true → unsized → status.Refused Refusal.Length ≡ batchStatus σ k words scratch outcomes
+  pub status-length : isWay k ≡ true → lawful (σ .shape) ≡ true → consistent σ ≡ true → wayOf k .suits (σ .shape) ≡ true → unsized → status.Refused Refusal.Length ≡ batchStatus σ k words scratch outcomes
   unfolding batchStatus
-  status-length known law right bad = sym (rw (known, law, right, bad))
+  status-length known law right fits bad = sym (rw (known, law, right, fits, bad))
 
-  pub status-done : isWay k ≡ true → lawful (σ .shape) ≡ true → consistent σ ≡ true → sized → status.Done ≡ batchStatus σ k words scratch outcomes
+  pub status-done : isWay k ≡ true → lawful (σ .shape) ≡ true → consistent σ ≡ true → wayOf k .suits (σ .shape) ≡ true → sized → status.Done ≡ batchStatus σ k words scratch outcomes
   unfolding batchStatus
-  status-done known law right fit = sym (rw (known, law, right, fit))
+  status-done known law right fits fit = sym (rw (known, law, right, fits, fit))
 
   -- not turned down: all tests were passed
   pub status-tested : batchStatus σ k words scratch outcomes ≡ status.Done → Tested σ k words scratch outcomes
@@ -74,12 +79,14 @@ module _ (σ : Session) (k : ℕ) (words scratch outcomes : List ℕ) where
       let (known, h₁) = unless-done (isWay k) _ _ h in
       let (law, h₂) = unless-done (lawful (σ .shape)) _ _ h₁ in
       let (right, h₃) = unless-done (consistent σ) _ _ h₂ in
-      let (fit, h₄) = unless-done (wholeRun (σ .shape) words && eqb (length scratch) (scratchLength (σ .shape)) && eqb (length outcomes) 192) _ _ h₃ in
+      let (fits, h₄) = unless-done (wayOf k .suits (σ .shape)) _ _ h₃ in
+      let (fit, h₅) = unless-done (wholeRun (σ .shape) words && eqb (length scratch) (scratchLength (σ .shape)) && eqb (length outcomes) 192) _ _ h₄ in
       let two = and-left (wholeRun (σ .shape) words && eqb (length scratch) (scratchLength (σ .shape))) (eqb (length outcomes) 192) fit in
       record {
         known = known;
         lawful = law;
         consistent = right;
+        suits = fits;
         run = and-left (wholeRun (σ .shape) words) (eqb (length scratch) (scratchLength (σ .shape))) two;
         scratchSize = eqb-true _ _ (and-right (wholeRun (σ .shape) words) (eqb (length scratch) (scratchLength (σ .shape))) two);
         outcomesSize = eqb-true _ _ (and-right (wholeRun (σ .shape) words && eqb (length scratch) (scratchLength (σ .shape))) (eqb (length outcomes) 192) fit);

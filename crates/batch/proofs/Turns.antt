@@ -35,7 +35,7 @@ one-arrival {σ} {k} {word} {scratch} {values} {three = three} r ready stepped i
   answer = r .outcome;
   arrives = step-arrives theWays σ k (ready .consistent) stepped;
   cleared = stepped .scratchLeft ∙ ap (outcomeScratch scratch) (stepped .outcome)
-      ∙ word-cleared σ k word scratch (ready .known) (ready .lawful) (ready .wordSize) (ready .scratchSize);
+      ∙ word-cleared σ k word scratch (ready .known) (ready .lawful) (ready .suits) (ready .wordSize) (ready .scratchSize);
   written = copied ∙ whole-copy three values (ap length is ∙ outcome-size (r .outcome) ∙ sym (ready .valuesSize)) ∙ is;
 }
 
@@ -195,6 +195,7 @@ module _ {σ : Session} {k : ℕ} {words scratch : List ℕ} {m : ℕ} {words′
           known = tested .known;
           lawful = ap lawful (d .shape) ∙ tested .lawful;
           consistent = d .consistent;
+          suits = ap (wayOf k .suits) (d .shape) ∙ tested .suits;
           wordSize = mid-len (m * size) (m * size + size) words′ (omega (arith, place .room, d .size)) ∙ gap ∙ is ∙ ap (λ (s : Shape). wordLength s) (sym (d .shape));
           scratchSize = d .scratchSize ∙ tested .scratchSize ∙ ap scratchLength (sym (d .shape));
           valuesSize = mid-len (3 * m) (3 * m + 3) outcomes′ (omega (arith, list-size (le-of-lt few))) ∙ three;

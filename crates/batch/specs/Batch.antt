@@ -32,14 +32,15 @@ wholeRun s words = any 64 (λ i. eqb (length words) ((i + 1) * wordLength s))
 abbrev pub wordAt : Shape → List ℕ → ℕ → List ℕ
 wordAt s words i = take (wordLength s) (drop (i * wordLength s) words)
 
--- the tests for the whole call: 1, 18, 11, then 2 for the run, the scratch and the list of outcomes
+-- the tests for the whole call: 1, 18, 11, 16, then 2 for the run, the scratch and the list of outcomes
 unfoldable pub batchStatus : Session → ℕ → List ℕ → List ℕ → List ℕ → Status
 batchStatus σ k words scratch outcomes =
     unless (isWay k) (Refused Refusal.Shape)
     (unless (lawful (σ .shape)) (Refused (shapeRefusal (σ .shape)))
     (unless (consistent σ) (Refused Refusal.Figures)
+    (unless (wayOf k .suits (σ .shape)) (Refused Refusal.Directions)
     (unless (wholeRun (σ .shape) words && eqb (length scratch) (scratchLength (σ .shape)) && eqb (length outcomes) 192) (Refused Refusal.Length)
-    Done)))
+    Done))))
 
 -- word i as an arrival, with the way and the scratch
 abbrev pub arrivalOf : Shape → ℕ → List ℕ → List ℕ → ℕ → Arrival

@@ -8,7 +8,7 @@ use Rattle.gtb.specs.Shape.{Lawful, wordLength, scratchLength}
 use Rattle.session.specs.declared.Session.{Session}
 use Rattle.session.specs.declared.Outcome.{Outcome}
 use Rattle.session.specs.Session.{Consistent}
-use Rattle.session.specs.Arrival.{isWay, theWays, outcomeValues, Arriving}
+use Rattle.session.specs.Arrival.{isWay, wayOf, theWays, outcomeValues, Arriving}
 use Rattle.batch.specs.Batch.{wholeRun}
 
 -- the whole call has passed its tests
@@ -16,6 +16,7 @@ pub record Tested (σ : Session) (k : ℕ) (words scratch outcomes : List ℕ) :
   pub known : isWay k ≡ true
   pub lawful : Lawful (σ .shape)
   pub consistent : Consistent σ
+  pub suits : wayOf k .suits (σ .shape) ≡ true
   pub run : wholeRun (σ .shape) words ≡ true
   pub scratchSize : length scratch ≡ scratchLength (σ .shape)
   pub outcomesSize : length outcomes ≡ 192
@@ -25,6 +26,7 @@ pub record Ready (σ : Session) (k : ℕ) (word scratch values : List ℕ) : Typ
   pub known : isWay k ≡ true
   pub lawful : Lawful (σ .shape)
   pub consistent : Consistent σ
+  pub suits : wayOf k .suits (σ .shape) ≡ true
   pub wordSize : length word ≡ wordLength (σ .shape)
   pub scratchSize : length scratch ≡ scratchLength (σ .shape)
   pub valuesSize : length values ≡ 3

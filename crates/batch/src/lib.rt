@@ -55,7 +55,7 @@ fn fits(shape: Shape, words: &[u32], scratch: &[u32], outcomes: &[u32]) -> bool
     outcomes.len() == OUTCOMES
 }
 
-// The tests for the whole call: 1, 18, 11, then 2.
+// The tests for the whole call: 1, 18, 11, 16, then 2.
 fn judge(session: Session, way: u32, words: &[u32], scratch: &[u32], outcomes: &[u32]) -> Status
     ensures { λ r. ⌜ r ≡ batchStatus session way (now (words .entry)) (now (scratch .entry)) (now (outcomes .entry)) ⌝ }
 {
@@ -68,6 +68,9 @@ fn judge(session: Session, way: u32, words: &[u32], scratch: &[u32], outcomes: &
     }
     if !session.is_consistent() {
         return Status::Refused(Refusal::Figures);
+    }
+    if !session::way::suits(shape, way) {
+        return Status::Refused(Refusal::Directions);
     }
     if !fits(shape, words, scratch, outcomes) {
         return Status::Refused(Refusal::Length);

@@ -108,7 +108,7 @@ module _ (σ : Session) {line stored : List ℕ} {count : ℕ} (h : Stored line 
 -- an arrival of wrong lengths is turned down whatever they are, and of the scratch only the length counts
 opened-lawful : (s : Shape) (word scratch : List ℕ) → lawful s ≡ true
     → opened theWays s 0 word scratch ≡ unless (eqb (length word) (wordLength s) && eqb (length scratch) (scratchLength s)) (Bad Refusal.Length) (Rattle.session.specs.Arrival.openWord s (wayOf 0 .word s word) (wayOf 0 .answer s word))
-unfolding opened isWay
+unfolding opened isWay wayOf
 opened-lawful s word scratch t = rw t
 
 opened-unlawful : (s : Shape) (word scratch : List ℕ) → lawful s ≡ false → opened theWays s 0 word scratch ≡ Rattle.session.specs.Arrival.Bad (shapeRefusal s)

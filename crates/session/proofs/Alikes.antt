@@ -52,7 +52,8 @@ module _ (s : Shape) (slopes : List ℕ) (alike : Alike s slopes) where
   opened-alike way word scratch = λ i.
       unless (isWay way) (Bad Refusal.Shape)
       (unless (lawful-alike s slopes alike i) (Bad (refusal-alike s slopes alike i))
-      (unless (eqb (length word) (wordLength s) && eqb (length scratch) (scratchLength s)) (Bad Refusal.Length) (reads i)))
+      (unless (all-read way .sameSuits s slopes alike i) (Bad Refusal.Directions)
+      (unless (eqb (length word) (wordLength s) && eqb (length scratch) (scratchLength s)) (Bad Refusal.Length) (reads i))))
     where
       reads : openWord (reslope s slopes) (wayOf way .word (reslope s slopes) word) (wayOf way .answer (reslope s slopes) word) ≡ openWord s (wayOf way .word s word) (wayOf way .answer s word)
       reads =

@@ -47,27 +47,36 @@ module _ (ways : Ways) (s : Shape) (way : ℕ) (word scratch : List ℕ) where
     unfolding opened
     opened-shape h = rw (known, h)
 
-    pub opened-word : Lawful s → (length word ≡ wordLength s → ⊥) → opened ways s way word scratch ≡ Bad Refusal.Length
+    pub opened-directions : Lawful s → ways .named way .suits s ≡ false → opened ways s way word scratch ≡ Bad Refusal.Directions
     unfolding opened
-    opened-word law h = rw (known, law, ne-eqb (length word) (wordLength s) h)
+    opened-directions law h = rw (known, law, h)
 
-    pub opened-scratch : Lawful s → length word ≡ wordLength s → (length scratch ≡ scratchLength s → ⊥)
-        → opened ways s way word scratch ≡ Bad Refusal.Length
-    unfolding opened
-    opened-scratch law e h = rw (known, law, eq-eqb (length word) (wordLength s) e, ne-eqb (length scratch) (scratchLength s) h)
+    module _ (suits : ways .named way .suits s ≡ true) where
+      pub opened-word : Lawful s → (length word ≡ wordLength s → ⊥) → opened ways s way word scratch ≡ Bad Refusal.Length
+      unfolding opened
+      opened-word law h = rw (known, law, suits, ne-eqb (length word) (wordLength s) h)
 
-    -- past tests 1 and 2 the word is read
-    opened-read : {copied symbols : List ℕ} → Lent s word scratch copied symbols
-        → opened ways s way word scratch ≡ openWord s (ways .named way .word s word) (ways .named way .answer s word)
-    unfolding opened
-    opened-read lent =
-        rw
-        (known, lent .lawful, eq-eqb (length word) (wordLength s) (lent .wordSize), eq-eqb (length scratch) (scratchLength s) (lent .scratchSize))
+      pub opened-scratch : Lawful s → length word ≡ wordLength s → (length scratch ≡ scratchLength s → ⊥)
+          → opened ways s way word scratch ≡ Bad Refusal.Length
+      unfolding opened
+      opened-scratch law e h = rw (known, law, suits, eq-eqb (length word) (wordLength s) e, ne-eqb (length scratch) (scratchLength s) h)
 
--- ---- a refusal by tests 1 and 2 leaves the scratch as it was
+      -- past tests 1, 18, 16 and 2 the word is read
+      opened-read : {copied symbols : List ℕ} → Lent s word scratch copied symbols
+          → opened ways s way word scratch ≡ openWord s (ways .named way .word s word) (ways .named way .answer s word)
+      unfolding opened
+      opened-read lent =
+          rw
+          (known, lent .lawful, suits, eq-eqb (length word) (wordLength s) (lent .wordSize), eq-eqb (length scratch) (scratchLength s) (lent .scratchSize))
+
+-- ---- a refusal by tests 1, 16 and 2 leaves the scratch as it was
 pub length-scratch : {x : List ℕ} → x ≡ answer.scratchAfter Refusal.Length x
 unfolding answer.scratchAfter
 length-scratch = refl
+
+pub directions-scratch : {x : List ℕ} → x ≡ answer.scratchAfter Refusal.Directions x
+unfolding answer.scratchAfter
+directions-scratch = refl
 
 -- ---- the answers
 
@@ -163,7 +172,7 @@ module _ {σ : Session} {word scratch copied symbols scratch′ symbols′ : Lis
   opened-found : (way k : ℕ) → isWay way ≡ true → Restored (wayOf way) (σ .shape) word copied k
       → opened theWays (σ .shape) way word scratch ≡ openPage (σ .shape) symbols′ k found
   opened-found way k known restored =
-      opened-read theWays (σ .shape) way word scratch known (looked .lent)
+      opened-read theWays (σ .shape) way word scratch known (restored .suits) (looked .lent)
       ∙ rw (restored .answer, ← restored .copied, ← looked .gathered, ← looked .page)
 
   pub open-bad : {k : ℕ} {e : Refusal} {r : Arrived} → found ≡ page.Refused e → (r .session ≡ σ) × (r .outcome ≡ Refused e)
@@ -204,7 +213,7 @@ module _ {σ : Session} {word scratch copied symbols scratch′ symbols′ : Lis
       open-refuses a = open-page (rw a)
 
 -- ---- reading, on a copy of the word
-module _ (σ : Session) (way : ℕ) (known : isWay way ≡ true) {word scratch copied symbols : List ℕ} (lent : Lent (σ .shape) word scratch copied symbols) {loaded : List ℕ} (load : loaded ≡ word ++ drop (length word) copied) {left : List ℕ} {found : Decoded} (read : Reading (wayOf way) (σ .shape) loaded left found) where
+module _ (σ : Session) (way : ℕ) (known : isWay way ≡ true) (suits : wayOf way .suits (σ .shape) ≡ true) {word scratch copied symbols : List ℕ} (lent : Lent (σ .shape) word scratch copied symbols) {loaded : List ℕ} (load : loaded ≡ word ++ drop (length word) copied) {left : List ℕ} {found : Decoded} (read : Reading (wayOf way) (σ .shape) loaded left found) where
   same-word : loaded ≡ word
   same-word = load ∙ whole-copy word copied (lent .wordSize ∙ sym (lent .copySize))
 
@@ -214,8 +223,8 @@ module _ (σ : Session) (way : ℕ) (known : isWay way ≡ true) {word scratch c
   pub read-bad : {e : Refusal} {scratch′ : List ℕ} {r : Arrived} → found ≡ decoded.Refused e → scratch′ ≡ replicate (length scratch) 0
       → (r .session ≡ σ) × (r .outcome ≡ Refused e) → Stepping theWays σ way word scratch word scratch′ r
   read-bad {e} h x answered =
-      let late = all-read way .late (σ .shape) word (lent .lawful) (lent .wordSize) e (the-answer ∙ h) in
-      arriving-bad (opened-read theWays (σ .shape) way word scratch known lent ∙ ap (openWord (σ .shape) (wayOf way .word (σ .shape) word)) (the-answer ∙ h))
+      let late = all-read way .late (σ .shape) word (lent .lawful) suits (lent .wordSize) e (the-answer ∙ h) in
+      arriving-bad (opened-read theWays (σ .shape) way word scratch known suits lent ∙ ap (openWord (σ .shape) (wayOf way .word (σ .shape) word)) (the-answer ∙ h))
       (x ∙ sym (late-zeros e late scratch)) answered
 
   pub read-good : {k : ℕ} → found ≡ decoded.Corrected k
@@ -230,5 +239,5 @@ module _ (σ : Session) (way : ℕ) (known : isWay way ≡ true) {word scratch c
           copySize = ap length is ∙ all-read way .size (σ .shape) word;
           symbolsSize = lent .symbolsSize;
         },
-        record { answer = the-answer ∙ h; copied = is },
+        record { suits = suits; answer = the-answer ∙ h; copied = is },
       )

@@ -21,8 +21,7 @@ use Rattle.session.proofs.Asked.{Reads}
 pub clean-sound : (s : Shape) → Lawful s → Sound clean s
 clean-sound s legal = record {
   right = λ v e stored word allowed.
-      explains-decode s legal (damaged v e) v (weight s (at e))
-      (record {
+      let (answer, given) = explains-decode s legal (damaged v e) v (weight s (at e)) (record {
         codeword = stored;
         error = e;
         word = word;
@@ -30,7 +29,8 @@ clean-sound s legal = record {
         changed = refl;
         few = allowed .1;
         received = refl;
-      });
+      }) in
+      (answer, given, refl);
   never = λ w e by. decode-never s w e (session-foreign s e by);
 }
 
@@ -38,9 +38,10 @@ pub clean-reads : Reads clean
 unfolding decodeOf restored
 clean-reads = record {
   sound = clean-sound;
-  none = λ s. (no-damage-clean s, rw (no-damage-weight s) zero-le);
-  late = λ s word. read-late s word (correctable s word) Refusal.Uncorrectable _ refl;
+  none = λ s suits. (no-damage-clean s, rw (no-damage-weight s) zero-le);
+  late = λ s word law suits. read-late s word (correctable s word) Refusal.Uncorrectable _ refl law;
   size = λ s word. mended-size s word (errorAt s (at word));
+  sameSuits = λ s slopes alike. refl;
   sameAnswer = decode-alike;
   sameWord = restored-alike;
 }

@@ -38,9 +38,9 @@ pub brings-opened : (ways : Ways) (s : Shape) → Lawful s → AllSound ways s �
 unfolding opened
 brings-opened ways s legal sound a p k accepted b =
     let v : List ℕ = b .stored in
-    let (answer, word) = sound .sound (a .way) (b .known) .right v (b .error) (b .encodes .codeword) (b .damage) (b .allowed) in
+    let (answer, word, suits) = sound .sound (a .way) (b .known) .right v (b .error) (b .encodes .codeword) (b .damage) (b .allowed) in
     let long : length (a .word) ≡ wordLength s = ap length (b .word) ∙ length-damaged v (b .error) ∙ b .encodes .codeword .word .size in
-    rw (b .known, legal, eq-eqb (length (a .word)) (wordLength s) long, eq-eqb (length (a .scratch)) (scratchLength s) (b .scratch), b .word, word, answer)
+    rw (b .known, legal, suits, eq-eqb (length (a .word)) (wordLength s) long, eq-eqb (length (a .scratch)) (scratchLength s) (b .scratch), b .word, word, answer)
     (page-opened s p v (weight s (at (b .error))) accepted (b .encodes .information) ∙ ap (Page (p .number) (p .marks)) (b .changed))
 
 -- what was brought is one of the pages, if it is a page

@@ -69,8 +69,8 @@ same-arrival ways σ way {word} {x} {y} size h =
       scratchLeft = refl;
     }
 
--- ---- past tests 1, 18, 11 and 2 the scratch ends as zeros, whatever the answer
-module _ (σ : Session) (way : ℕ) (word scratch : List ℕ) (known : isWay way ≡ true) (law : Lawful (σ .shape)) (size : length word ≡ wordLength (σ .shape)) (room : length scratch ≡ scratchLength (σ .shape)) where
+-- ---- past tests 1, 18, 11, 16 and 2 the scratch ends as zeros, whatever the answer
+module _ (σ : Session) (way : ℕ) (word scratch : List ℕ) (known : isWay way ≡ true) (law : Lawful (σ .shape)) (fit : wayOf way .suits (σ .shape) ≡ true) (size : length word ≡ wordLength (σ .shape)) (room : length scratch ≡ scratchLength (σ .shape)) where
   page-cleared : (symbols : List ℕ) → length symbols ≡ infoLength (σ .shape) → (k : ℕ) (found : PageRead) → pageOf (σ .shape) symbols ≡ found
       → outcomeScratch scratch (outcomeOf σ (openPage (σ .shape) symbols k found)) ≡ replicate (length scratch) 0
   unfolding outcomeOf
@@ -83,10 +83,10 @@ module _ (σ : Session) (way : ℕ) (word scratch : List ℕ) (known : isWay way
   unfolding outcomeOf extractOf
   read-cleared v (decoded.Corrected k) h =
       page-cleared (extractOf (σ .shape) v) (length-tabulate (infoLength (σ .shape)) (λ j. at v (infoPosition (σ .shape) j))) k (pageOf (σ .shape) (extractOf (σ .shape) v)) refl
-  read-cleared v (decoded.Refused e) h = late-zeros e (all-read way .late (σ .shape) word law size e h) scratch
+  read-cleared v (decoded.Refused e) h = late-zeros e (all-read way .late (σ .shape) word law fit size e h) scratch
 
   pub word-cleared : outcomeScratch scratch (outcomeOf σ (opened theWays (σ .shape) way word scratch)) ≡ replicate (length scratch) 0
   unfolding opened
   word-cleared =
-      rw (known, law, eq-eqb (length word) (wordLength (σ .shape)) size, eq-eqb (length scratch) (scratchLength (σ .shape)) room)
+      rw (known, law, fit, eq-eqb (length word) (wordLength (σ .shape)) size, eq-eqb (length scratch) (scratchLength (σ .shape)) room)
       (read-cleared (wayOf way .word (σ .shape) word) (wayOf way .answer (σ .shape) word) refl)

@@ -8,6 +8,7 @@ pub mod NoDamage
 pub mod Asked
 pub mod Clean
 pub mod Vote
+pub mod Two
 pub mod Ways
 pub mod Arrive
 pub mod Machine
@@ -18,3 +19,4 @@ pub mod Demand
 pub mod Undamaged
 pub mod Alikes
 pub mod Joins
+pub mod Examples

@@ -70,8 +70,10 @@ opened-sane ways s sound way word scratch =
     (λ known.
     unless-sane (lawful s) (shapeRefusal s) _ (λ no h. session-foreign s (shapeRefusal s) h .shape no refl)
     (λ _.
+    unless-sane (ways .named way .suits s) Refusal.Directions _ (λ _ h. clash h refl)
+    (λ _.
     unless-sane (eqb (length word) (wordLength s) && eqb (length scratch) (scratchLength s)) Refusal.Length _ (λ _ h. session-foreign s Refusal.Length h .length refl)
-    (λ _. word-sane s (ways .named way .word s word) (ways .named way .answer s word) (sound .sound way known .never word))))
+    (λ _. word-sane s (ways .named way .word s word) (ways .named way .answer s word) (sound .sound way known .never word)))))
 
 -- ---- what an arrival read the clean way, number 0, is never turned down by
 page-opens : (s : Shape) (symbols : List ℕ) (k : ℕ) (e : Refusal) (r : PageRead) → (r ≡ page.Refused e → ⊥) → openPage s symbols k r ≡ Bad e → ⊥

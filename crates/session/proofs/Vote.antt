@@ -20,7 +20,7 @@ use Rattle.session.proofs.Asked.{Reads}
 
 pub vote-sound : (s : Shape) → Lawful s → Sound vote s
 vote-sound s legal = record {
-  right = majority-right s legal;
+  right = λ v e stored word allowed. let (answer, given) = majority-right s legal v e stored word allowed in (answer, given, refl);
   never = λ w e by. majority-never s w e (session-foreign s e by) (λ h. clash by (ap bySession (sym h)));
 }
 
@@ -28,9 +28,10 @@ pub vote-reads : Reads vote
 unfolding majorityOf voted
 vote-reads = record {
   sound = vote-sound;
-  none = λ s. rw (no-damage-weight s) zero-le;
-  late = λ s word. read-late s word (elected s word) Refusal.NoMajority _ refl;
+  none = λ s suits. rw (no-damage-weight s) zero-le;
+  late = λ s word law suits. read-late s word (elected s word) Refusal.NoMajority _ refl law;
   size = λ s word. mended-size s word (votedAt s (at word));
+  sameSuits = λ s slopes alike. refl;
   sameAnswer = majority-alike;
   sameWord = voted-alike;
 }

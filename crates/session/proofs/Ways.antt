@@ -3,31 +3,38 @@ use mathlib.Core.Path.{_≡_, refl}
 use mathlib.Core.Bool.{true}
 use mathlib.Core.List.{List}
 use mathlib.Core.Logic.{_⊎_, inl, inr}
-use Prim.Native.Nat.{ℕ, zero, suc}
+use Prim.Native.Nat.{ℕ, zero, suc, _<_, _≤_}
 use native.Mathlib.Omega.{arith}
-use borrow.Author.Tests.{ltb-true}
+use lib.Dec.{leb}
+use borrow.Author.Tests.{ltb-true, lt-leb}
 use Rattle.gtb.specs.declared.Shape.{Shape}
+use Rattle.gtb.specs.declared.Refusal.{Refusal}
 use Rattle.gtb.specs.Shape.{Lawful}
 use Rattle.correction.specs.declared.Decoded.{Decoded}
 use Rattle.decoder.specs.Decode.{Decoding}
 use Rattle.majority.specs.Majority.{Voting}
-use Rattle.session.specs.Arrival.{AllSound, clean, vote, isWay, wayOf, theWays}
+use Rattle.double.specs.Double.{threefold, Pairing}
+use Rattle.session.specs.Arrival.{AllSound, clean, vote, two, isWay, wayOf, theWays, Bad, opened}
 use Rattle.session.specs.Steps.{Reading}
 use Rattle.session.proofs.Asked.{Reads}
 use Rattle.session.proofs.Clean.{clean-reads}
 use Rattle.session.proofs.Vote.{vote-reads}
+use Rattle.session.proofs.Two.{two-reads}
 
--- there are these two and no other
-pub two-ways : (way : ℕ) → isWay way ≡ true → ((way ≡ 0) × (wayOf way ≡ clean)) ⊎ ((way ≡ 1) × (wayOf way ≡ vote))
+-- there are these three and no other
+pub three-ways : (way : ℕ) → isWay way ≡ true
+    → ((way ≡ 0) × (wayOf way ≡ clean)) ⊎ (((way ≡ 1) × (wayOf way ≡ vote)) ⊎ ((way ≡ 2) × (wayOf way ≡ two)))
 unfolding isWay wayOf
-two-ways zero known = inl (refl, refl)
-two-ways (suc zero) known = inr (refl, refl)
-two-ways (suc (suc way)) known = absurd (omega (arith, ltb-true))
+three-ways zero known = inl (refl, refl)
+three-ways (suc zero) known = inr (inl (refl, refl))
+three-ways (suc (suc zero)) known = inr (inr (refl, refl))
+three-ways (suc (suc (suc way))) known = absurd (omega (arith, ltb-true))
 
 pub all-read : (way : ℕ) → Reads (wayOf way)
 unfolding wayOf
 all-read zero = clean-reads
-all-read (suc way) = vote-reads
+all-read (suc zero) = vote-reads
+all-read (suc (suc way)) = two-reads
 
 -- each is sound, whatever the shape
 pub all-sound : (s : Shape) → Lawful s → AllSound theWays s
@@ -39,7 +46,30 @@ module _ {s : Shape} {w w′ : List ℕ} {r : Decoded} where
   unfolding wayOf
   reads-clean way h read = rw h (record { answer = read .answer; word = read .word })
 
-  pub reads-vote : (way : ℕ) → (way ≡ 0 → ⊥) → Voting s w w′ r → Reading (wayOf way) s w w′ r
+  pub reads-vote : (way : ℕ) → way ≡ 1 → Voting s w w′ r → Reading (wayOf way) s w w′ r
   unfolding wayOf
-  reads-vote zero h read = absurd (h refl)
-  reads-vote (suc way) h read = record { answer = read .answer; word = read .word }
+  reads-vote way h read = rw h (record { answer = read .answer; word = read .word })
+
+  pub reads-two : (way : ℕ) → (way ≡ 0 → ⊥) → (way ≡ 1 → ⊥) → Pairing s w w′ r → Reading (wayOf way) s w w′ r
+  unfolding wayOf
+  reads-two zero h g read = absurd (h refl)
+  reads-two (suc zero) h g read = absurd (g refl)
+  reads-two (suc (suc way)) h g read = record { answer = read .answer; word = read .word }
+
+-- test 16, as the code tells: the first two ways suit every shape
+pub suits-early : (way : ℕ) (s : Shape) → way < 2 → wayOf way .suits s ≡ true
+unfolding wayOf
+suits-early zero s l = refl
+suits-early (suc zero) s l = refl
+suits-early (suc (suc way)) s l = absurd (omega arith)
+
+pub suits-late : (way : ℕ) (s : Shape) → 2 ≤ way → wayOf way .suits s ≡ leb 3 (s .n)
+unfolding wayOf threefold
+suits-late zero s l = absurd (omega arith)
+suits-late (suc zero) s l = absurd (omega arith)
+suits-late (suc (suc way)) s l = refl
+
+-- with two directions way 2 is turned down by 16, whatever is lent
+pub two-directions : (s : Shape) (word scratch : List ℕ) → Lawful s → s .n < 3 → opened theWays s 2 word scratch ≡ Bad Refusal.Directions
+unfolding opened isWay wayOf threefold
+two-directions s word scratch law few = rw (law, lt-leb 3 (s .n) few)

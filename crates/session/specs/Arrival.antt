@@ -17,6 +17,7 @@ use Rattle.decoder.specs.Damage.{Unmasked}
 use Rattle.correction.specs.Error.{weight, damaged}
 use Rattle.decoder.specs.Decode.{decodeOf, restored}
 use Rattle.majority.specs.Majority.{majorityOf, voted}
+use Rattle.double.specs.Double.{threefold, paired, doubleOf}
 use Rattle.page.specs.declared.PageRead.{PageRead}
 use Rattle.page.specs.declared.PageRead.the-variants as page
 use Rattle.page.specs.Page.{pageOf, marksOf}
@@ -32,29 +33,34 @@ outcomeValues (Taken number k) = 0 ∷ number ∷ k ∷ []
 outcomeValues (Again number k) = 1 ∷ number ∷ k ∷ []
 outcomeValues (Refused e) = 2 ∷ refusalNumber e ∷ 0 ∷ []
 
--- a way of reading: its answer, the stored word that it gives, and the damage that it is to undo
+-- a way of reading: its answer, the stored word that it gives, the damage that it is to undo, and test 16: whether it can be used with the shape at all
 pub record Way : Type 1 where
   pub answer : Shape → List ℕ → Decoded
   pub word : Shape → List ℕ → List ℕ
   pub Allowed : Shape → (ℕ → ℕ) → Type 0
+  pub suits : Shape → Bool
 
 -- refusals that the session alone gives: 9 and 11
 abbrev pub bySession : Refusal → Bool
 bySession e = eqb (refusalNumber e) 9 || eqb (refusalNumber e) 11
 
--- it gives, for every stored word and allowed damage, that word and the number of digits changed; it never refuses as a session does
+-- it gives, for every stored word and allowed damage, that word and the number of digits changed, and then can be used with the shape; it never refuses as a session does
 pub record Sound (way : Way) (s : Shape) : Type 0 where
   pub right : (v e : List ℕ) → Codeword s v → Word s e → way .Allowed s (at e)
-      → (way .answer s (damaged v e) ≡ decoded.Corrected (weight s (at e))) × (way .word s (damaged v e) ≡ v)
+      → (way .answer s (damaged v e) ≡ decoded.Corrected (weight s (at e))) × (way .word s (damaged v e) ≡ v) × (way .suits s ≡ true)
   pub never : (w : List ℕ) (e : Refusal) → bySession e ≡ true → way .answer s w ≡ decoded.Refused e → ⊥
 
 -- reading clean damage to at most n - 1 digits (RULES 3)
 abbrev pub clean : Way
-clean = record { answer = decodeOf; word = restored; Allowed = λ s e. Unmasked s e × (weight s e ≤ s .n - 1) }
+clean = record { answer = decodeOf; word = restored; Allowed = λ s e. Unmasked s e × (weight s e ≤ s .n - 1); suits = λ s. true }
 
 -- reading by vote any damage to at most n/2 digits, rounded down, clean or not (RULES 3.2)
 abbrev pub vote : Way
-vote = record { answer = majorityOf; word = voted; Allowed = λ s e. weight s e ≤ s .n / 2 }
+vote = record { answer = majorityOf; word = voted; Allowed = λ s e. weight s e ≤ s .n / 2; suits = λ s. true }
+
+-- reading two wrong digits, clean or not, with three directions or more (RULES 3.3); with two none is allowed, since every arrival is turned down
+abbrev pub two : Way
+two = record { answer = doubleOf; word = paired; Allowed = λ s e. (3 ≤ s .n) × (weight s e ≤ 2); suits = threefold }
 
 -- the ways that an arrival may name, by number
 pub record Ways : Type 1 where
@@ -65,14 +71,15 @@ pub record Ways : Type 1 where
 pub record AllSound (ways : Ways) (s : Shape) : Type 0 where
   pub sound : (k : ℕ) → ways .known k ≡ true → Sound (ways .named k) s
 
--- test 1 on the way's number: 0 is clean, 1 by vote
+-- test 1 on the way's number: 0 is clean, 1 by vote, 2 two wrong digits
 unfoldable pub isWay : ℕ → Bool
-isWay k = ltb k 2
+isWay k = ltb k 3
 
 -- the way with this number
 unfoldable pub wayOf : ℕ → Way
 wayOf zero = clean
-wayOf (suc k) = vote
+wayOf (suc zero) = vote
+wayOf (suc (suc k)) = two
 
 abbrev pub theWays : Ways
 theWays = record { known = isWay; named = wayOf }
@@ -92,15 +99,16 @@ abbrev pub openWord : Shape → List ℕ → Decoded → Opened
 openWord s v (decoded.Corrected k) = openPage s (extractOf s v) k (pageOf s (extractOf s v))
 openWord s v (decoded.Refused e) = Bad e
 
--- tests 1, 18, 2 to 8, for a session whose figures are right: a number that names no way is 1, whatever the shape; the word is read that way, its data digits taken out, the page read
+-- tests 1, 18, 16, 2 to 8, for a session whose figures are right: a number that names no way is 1, whatever the shape; the word is read that way, its data digits taken out, the page read
 unfoldable pub opened : Ways → Shape → ℕ → List ℕ → List ℕ → Opened
 opened ways s k word scratch =
     unless (ways .known k) (Bad Refusal.Shape)
     (unless (lawful s) (Bad (shapeRefusal s))
+    (unless (ways .named k .suits s) (Bad Refusal.Directions)
     (unless (eqb (length word) (wordLength s) && eqb (length scratch) (scratchLength s)) (Bad Refusal.Length)
-    (openWord s (ways .named k .word s word) (ways .named k .answer s word))))
+    (openWord s (ways .named k .word s word) (ways .named k .answer s word)))))
 
--- with test 11, which comes directly after 1 and 18
+-- with test 11, which comes directly after 1 and 18, so before 16
 unfoldable pub presented : Ways → Session → ℕ → List ℕ → List ℕ → Opened
 presented ways σ k word scratch =
     unless (ways .known k) (Bad Refusal.Shape)

@@ -46,8 +46,9 @@ pub record Reading (way : Way) (s : Shape) (w w′ : List ℕ) (r : Decoded) : T
   pub answer : r ≡ way .answer s w
   pub word : w′ ≡ decodedWord w (way .word s w) r
 
--- the copy holds what reading gives
+-- the copy holds what reading gives, by a way that can be used with the shape
 pub record Restored (way : Way) (s : Shape) (word copy : List ℕ) (k : ℕ) : Type 0 where
+  pub suits : way .suits s ≡ true
   pub answer : way .answer s word ≡ Corrected k
   pub copied : copy ≡ way .word s word
 

@@ -17,7 +17,7 @@ ghost use Prim.Native.Nat.{_<_};
 ghost use Rattle.gtb.specs.Shape.{Lawful};
 ghost use Rattle.gtb.specs.Answer.{Answered};
 ghost use Rattle.session.specs.Session.{consistent, Consistent, countedOf, countedNumber, Beginning};
-ghost use Rattle.session.specs.Arrival.{isWay, theWays, Opened, Arriving, Stepping, isAccepted};
+ghost use Rattle.session.specs.Arrival.{isWay, wayOf, theWays, Opened, Arriving, Stepping, isAccepted};
 ghost use Rattle.session.specs.Steps.{Adding, Counts, Functions, Settling, Lent, Deciding};
 
 // A session handed in from elsewhere may hold anything, a bad shape too.
@@ -144,12 +144,15 @@ impl Session {
         self.settle_word(way, word, scratch)
     }
 
-    // A word that arrives, past tests 1, 18 and 11. Past test 2 it works on a copy, so that a word refused later is still the word that came.
+    // A word that arrives, past tests 1, 18 and 11: test 16, then 2. Past test 2 it works on a copy, so that a word refused later is still the word that came.
     pub fn settle_word(self, way: u32, word: &mut [u32], scratch: &mut [u32]) -> Arrived
         requires { ⌜ (isWay way ≡ true) × Lawful (self .shape) × Consistent self ⌝ }
         ensures { λ r. ⌜ Stepping theWays self way (now (word .entry)) (now (scratch .entry)) (now (word .exit)) (now (scratch .exit)) r ⌝ }
     {
         let shape = self.shape;
+        if !way::suits(shape, way) {
+            return self.refused(Refusal::Directions);
+        }
         let size = word_length(shape);
         if word.len() != size {
             return self.refused(Refusal::Length);
@@ -188,7 +191,7 @@ impl Session {
         copied: &mut [u32],
         symbols: &mut [u32],
     ) -> Arrived
-        requires { ⌜ (isWay way ≡ true) × Consistent self × Lent (self .shape) (now word) (now scratch) (now copied) (now symbols) ⌝ }
+        requires { ⌜ (isWay way ≡ true) × (wayOf way .suits (self .shape) ≡ true) × Consistent self × Lent (self .shape) (now word) (now scratch) (now copied) (now symbols) ⌝ }
         ensures { λ r. ⌜ Stepping theWays self way (now (word .entry)) (now (scratch .entry)) (now (word .exit)) (now (scratch .exit)) r ⌝ }
     {
         let shape = self.shape;

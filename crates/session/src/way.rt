@@ -9,13 +9,16 @@ ghost use Rattle.session.specs.Steps.{Reading};
 
 impl Session {
     // Numbers of ways of reading are below this.
-    pub const WAYS: u32 = 2;
+    pub const WAYS: u32 = 3;
 
     // The way that undoes clean damage to at most n - 1 symbols.
     pub const CLEAN: u32 = 0;
 
     // The way that undoes any damage to at most n / 2 symbols.
     pub const VOTE: u32 = 1;
+
+    // The way that undoes any damage to at most two symbols, with three directions or more.
+    pub const TWO: u32 = 2;
 }
 
 // The number names a way.
@@ -23,6 +26,16 @@ pub fn is_way(way: u32) -> bool
     ensures { λ r. ⌜ r ≡ isWay way ⌝ }
 {
     way < Session::WAYS
+}
+
+// Test 16: the way can be used with the shape.
+pub fn suits(shape: Shape, way: u32) -> bool
+    ensures { λ r. ⌜ r ≡ wayOf way .suits shape ⌝ }
+{
+    if way < Session::TWO {
+        return true;
+    }
+    shape.n >= 3
 }
 
 // A word read the way that is named: here the ways meet.
@@ -33,5 +46,8 @@ pub fn read_word(shape: Shape, way: u32, word: &mut [u32]) -> Decoded
     if way == Session::CLEAN {
         return decoder::decode(shape, word);
     }
-    majority::decode_majority(shape, word)
+    if way == Session::VOTE {
+        return majority::decode_majority(shape, word);
+    }
+    double::decode_two(shape, word)
 }

@@ -6,8 +6,8 @@ use borrow.Author.Tests.{not-true, not-false}
 use Rattle.gtb.specs.declared.Status.the-variants.{Refused}
 use Rattle.gtb.specs.Shape.{Lawful}
 use Rattle.session.specs.Session.{Consistent}
-use Rattle.session.specs.Arrival.{isWay}
-use Rattle.batch.proofs.Answers.{status-way, status-shape, status-figures, status-length, status-done}
+use Rattle.session.specs.Arrival.{isWay, wayOf}
+use Rattle.batch.proofs.Answers.{status-way, status-shape, status-figures, status-directions, status-length, status-done}
 use Rattle.batch.proofs.judge.Statement.{statement}
 use Rattle.batch.proofs.judge.Tie as tie
 
@@ -15,7 +15,7 @@ use Rattle.batch.proofs.judge.Tie as tie
 abbrev start : tie.Else1 → tie.Start
 start c = c .before .before .before .before .before
 
--- past the first test there is such a way, past the second the shape is lawful, past the third the figures are right
+-- past the first test there is such a way, past the second the shape is lawful, past the third the figures are right, past the fourth the way suits the shape
 known : (c : tie.Else1) → isWay (start c .args .way) ≡ true
 known c = sym (c .before .is-way .ensures) ∙ not-false _ (c .if1 .left)
 
@@ -24,6 +24,9 @@ legal c = sym (c .before .is-lawful .ensures) ∙ not-false _ (c .if2 .left)
 
 right : (c : tie.Else3) → Consistent (start (c .before .before .before .before .before) .args .session)
 right c = sym (c .before .is-consistent .ensures) ∙ not-false _ (c .if3 .left)
+
+fitting : (c : tie.Else4) → wayOf (start (c .before .before .before .before .before .before .before) .args .way) .suits (start (c .before .before .before .before .before .before .before) .args .session .shape) ≡ true
+fitting c = sym (c .before .suits .ensures) ∙ not-false _ (c .if4 .left)
 
 is-way-requires : tie.Need-is-way-requires
 is-way-requires c κs = search needs
@@ -51,20 +54,31 @@ returns-3 c =
     let passed = c .before .before in
     status-figures _ _ _ _ _ (known (passed .before .before .before)) (legal passed) (sym (c .before .is-consistent .ensures) ∙ not-true _ (c .if3 .taken))
 
-fits-requires : tie.Need-fits-requires
-fits-requires c κs = legal (c .before .before)
+suits-requires : tie.Need-suits-requires
+suits-requires c κs = search needs
 
 returns-4 : tie.Need-returns-4
 returns-4 c =
     let figures = c .before .before in
     let passed = figures .before .before in
-    status-length _ _ _ _ _ (known (passed .before .before .before)) (legal passed) (right figures) (sym (c .before .fits2 .ensures) ∙ not-true _ (c .if4 .taken))
+    status-directions _ _ _ _ _ (known (passed .before .before .before)) (legal passed) (right figures) (sym (c .before .suits .ensures) ∙ not-true _ (c .if4 .taken))
+
+fits-requires : tie.Need-fits-requires
+fits-requires c κs = legal (c .before .before .before .before)
 
 returns-5 : tie.Need-returns-5
 returns-5 c =
-    let figures = c .before .before in
+    let suited = c .before .before in
+    let figures = suited .before .before in
     let passed = figures .before .before in
-    status-done _ _ _ _ _ (known (passed .before .before .before)) (legal passed) (right figures) (sym (c .before .fits2 .ensures) ∙ not-false _ (c .if4 .left))
+    status-length _ _ _ _ _ (known (passed .before .before .before)) (legal passed) (right figures) (fitting suited) (sym (c .before .fits2 .ensures) ∙ not-true _ (c .if5 .taken))
+
+returns-6 : tie.Need-returns-6
+returns-6 c =
+    let suited = c .before .before in
+    let figures = suited .before .before in
+    let passed = figures .before .before in
+    status-done _ _ _ _ _ (known (passed .before .before .before)) (legal passed) (right figures) (fitting suited) (sym (c .before .fits2 .ensures) ∙ not-false _ (c .if5 .left))
 
 pub judge-spec : {M : Type 1} → statement M
 judge-spec =
@@ -77,6 +91,8 @@ judge-spec =
     returns-2
     is-consistent-requires
     returns-3
-    fits-requires
+    suits-requires
     returns-4
-    returns-5)
+    fits-requires
+    returns-5
+    returns-6)

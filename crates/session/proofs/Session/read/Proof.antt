@@ -22,7 +22,7 @@ restored : (c : tie.After-read-word) {k : ℕ} → c .read-word .result ≡ Corr
     × Restored (wayOf (start c .args .way)) (start c .args .self .shape) (start c .args .word .now) (c .read-word .last .1 .1 .0) k
 restored c h =
     let asked = start c .pre in
-    read-good (start c .args .self) (start c .args .way) (asked .0) (asked .2) (copying c .copy .ensures) (c .read-word .ensures) h
+    read-good (start c .args .self) (start c .args .way) (asked .0) (asked .1) (asked .3) (copying c .copy .ensures) (c .read-word .ensures) h
 
 copy-requires : tie.Need-copy-requires
 copy-requires c κs = search needs
@@ -46,7 +46,7 @@ open-requires : tie.Need-open-requires
 open-requires c κs =
     let k = c .before .before .before .before .before in
     let d = k .before .before .before .before in
-    (start d .pre .1, restored d (k .k .given .1) .0)
+    (start d .pre .2, restored d (k .k .given .1) .0)
 
 same-length : tie.Need-same-length
 same-length c = search needs
@@ -62,7 +62,7 @@ returns c =
     let e = c .before .before .before .before .before .before in
     let d = e .before .before .before .before in
     let asked = start d .pre in
-    read-bad (start d .args .self) (start d .args .way) (asked .0) (asked .2) (copying d .copy .ensures) (d .read-word .ensures) (e .e .given .1)
+    read-bad (start d .args .self) (start d .args .way) (asked .0) (asked .1) (asked .3) (copying d .copy .ensures) (d .read-word .ensures) (e .e .given .1)
     (c .before .before .before .clear .ensures) (c .refused .ensures)
 
 same-length-4 : tie.Need-same-length-4

@@ -1,6 +1,6 @@
 -- `session::way::read_word` meets its contract: what each reader ensures is what its way gives.
 use borrow.Author.Needs.{needs}
-use Rattle.session.proofs.Ways.{reads-clean, reads-vote}
+use Rattle.session.proofs.Ways.{reads-clean, reads-vote, reads-two}
 use Rattle.session.proofs.way.read_word.Statement.{statement}
 use Rattle.session.proofs.way.read_word.Tie as tie
 
@@ -20,7 +20,19 @@ same-length-2 : tie.Need-same-length-2
 same-length-2 c = search needs
 
 returns-2 : tie.Need-returns-2
-returns-2 c = reads-vote _ (c .before .before .before .before .if1 .left) (c .before .before .decode-majority .ensures)
+returns-2 c = reads-vote _ (c .before .before .before .before .if2 .taken) (c .before .before .decode-majority .ensures)
+
+decode-two-requires : tie.Need-decode-two-requires
+decode-two-requires c κs = search needs
+
+same-length-3 : tie.Need-same-length-3
+same-length-3 c = search needs
+
+returns-3 : tie.Need-returns-3
+returns-3 c =
+    let last = c .before .before .before .before in
+    reads-two _ (last .before .if1 .left) (last .if2 .left) (c .before .before .decode-two .ensures)
 
 pub read-word-spec : {M : Type 1} → statement M
-read-word-spec = tie.close (tie.spec decode-requires same-length returns decode-majority-requires same-length-2 returns-2)
+read-word-spec =
+    tie.close (tie.spec decode-requires same-length returns decode-majority-requires same-length-2 returns-2 decode-two-requires same-length-3 returns-3)
