@@ -31,7 +31,7 @@ module _ (s : Shape) (law : Lawful s) (words : List ℕ) where
   pub run-words : wholeRun s words ≡ true → Whole s words
   unfolding wholeRun
   run-words h =
-      let (i, l, e) = any-elim 64 (λ j. eqb (length words) ((j + 1) * wordLength s)) h in
+      let (i, l, e) = any-elim _ _ h in
       let size : length words ≡ (i + 1) * wordLength s = eqb-true _ _ e in
       let many : wordsIn s words ≡ i + 1 = div-eq-of-eq-mul-left (word-positive s law) size in
       record { size = size ∙ ap (λ (m : ℕ). m * wordLength s) (sym many); some = omega arith; few = omega arith }
@@ -40,7 +40,7 @@ module _ (s : Shape) (law : Lawful s) (words : List ℕ) where
   unfolding wholeRun
   run-whole w =
       let last : wordsIn s words ≡ wordsIn s words - 1 + 1 = omega (arith, w .some) in
-      any-intro 64 (λ j. eqb (length words) ((j + 1) * wordLength s)) (wordsIn s words - 1) (omega (arith, w .some, w .few))
+      any-intro _ _ (wordsIn s words - 1) (omega (arith, w .some, w .few))
       (eq-eqb (length words) ((wordsIn s words - 1 + 1) * wordLength s) (w .size ∙ ap (λ (m : ℕ). m * wordLength s) last))
 
   run-not : (Whole s words → ⊥) → false ≡ wholeRun s words

@@ -24,16 +24,16 @@ const SHAPES: [Shape; 6] = [
 ];
 
 #[derive(Clone, Copy)]
-enum Kind {
+pub(super) enum Kind {
     Undamaged,
     Damaged,
     Refused,
 }
 
 impl Kind {
-    const ALL: [Kind; 3] = [Kind::Undamaged, Kind::Damaged, Kind::Refused];
+    pub(super) const ALL: [Kind; 3] = [Kind::Undamaged, Kind::Damaged, Kind::Refused];
 
-    fn name(self) -> &'static str {
+    pub(super) fn name(self) -> &'static str {
         match self {
             Kind::Undamaged => "undamaged",
             Kind::Damaged => "damaged",
@@ -42,7 +42,7 @@ impl Kind {
     }
 
     /// Damages a codeword: an unmasked error of weight 1 to n - 1, or one that reading refuses.
-    fn damage(self, shape: Shape, word: &mut [u32], random: &mut Random) {
+    pub(super) fn damage(self, shape: Shape, word: &mut [u32], random: &mut Random) {
         let error = match self {
             Kind::Undamaged => return,
             Kind::Damaged => unmasked(shape, 1 + random.below(shape.most_errors()), random),
