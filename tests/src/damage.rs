@@ -1,7 +1,7 @@
 //! Errors to put on codewords: some that are easy to tell, and some that mislead a careless reader.
 
 use crate::random::Random;
-use crate::reference::session::{CLEAN, VOTE};
+use crate::reference::session::{CLEAN, TWO, VOTE};
 use crate::reference::shape::Shape;
 use crate::reference::square::{check, is_unmasked};
 
@@ -53,7 +53,7 @@ pub fn unmasked(shape: Shape, weight: usize, random: &mut Random) -> Error {
     crossing_no_check_twice(shape, weight, random)
 }
 
-/// An error that this way of reading must undo.
+/// An error that this way of reading must undo, with a shape that it can be used with.
 pub fn allowed(way: u32, shape: Shape, random: &mut Random) -> Error {
     match way {
         CLEAN => {
@@ -62,6 +62,10 @@ pub fn allowed(way: u32, shape: Shape, random: &mut Random) -> Error {
         }
         VOTE => {
             let weight = random.below(shape.most_votes() + 1);
+            make(random.pick(&STYLES), shape, weight, random)
+        }
+        TWO => {
+            let weight = random.below(3);
             make(random.pick(&STYLES), shape, weight, random)
         }
         _ => panic!("{way} is no way of reading"),

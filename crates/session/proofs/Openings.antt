@@ -8,11 +8,12 @@ use native.Mathlib.Nat.{mul-le-mul}
 use native.Mathlib.Omega.{arith}
 use lib.Dec.{eqb}
 use lib.ListN.{length}
-use borrow.Author.Tests.{eqb-true}
+use borrow.Author.Tests.{eqb-true, lt-leb}
 use Rattle.parity.proofs.Tests.{clash, or-cases}
 use Rattle.gtb.proofs.Answers.{unless-never, Foreign, late-foreign}
 use Rattle.page.proofs.Refusals.{page-never}
 use Rattle.decoder.specs.Decode.{decodeOf, restored}
+use Rattle.double.specs.Double.{threefold}
 use Rattle.decoder.proofs.Refusals.{decode-never}
 use Rattle.gtb.specs.declared.Shape.{Shape}
 use Rattle.gtb.specs.declared.Refusal.{Refusal}
@@ -62,6 +63,11 @@ word-sane s v (decoded.Refused e) h = λ x. h e x refl
 unless-sane : (t : Bool) (e : Refusal) (next : Opened) → (t ≡ false → bySession e ≡ true → ⊥) → (t ≡ true → Sane next) → Sane (unless t (Bad e) next)
 unless-sane true e next l h = h refl
 unless-sane false e next l h = l refl
+
+-- with two directions way 2 is turned down by 16, whatever is lent
+pub two-directions : (s : Shape) (word scratch : List ℕ) → Lawful s → s .n < 3 → opened theWays s 2 word scratch ≡ Bad Refusal.Directions
+unfolding opened isWay wayOf threefold
+two-directions s word scratch law few = rw (law, lt-leb 3 (s .n) few)
 
 pub opened-sane : (ways : Ways) (s : Shape) → AllSound ways s → (way : ℕ) (word scratch : List ℕ) → Sane (opened ways s way word scratch)
 unfolding opened

@@ -6,15 +6,14 @@ use mathlib.Core.Logic.{_⊎_, inl, inr}
 use Prim.Native.Nat.{ℕ, zero, suc, _<_, _≤_}
 use native.Mathlib.Omega.{arith}
 use lib.Dec.{leb}
-use borrow.Author.Tests.{ltb-true, lt-leb}
+use borrow.Author.Tests.{ltb-true}
 use Rattle.gtb.specs.declared.Shape.{Shape}
-use Rattle.gtb.specs.declared.Refusal.{Refusal}
 use Rattle.gtb.specs.Shape.{Lawful}
 use Rattle.correction.specs.declared.Decoded.{Decoded}
 use Rattle.decoder.specs.Decode.{Decoding}
 use Rattle.majority.specs.Majority.{Voting}
 use Rattle.double.specs.Double.{threefold, Pairing}
-use Rattle.session.specs.Arrival.{AllSound, clean, vote, two, isWay, wayOf, theWays, Bad, opened}
+use Rattle.session.specs.Arrival.{AllSound, clean, vote, two, isWay, wayOf, theWays}
 use Rattle.session.specs.Steps.{Reading}
 use Rattle.session.proofs.Asked.{Reads}
 use Rattle.session.proofs.Clean.{clean-reads}
@@ -56,7 +55,7 @@ module _ {s : Shape} {w w′ : List ℕ} {r : Decoded} where
   reads-two (suc zero) h g read = absurd (g refl)
   reads-two (suc (suc way)) h g read = record { answer = read .answer; word = read .word }
 
--- test 16, as the code tells: the first two ways suit every shape
+-- test 16: the first two suit every shape, the last one those with three directions or more
 pub suits-early : (way : ℕ) (s : Shape) → way < 2 → wayOf way .suits s ≡ true
 unfolding wayOf
 suits-early zero s l = refl
@@ -68,8 +67,3 @@ unfolding wayOf threefold
 suits-late zero s l = absurd (omega arith)
 suits-late (suc zero) s l = absurd (omega arith)
 suits-late (suc (suc way)) s l = refl
-
--- with two directions way 2 is turned down by 16, whatever is lent
-pub two-directions : (s : Shape) (word scratch : List ℕ) → Lawful s → s .n < 3 → opened theWays s 2 word scratch ≡ Bad Refusal.Directions
-unfolding opened isWay wayOf threefold
-two-directions s word scratch law few = rw (law, lt-leb 3 (s .n) few)

@@ -8,7 +8,7 @@ use crate::capture::{page_numbers, recording, Page};
 use crate::damage::{allowed, apply, make as damage, Style};
 use crate::random::Random;
 use crate::reference::page::{FUNCTIONS, PAGES};
-use crate::reference::session::{BUNDLE, CALLS_AT, OUTCOMES_LEN, PAGES_AT, WAYS};
+use crate::reference::session::{ways_of, BUNDLE, CALLS_AT, OUTCOMES_LEN, PAGES_AT, WAYS};
 use crate::reference::shape::{orders_and_directions, Refusal, Shape};
 use crate::report::{Group, Unit, Verdict};
 
@@ -37,7 +37,7 @@ pub fn group(name: &'static str, make: Make) -> Group {
     group
 }
 
-/// Every way, for a narrow and a wide width whose slopes are drawn.
+/// Every way that the shape has, for a narrow and a wide width whose slopes are drawn.
 fn of_ways(
     make: Make,
     q: u32,
@@ -46,9 +46,10 @@ fn of_ways(
     random: &mut Random,
 ) -> Verdict {
     let mut tried = 0;
-    for way in 0..WAYS {
-        for b in [random.pick(&[1, 3, 8]), random.pick(&[11, 31, 32])] {
-            tried += body(make, random.shape(q, n, b), way, random)?;
+    for b in [random.pick(&[1, 3, 8]), random.pick(&[11, 31, 32])] {
+        let shape = random.shape(q, n, b);
+        for way in 0..ways_of(shape) {
+            tried += body(make, shape, way, random)?;
         }
     }
     Ok(tried)
@@ -149,8 +150,8 @@ fn any_words(make: Make, shape: Shape, way: u32, random: &mut Random) -> Verdict
 
 /// 64 words at most; 65 are 2.
 fn of_size(make: Make, q: u32, n: u32, b: u32, count: usize, random: &mut Random) -> Verdict {
-    for way in 0..WAYS {
-        let shape = random.shape(q, n, b);
+    let shape = random.shape(q, n, b);
+    for way in 0..ways_of(shape) {
         let words: Vec<Vec<u32>> = (0..count).map(|_| any_word(shape, way, random)).collect();
         let session = any_session(shape, random);
         let call = bundle(shape, way, &session, &words, random);
@@ -160,7 +161,7 @@ fn of_size(make: Make, q: u32, n: u32, b: u32, count: usize, random: &mut Random
             expect(make, &call, &turned_down(&call, Refusal::Length))?;
         }
     }
-    Ok(WAYS.into())
+    Ok(ways_of(shape).into())
 }
 
 /// No word, ragged runs, scratches and lists of outcomes that are too short or too long: 2, all as lent.

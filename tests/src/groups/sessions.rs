@@ -6,7 +6,9 @@ use crate::capture::{page_numbers, recording, Page};
 use crate::damage::{allowed, apply, make, STYLES};
 use crate::random::Random;
 use crate::reference::page::{FUNCTIONS, PAGES};
-use crate::reference::session::{Outcome, Session, CALLS_AT, LOWEST_AT, MARKS_AT, PAGES_AT, SESSION_LEN, WAYS};
+use crate::reference::session::{
+    ways_of, Outcome, Session, CALLS_AT, LOWEST_AT, MARKS_AT, PAGES_AT, SESSION_LEN, WAYS,
+};
 use crate::reference::shape::{orders_and_directions, Shape, SHAPE_LEN};
 use crate::reference::writer::codeword;
 use crate::report::{Group, Unit, Verdict};
@@ -90,7 +92,7 @@ fn arrival(way: u32, shape: Shape, word: Vec<u32>, random: &mut Random) -> Arriv
 
 /// A page with damage that reading undoes, by any way.
 fn readable(shape: Shape, page: &Page, random: &mut Random) -> Arrival {
-    let way = random.below(WAYS as usize) as u32;
+    let way = random.below(ways_of(shape) as usize) as u32;
     let error = allowed(way, shape, random);
     arrival(way, shape, page.damaged(shape, &error), random)
 }

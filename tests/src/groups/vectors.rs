@@ -1,7 +1,7 @@
 //! The rules' bench values, and some for other slopes, as calls with what must come of them.
 
 use crate::call::{answer_of, difference, to_bytes, After, Call, Entry};
-use crate::reference::session::{CALLS_AT, CLEAN, LOWEST_AT, MARKS_AT, PAGES_AT, SESSION_LEN, VOTE};
+use crate::reference::session::{CALLS_AT, CLEAN, LOWEST_AT, MARKS_AT, PAGES_AT, SESSION_LEN, TWO, VOTE};
 use crate::reference::shape::{Refusal, Shape, SHAPE_LEN, SLOPES};
 use crate::report::{Group, Unit};
 
@@ -33,10 +33,9 @@ pub fn group(name: &'static str, make: fn(&Call) -> After) -> Group {
 }
 
 fn vectors() -> Vec<Vector> {
-    [positions(), words(), old_scratch(), dead_cells(), pages(), arrivals(), idle(), figures(), shapes(), slopes()]
-        .into_iter()
-        .flatten()
-        .collect()
+    let of_words = [positions(), words(), old_scratch(), dead_cells(), pages()];
+    let of_sessions = [arrivals(), masked_page(), idle(), figures(), shapes(), slopes()];
+    of_words.into_iter().chain(of_sessions).flatten().collect()
 }
 
 /// A call that answers `result` and leaves each slice as said.
@@ -210,8 +209,9 @@ fn arrivals() -> Vec<Vector> {
     let masked = [1, 0, 0, 0, 1, 0, 0, 0, 0];
     let voted = |word: &[u32]| arrive_by(VOTE, true, word);
     let no_way = |way: u32| arrive_by(way, false, &P7_WORD);
-    let left = [session(false), P7_WORD.to_vec(), vec![7; 5], vec![2, 1, 0]];
-    let left: Vec<&[u32]> = left.iter().map(Vec::as_slice).collect();
+    let fresh = session(false);
+    let left: [&[u32]; 4] = [&fresh, &P7_WORD, &[7; 5], &[2, 1, 0]];
+    let directions: [&[u32]; 4] = [&fresh, &P7_WORD, &[7; 5], &[2, 16, 0]];
     vec![
         vector(
             "taken by vote",
@@ -221,11 +221,27 @@ fn arrivals() -> Vec<Vector> {
         ),
         vector("again by vote", voted(&P7_WORD), Ok(0), &[&session(true), &P7_WORD, &[0; 5], &[1, 1, 0]]),
         vector("refused by vote", voted(&masked), Ok(0), &[&session(true), &masked, &[0; 5], &[2, 15, 0]]),
-        vector("way 2", no_way(2), Ok(0), &left),
+        vector("way 2, two directions", no_way(TWO), Ok(0), &directions),
+        vector("way 3", no_way(3), Ok(0), &left),
         vector("way 2^32 - 1", no_way(u32::MAX), Ok(0), &left),
         vector("taken", arrive(false, &P7_WORD), Ok(0), &[&session(true), &P7_WORD, &[0; 5], &[0, 1, 0]]),
         vector("again", arrive(true, &damaged), Ok(0), &[&session(true), &P7_WORD, &[0; 5], &[1, 1, 1]]),
         vector("refused", arrive(true, &masked), Ok(0), &[&session(true), &masked, &[0; 5], &[2, 4, 0]]),
+    ]
+}
+
+/// Page 5 with no marks, damaged as in P6: the ways compared.
+fn masked_page() -> Vec<Vector> {
+    let (stored, received) = ([0, 5, 5, 5, 0, 5, 5, 5, 0], [0, 5, 5, 2, 7, 5, 5, 5, 0]);
+    let fresh = fresh_values(B3);
+    let mut taken = fresh.clone();
+    taken[PAGES_AT] = 1;
+    taken[MARKS_AT + 5] = 1;
+    let arrive = |way: u32| Call::numbered(Entry::Arrive, B3, way, &[&fresh, &received, &[7; 7], &[9; 3]]);
+    vec![
+        vector("masked, clean", arrive(CLEAN), Ok(0), &[&fresh, &received, &[0; 7], &[2, 4, 0]]),
+        vector("masked, by vote", arrive(VOTE), Ok(0), &[&fresh, &received, &[0; 7], &[2, 15, 0]]),
+        vector("masked, two", arrive(TWO), Ok(0), &[&taken, &stored, &[0; 7], &[0, 5, 2]]),
     ]
 }
 

@@ -8,7 +8,7 @@ use crate::capture::{page_numbers, recording, Page};
 use crate::damage::{allowed, Error};
 use crate::random::Random;
 use crate::reference::page::FUNCTIONS;
-use crate::reference::session::{CALLS_AT, VOTE, WAYS};
+use crate::reference::session::{ways_of, CALLS_AT, TWO, VOTE, WAYS};
 use crate::reference::shape::{orders_and_directions, Refusal, Shape};
 use crate::reference::square::check;
 use crate::report::{Group, Unit, Verdict};
@@ -23,6 +23,11 @@ pub fn group(name: &'static str, make: Make) -> Group {
         group.test(format!("that are none, ({q}, {n})"), move |random| that_are_none(make, q, n, random));
         group.test(format!("mixed, ({q}, {n})"), move |random| mixed(make, q, n, random));
         group.test(format!("stripes, ({q}, {n})"), move |random| stripes(make, q, n, random));
+        if n == 2 {
+            group.test(format!("two directions, ({q}, {n})"), move |random| two_directions(make, q, random));
+        } else {
+            group.test(format!("pairs, ({q}, {n})"), move |random| pairs(make, q, n, random));
+        }
     }
     group
 }
@@ -76,7 +81,7 @@ fn mixed(make: Make, q: u32, n: u32, random: &mut Random) -> Verdict {
         let mut come = Come::new();
         let mut state = session(shape, figures(&come), &plain_marks(&come), &[0; FUNCTIONS]);
         for page in list {
-            let way = random.below(WAYS as usize) as u32;
+            let way = random.below(ways_of(shape) as usize) as u32;
             let error = allowed(way, shape, random);
             let call = arrival(way, shape, &state, page, &error, random);
             let after = after_arrival(&call, page, error.len() as u32, &mut come);
@@ -111,6 +116,53 @@ fn stripes(make: Make, q: u32, n: u32, random: &mut Random) -> Verdict {
                 expect(make, &call, &after_arrival(&call, &page, length as u32, &mut come))?;
                 tried += 1;
             }
+        }
+    }
+    Ok(tried)
+}
+
+/// Equal damage to two symbols of a line, of each direction, which cancels there: way 2 undoes it.
+fn pairs(make: Make, q: u32, n: u32, random: &mut Random) -> Verdict {
+    let mut tried = 0;
+    for b in [1, 8, 32] {
+        let shape = random.shape(q, n, b);
+        for t in 0..n as usize {
+            let chosen = t * q as usize + random.below(q as usize);
+            let mut line: Vec<usize> = (0..shape.word_len()).filter(|&j| check(shape, t, j) == chosen).collect();
+            random.shuffle(&mut line);
+            let symbol = random.nonzero_symbol(shape);
+            let error: Error = line[..2].iter().map(|&j| (j, symbol)).collect();
+            let page = Page::random(shape, random.below(page_numbers(shape)) as u32, random);
+            let mut come = Come::new();
+            let state = session(shape, figures(&come), &plain_marks(&come), &any_calls(random));
+            let call = arrival(TWO, shape, &state, &page, &error, random);
+            expect(make, &call, &after_arrival(&call, &page, 2, &mut come))?;
+            tried += 1;
+        }
+    }
+    Ok(tried)
+}
+
+/// With two directions way 2 is 16, whatever the word and the lengths: after 1, 18 and 11, before 2.
+fn two_directions(make: Make, q: u32, random: &mut Random) -> Verdict {
+    let mut tried = 0;
+    for b in [1, 8, 11, 32] {
+        let shape = random.shape(q, 2, b);
+        let entry = random.pick(&[Entry::Arrive, Entry::Batch]);
+        let call = Call { number: TWO, ..good(entry, shape, random) };
+        let mut calls = later_faults(&call, random);
+        calls.push(call.clone());
+        for fault in &calls {
+            let agrees = fault.slices[0] == call.slices[0];
+            let refusal = if agrees { Refusal::Directions } else { Refusal::Figures };
+            expect(make, fault, &turned_down(fault, refusal))?;
+            let lawless =
+                [(Shape { b: 33, ..shape }, Refusal::Shape), (bad_slope(shape, shape, random), Refusal::Slope)];
+            for (other, refusal) in lawless {
+                let call = reshaped(fault, other);
+                expect(make, &call, &turned_down(&call, refusal))?;
+            }
+            tried += 3;
         }
     }
     Ok(tried)

@@ -1,6 +1,7 @@
 //! The session: which pages have come, the two figures that follow from them, and how often each
 //! function was called.
 
+use super::double::decode_two;
 use super::page::{read_page, FUNCTIONS, IDLE, PAGES};
 use super::reader::decode;
 use super::shape::{Refusal, Shape, SHAPE_LEN};
@@ -37,8 +38,20 @@ pub const CLEAN: u32 = 0;
 /// The way of reading by vote.
 pub const VOTE: u32 = 1;
 
+/// The way of reading two wrong symbols, which takes three directions.
+pub const TWO: u32 = 2;
+
 /// Numbers of ways are below this.
-pub const WAYS: u32 = 2;
+pub const WAYS: u32 = 3;
+
+/// Numbers of the ways that can be used with the shape are below this.
+pub fn ways_of(shape: Shape) -> u32 {
+    if shape.n < 3 {
+        TWO
+    } else {
+        WAYS
+    }
+}
 
 /// How many words a bundle has at most, and how long its list of outcomes is.
 pub const BUNDLE: usize = 64;
@@ -52,6 +65,7 @@ fn reader(way: u32) -> Result<Read, Refusal> {
     match way {
         CLEAN => Ok(decode),
         VOTE => Ok(decode_majority),
+        TWO => Ok(decode_two),
         _ => Err(Refusal::Shape),
     }
 }
@@ -124,6 +138,9 @@ impl Session {
     ) -> Result<(), Refusal> {
         reader(way)?;
         self.judge()?;
+        if way >= ways_of(self.shape) {
+            return Err(Refusal::Directions);
+        }
         let size = self.shape.word_len();
         let whole = words.len() % size == 0 && (1..=BUNDLE).contains(&(words.len() / size));
         if !whole || scratch.len() != self.shape.scratch_len() || outcomes.len() != OUTCOMES_LEN {
@@ -140,6 +157,9 @@ impl Session {
         let read = reader(way)?;
         self.judge()?;
         let shape = self.shape;
+        if way >= ways_of(shape) {
+            return Err(Refusal::Directions);
+        }
         if word.len() != shape.word_len() || scratch.len() != shape.scratch_len() {
             return Err(Refusal::Length);
         }
