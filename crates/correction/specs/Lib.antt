@@ -1,3 +1,4 @@
 pub mod Error
 pub mod Answer
+pub mod Shipped
 pub mod Steps

@@ -1,5 +1,5 @@
 // The corrections tried on the syndromes: an error at j is XORed onto the n checks on j.
-use crate::checks::check_number;
+use crate::shipped::number_by;
 use gtb::Shape;
 ghost use mathlib.Core.Path.{_≡_};
 ghost use Prim.Native.Nat.{_<_, _≤_};
@@ -9,21 +9,39 @@ ghost use Rattle.parity.specs.Count.{all};
 ghost use Rattle.gtb.specs.Shape.{Lawful, wordLength};
 ghost use Rattle.gtb.specs.Square.{at};
 ghost use Rattle.correction.specs.Error.{checkOf};
+ghost use Rattle.correction.specs.Shipped.{Tabled};
 ghost use Rattle.correction.specs.Steps.{Toggled, Within, Cancelled};
 
 // The n checks on position j.
-fn cancel_one(shape: Shape, syn: &mut [u32; 248], j: usize, error: u32)
-    requires { ⌜ Lawful shape × (length (now syn) ≡ 248) × (j < wordLength shape) ⌝ }
+fn cancel_one(shape: Shape, table: &[u8], syn: &mut [u32; 248], j: usize, error: u32)
+    requires { ⌜ Lawful shape × Tabled shape (now table) × (length (now syn) ≡ 248) × (j < wordLength shape) ⌝ }
     ensures { λ _. ⌜ Toggled (shape .n) (checkOf shape j) (λ t. error) (now (syn .entry)) (now (syn .exit)) ⌝ }
 {
     let n = shape.n as usize;
     for t in 0..n {
-        let check = check_number(shape, t, j);
+        let check = number_by(shape, table, t, j);
         syn[check] ^= error;
     }
 }
 
-// The checks on the first `count` places.
+// The checks on the first `count` places, by the table where it is one.
+pub fn cancel_by(
+    shape: Shape,
+    table: &[u8],
+    syn: &mut [u32; 248],
+    places: &[usize; 8],
+    errors: &[u32; 8],
+    count: usize,
+)
+    requires { ⌜ Lawful shape × Tabled shape (now table) × (length (now syn) ≡ 248) × Within shape count (now places) ⌝ }
+    ensures { λ _. ⌜ Cancelled shape count (now (places .entry)) (now (errors .entry)) (now (syn .entry)) (now (syn .exit)) ⌝ }
+{
+    for x in 0..count {
+        cancel_one(shape, table, syn, places[x], errors[x]);
+    }
+}
+
+// The same without a table.
 pub fn cancel(
     shape: Shape,
     syn: &mut [u32; 248],
@@ -34,9 +52,8 @@ pub fn cancel(
     requires { ⌜ Lawful shape × (length (now syn) ≡ 248) × Within shape count (now places) ⌝ }
     ensures { λ _. ⌜ Cancelled shape count (now (places .entry)) (now (errors .entry)) (now (syn .entry)) (now (syn .exit)) ⌝ }
 {
-    for x in 0..count {
-        cancel_one(shape, syn, places[x], errors[x]);
-    }
+    let none = [0u8; 1];
+    cancel_by(shape, &none, syn, places, errors, count);
 }
 
 // The first `count` checks are silent. One value gathers the bits of them all, so that the loop has no branch.

@@ -2,6 +2,8 @@
 pub mod cancel;
 pub mod checks;
 pub mod number;
+pub mod shipped;
+pub mod table;
 
 use gtb::Refusal;
 ghost use Prim.Native.Nat.{ℕ, _<_, _≤_};

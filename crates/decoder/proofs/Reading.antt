@@ -1,26 +1,33 @@
 -- What is found in the table of syndromes is what the definitions say of the word.
-use mathlib.Core.Path.{_≡_, refl, sym, ap, ap₂, _∙_}
+use mathlib.Core.Path.{_≡_, refl, sym, ap, ap₂, _∙_, subst}
 use mathlib.Core.Bool.{Bool, true, false, not, _&&_}
 use mathlib.Core.List.{List}
 use Prim.Native.Nat.{ℕ, _-_, _*_, _<_, _≤_}
+use native.Mathlib.Nat.{zero-add}
 use native.Mathlib.Omega.{arith}
+use lib.Arith.{digits-lt}
 use lib.Dec.{eqb}
+use lib.ListN.{length}
 use borrow.Author.Tests.{le-leb, lt-leb}
 use Rattle.parity.specs.Xor.{when}
 use Rattle.parity.specs.Count.{count, all, firstValue}
 use Rattle.parity.proofs.XorSums.{cong}
 use Rattle.parity.proofs.Sums.{count-cong}
-use Rattle.parity.proofs.Tests.{and-no-left, all-cong, any-cong}
+use Rattle.parity.proofs.Tests.{and-no-left, not-of-true, all-elim, all-no, all-cong, any-cong}
 use Rattle.gtb.specs.declared.Shape.{Shape}
 use Rattle.gtb.specs.Shape.{Lawful, wordLength}
 use Rattle.gtb.specs.Square.{lineOf, at, Syndromes}
 use Rattle.gtb.proofs.Bounds.{bounds}
+use Rattle.gtb.proofs.Lines.{line-lt}
+use Rattle.correction.proofs.Silence.{cancelled-none}
 use Rattle.correction.proofs.Tables.{shown, silent-by}
 use Rattle.decoder.specs.Decode.{located, alone, errorAt, correctable}
-use Rattle.correction.specs.Error.{onCheck}
+use Rattle.correction.specs.Error.{checkOf, onCheck}
 use Rattle.decoder.specs.Steps.{judged, shares, aloneAmong, errorAmong, Measured, Found}
 use Rattle.correction.specs.Steps.{Within, Cancelled, Lists, Listed}
 use Rattle.parity.proofs.First.{first-cong}
+use Rattle.correction.proofs.Listing.{listed-none, listed-skips}
+use Rattle.decoder.proofs.Private.{measured-none}
 
 -- two conditions change places
 when-swap : (a b : Bool) (x : ℕ) → when a (when b x) ≡ when b (when a x)
@@ -120,3 +127,20 @@ module _ {s : Shape} {syn places errors new : List ℕ} {k : ℕ} (h : Lawful s)
     few = λ l′. absurd (omega arith);
     many = λ l′ w y. correctable-by s h w syn y l m c lk ∙ e;
   }
+
+-- every check is silent: nothing is located
+module _ (s : Shape) (h : Lawful s) (syn : List ℕ) (quiet : all (s .n * s .q) (λ e. eqb (at syn e) 0) ≡ true) where
+  none-judged : (j : ℕ) → j < wordLength s → judged s syn j ≡ false
+  unfolding judged
+  none-judged j lj =
+      let some : 0 < s .n = omega (arith, bounds s h .n2) in
+      all-no (s .n) _ 0 some (not-of-true (all-elim (s .n * s .q) (λ e. eqb (at syn e) 0) quiet (checkOf s j 0) (digits-lt some (line-lt s h 0 j some lj))))
+
+  none-listed : {places : List ℕ} → length places ≡ 8 → Listed (judged s syn) (wordLength s) 0 places
+  none-listed {places} size =
+      subst (λ (m : ℕ). Listed (judged s syn) m 0 places) (zero-add (wordLength s))
+      (listed-skips (wordLength s) (λ j l. ap (judged s syn) (zero-add j) ∙ none-judged j l) (listed-none (judged s syn) places size))
+
+  pub found-silent : {places errors : List ℕ} → length syn ≡ 248 → length places ≡ 8 → length errors ≡ 8 → Found s syn places errors 0
+  found-silent {places} {errors} table size size′ =
+      found-few h (omega (arith, bounds s h .n2)) (none-listed size) (measured-none s syn places 0 errors size′) (cancelled-none s places errors syn table) quiet

@@ -3,33 +3,61 @@ use crate::error::measure;
 use crate::locate::locate;
 use correction::Decoded;
 use correction::apply;
-use correction::cancel::cancel;
+use correction::cancel::cancel_by;
 use correction::cancel::is_silent;
+use correction::shipped::is_shipped;
+use correction::table::check_numbers;
 use gtb::Refusal;
 use gtb::Shape;
 ghost use mathlib.Core.Path.{_≡_};
 ghost use lib.ListN.{length};
 ghost use Rattle.gtb.specs.Shape.{Lawful, wordLength};
 ghost use Rattle.correction.specs.Steps.{Within};
+ghost use Rattle.correction.specs.Shipped.{Tabled};
 ghost use Rattle.decoder.specs.Steps.{Restores, Found, Corrects};
 
 // The corrections, places and errors: how many, or n if there are none that silence every check. They are tried on `syn`.
+fn find_by(
+    shape: Shape,
+    table: &[u8],
+    syn: &mut [u32; 248],
+    places: &mut [usize; 8],
+    errors: &mut [u32; 8],
+) -> usize
+    requires { ⌜ Lawful shape × Tabled shape (now table) × (length (now syn) ≡ 248) × (length (now places) ≡ 8) × (length (now errors) ≡ 8) ⌝ }
+    ensures { λ r. ⌜ Found shape (now (syn .entry)) (now (places .exit)) (now (errors .exit)) r ⌝ }
+{
+    let q = shape.q as usize;
+    let n = shape.n as usize;
+    let count = locate(shape, table, syn, places);
+    if n <= count {
+        return n;
+    }
+    measure(shape, table, syn, places, count, errors);
+    cancel_by(shape, table, syn, places, errors, count);
+    if is_silent(syn, n * q) {
+        return count;
+    }
+    n
+}
+
+// The same, with the table of the shipped shape. Where every check is silent nothing is to be found, and no table to be made.
 fn find(shape: Shape, syn: &mut [u32; 248], places: &mut [usize; 8], errors: &mut [u32; 8]) -> usize
     requires { ⌜ Lawful shape × (length (now syn) ≡ 248) × (length (now places) ≡ 8) × (length (now errors) ≡ 8) ⌝ }
     ensures { λ r. ⌜ Found shape (now (syn .entry)) (now (places .exit)) (now (errors .exit)) r ⌝ }
 {
     let q = shape.q as usize;
     let n = shape.n as usize;
-    let count = locate(shape, syn, places);
-    if n <= count {
-        return n;
+    let checks = n * q;
+    if is_silent(syn, checks) {
+        return 0;
     }
-    measure(shape, syn, places, count, errors);
-    cancel(shape, syn, places, errors, count);
-    if is_silent(syn, n * q) {
-        return count;
+    if is_shipped(shape) {
+        let table = check_numbers();
+        return find_by(shape, &table, syn, places, errors);
     }
-    n
+    let none = [0u8; 1];
+    find_by(shape, &none, syn, places, errors)
 }
 
 // The errors are taken off the word.
@@ -45,7 +73,8 @@ pub fn correct(shape: Shape, word: &mut [u32]) -> Decoded
     requires { ⌜ Lawful shape × (length (now word) ≡ wordLength shape) ⌝ }
     ensures { λ r. ⌜ Corrects shape (now (word .entry)) (now (word .exit)) r ⌝ }
 {
-    let mut syn = gtb::syndrome::syndromes(shape, word);
+    let mut syn = [0u32; 248];
+    gtb::syndrome::fill(shape, word, &mut syn);
     let mut places = [0usize; 8];
     let mut errors = [0u32; 8];
     let n = shape.n as usize;

@@ -1,31 +1,39 @@
 // The error at a located position: what the first check shows that no other located position is on.
-use correction::checks::check_number;
+use correction::shipped::number_by;
 use gtb::Shape;
 ghost use mathlib.Core.Path.{_≡_};
 ghost use Prim.Native.Nat.{_<_};
 ghost use lib.ListN.{length};
 ghost use Rattle.gtb.specs.Shape.{Lawful, wordLength};
 ghost use Rattle.correction.specs.Steps.{Within};
+ghost use Rattle.correction.specs.Shipped.{Tabled};
 ghost use Rattle.decoder.specs.Steps.{shares, aloneAmong, errorAmong, Measured};
 
 // i is another position than j on the check of direction t on j.
-fn shares_check(shape: Shape, t: usize, j: usize, i: usize) -> bool
-    requires { ⌜ Lawful shape × (t < shape .n) × (j < wordLength shape) × (i < wordLength shape) ⌝ }
+fn shares_check(shape: Shape, table: &[u8], t: usize, j: usize, i: usize) -> bool
+    requires { ⌜ Lawful shape × Tabled shape (now table) × (t < shape .n) × (j < wordLength shape) × (i < wordLength shape) ⌝ }
     ensures { λ r. ⌜ r ≡ shares shape t j i ⌝ }
 {
     if i == j {
         return false;
     }
-    check_number(shape, t, i) == check_number(shape, t, j)
+    number_by(shape, table, t, i) == number_by(shape, table, t, j)
 }
 
 // No other of the first `count` places is on the check of direction t on j.
-fn is_alone(shape: Shape, places: &[usize; 8], count: usize, j: usize, t: usize) -> bool
-    requires { ⌜ Lawful shape × (t < shape .n) × (j < wordLength shape) × Within shape count (now places) ⌝ }
+fn is_alone(
+    shape: Shape,
+    table: &[u8],
+    places: &[usize; 8],
+    count: usize,
+    j: usize,
+    t: usize,
+) -> bool
+    requires { ⌜ Lawful shape × Tabled shape (now table) × (t < shape .n) × (j < wordLength shape) × Within shape count (now places) ⌝ }
     ensures { λ r. ⌜ r ≡ aloneAmong shape (now (places .entry)) count j t ⌝ }
 {
     for x in 0..count {
-        if shares_check(shape, t, j, places[x]) {
+        if shares_check(shape, table, t, j, places[x]) {
             return false;
         }
     }
@@ -33,14 +41,21 @@ fn is_alone(shape: Shape, places: &[usize; 8], count: usize, j: usize, t: usize)
 }
 
 // The error at j: directions in rising order; 0 where no check has j alone on it.
-fn error_of(shape: Shape, syn: &[u32; 248], places: &[usize; 8], count: usize, j: usize) -> u32
-    requires { ⌜ Lawful shape × (j < wordLength shape) × Within shape count (now places) ⌝ }
+fn error_of(
+    shape: Shape,
+    table: &[u8],
+    syn: &[u32; 248],
+    places: &[usize; 8],
+    count: usize,
+    j: usize,
+) -> u32
+    requires { ⌜ Lawful shape × Tabled shape (now table) × (j < wordLength shape) × Within shape count (now places) ⌝ }
     ensures { λ r. ⌜ r ≡ errorAmong shape (now (syn .entry)) (now (places .entry)) count j ⌝ }
 {
     let n = shape.n as usize;
     for t in 0..n {
-        if is_alone(shape, places, count, j, t) {
-            return syn[check_number(shape, t, j)];
+        if is_alone(shape, table, places, count, j, t) {
+            return syn[number_by(shape, table, t, j)];
         }
     }
     0
@@ -49,15 +64,16 @@ fn error_of(shape: Shape, syn: &[u32; 248], places: &[usize; 8], count: usize, j
 // The errors at the first `count` places.
 pub fn measure(
     shape: Shape,
+    table: &[u8],
     syn: &[u32; 248],
     places: &[usize; 8],
     count: usize,
     errors: &mut [u32; 8],
 )
-    requires { ⌜ Lawful shape × (length (now errors) ≡ 8) × Within shape count (now places) ⌝ }
+    requires { ⌜ Lawful shape × Tabled shape (now table) × (length (now errors) ≡ 8) × Within shape count (now places) ⌝ }
     ensures { λ _. ⌜ Measured shape (now (syn .entry)) (now (places .entry)) count count (now (errors .exit)) ⌝ }
 {
     for x in 0..count {
-        errors[x] = error_of(shape, syn, places, count, places[x]);
+        errors[x] = error_of(shape, table, syn, places, count, places[x]);
     }
 }

@@ -1,14 +1,49 @@
 // The located positions, in rising order, in a local array of 8. One more than n - 1 of them is one too many, and ends the search.
-// What the slopes add to the columns of a row is computed once for the row, so that no symbol needs a remainder.
+// Where no table of check numbers is lent, what the slopes add to the columns of a row is computed once for the row, so that no symbol
+// needs a remainder.
 use correction::checks::shifts_of;
+use correction::shipped::number_by;
 use gtb::Shape;
 ghost use mathlib.Core.Path.{_≡_};
-ghost use Prim.Native.Nat.{_+_, _*_, _<_};
+ghost use Prim.Native.Nat.{_+_, _*_, _<_, _≤_};
 ghost use lib.ListN.{length};
 ghost use Rattle.gtb.specs.Shape.{Lawful, wordLength};
 ghost use Rattle.gtb.specs.Square.{at};
+ghost use Rattle.correction.specs.Error.{checkOf};
+ghost use Rattle.correction.specs.Shipped.{Tabled};
 ghost use Rattle.correction.specs.Steps.{Shifts, Listed, Scanned};
 ghost use Rattle.decoder.specs.Steps.{judged, Judges, PassedOver};
+
+// The shifts of a row, where no table is lent: with one there is no need of them.
+pub fn shifts_by(shape: Shape, table: &[u8], row: usize) -> [usize; 8]
+    requires { ⌜ Lawful shape × (row < shape .q) ⌝ }
+    ensures { λ r. ⌜ ((length (now (table .entry)) ≡ 1156 → ⊥) → Shifts shape row (shape .n) r) ⌝ }
+{
+    if table.len() == 1156 {
+        return [0usize; 8];
+    }
+    shifts_of(shape, row)
+}
+
+// The number of a position's check in a direction from 1 on.
+fn check_in_row(
+    shape: Shape,
+    table: &[u8],
+    shifts: &[usize; 8],
+    t: usize,
+    row: usize,
+    column: usize,
+) -> usize
+    requires { ⌜ Lawful shape × Tabled shape (now table) × ((length (now table) ≡ 1156 → ⊥) → Shifts shape row (shape .n) (now shifts))
+        × (1 ≤ t) × (t < shape .n) × (row < shape .q) × (column < shape .q) ⌝ }
+    ensures { λ r. ⌜ r ≡ checkOf shape (row * shape .q + column) t ⌝ }
+{
+    let q = shape.q as usize;
+    if table.len() == 1156 {
+        return number_by(shape, table, t, row * q + column);
+    }
+    t * q + gtb::add_mod(column, shifts[t], q)
+}
 
 // What is known of a position once it is judged: whether it is located, and how many of its checks were looked at.
 pub struct Judged {
@@ -20,13 +55,15 @@ pub struct Judged {
 // the row first, whose value `own` is, up to the first silent one.
 pub fn judge(
     shape: Shape,
+    table: &[u8],
     syn: &[u32; 248],
     own: u32,
     shifts: &[usize; 8],
     row: usize,
     column: usize,
 ) -> Judged
-    requires { ⌜ Lawful shape × Shifts shape row (shape .n) (now shifts) × (own ≡ at (now syn) row) × (column < shape .q) ⌝ }
+    requires { ⌜ Lawful shape × Tabled shape (now table) × ((length (now table) ≡ 1156 → ⊥) → Shifts shape row (shape .n) (now shifts))
+        × (own ≡ at (now syn) row) × (row < shape .q) × (column < shape .q) ⌝ }
     ensures { λ r. ⌜ Judges shape (now (syn .entry)) (row * shape .q + column) r ⌝ }
 {
     if own == 0 {
@@ -35,11 +72,10 @@ pub fn judge(
             looked: 1,
         };
     }
-    let q = shape.q as usize;
     let n = shape.n as usize;
     for t in 1..n {
-        let line = gtb::add_mod(column, shifts[t], q);
-        if syn[t * q + line] == 0 {
+        let check = check_in_row(shape, table, shifts, t, row, column);
+        if syn[check] == 0 {
             let looked = t as u32 + 1;
             return Judged {
                 located: false,
@@ -56,6 +92,7 @@ pub fn judge(
 // The position in this row and column joins the list if it is located.
 fn keep(
     shape: Shape,
+    table: &[u8],
     syn: &[u32; 248],
     own: u32,
     shifts: &[usize; 8],
@@ -64,12 +101,12 @@ fn keep(
     places: &mut [usize; 8],
     count: usize,
 ) -> usize
-    requires { ⌜ Lawful shape × Shifts shape row (shape .n) (now shifts) × (own ≡ at (now syn) row) × (row < shape .q) × (column < shape .q)
-        × (count < shape .n) × Listed (judged shape (now syn)) (row * shape .q + column) count (now places) ⌝ }
+    requires { ⌜ Lawful shape × Tabled shape (now table) × ((length (now table) ≡ 1156 → ⊥) → Shifts shape row (shape .n) (now shifts))
+        × (own ≡ at (now syn) row) × (row < shape .q) × (column < shape .q) × (count < shape .n) × Listed (judged shape (now syn)) (row * shape .q + column) count (now places) ⌝ }
     ensures { λ r. ⌜ Listed (judged shape (now (syn .entry))) (row * shape .q + column + 1) r (now (places .exit)) ⌝ }
 {
     let q = shape.q as usize;
-    let judged = judge(shape, syn, own, shifts, row, column);
+    let judged = judge(shape, table, syn, own, shifts, row, column);
     if judged.located {
         places[count] = row * q + column;
         return count + 1;
@@ -80,12 +117,13 @@ fn keep(
 // One row. One whose own check is silent is passed over as a whole: its positions are judged with one look.
 fn scan_row(
     shape: Shape,
+    table: &[u8],
     syn: &[u32; 248],
     row: usize,
     places: &mut [usize; 8],
     count: usize,
 ) -> usize
-    requires { ⌜ Lawful shape × (row < shape .q) × (count < shape .n) × Listed (judged shape (now syn)) (row * shape .q) count (now places) ⌝ }
+    requires { ⌜ Lawful shape × Tabled shape (now table) × (row < shape .q) × (count < shape .n) × Listed (judged shape (now syn)) (row * shape .q) count (now places) ⌝ }
     ensures { λ r. ⌜ Scanned (judged shape (now (syn .entry))) (shape .n) (row * shape .q + shape .q) r (now (places .exit))
         × (at (now (syn .entry)) row ≡ 0 → PassedOver shape (now (syn .entry)) row) ⌝ }
 {
@@ -95,10 +133,10 @@ fn scan_row(
     }
     let q = shape.q as usize;
     let n = shape.n as usize;
-    let shifts = shifts_of(shape, row);
+    let shifts = shifts_by(shape, table, row);
     let mut found = count;
     for c in 0..q {
-        found = keep(shape, syn, check, &shifts, row, c, places, found);
+        found = keep(shape, table, syn, check, &shifts, row, c, places, found);
         if n <= found {
             return n;
         }
@@ -107,15 +145,15 @@ fn scan_row(
 }
 
 // The whole word: the number of located positions, or n if there are more than n - 1.
-pub fn locate(shape: Shape, syn: &[u32; 248], places: &mut [usize; 8]) -> usize
-    requires { ⌜ Lawful shape × (length (now places) ≡ 8) ⌝ }
+pub fn locate(shape: Shape, table: &[u8], syn: &[u32; 248], places: &mut [usize; 8]) -> usize
+    requires { ⌜ Lawful shape × Tabled shape (now table) × (length (now places) ≡ 8) ⌝ }
     ensures { λ r. ⌜ Scanned (judged shape (now (syn .entry))) (shape .n) (wordLength shape) r (now (places .exit)) ⌝ }
 {
     let q = shape.q as usize;
     let n = shape.n as usize;
     let mut found = 0;
     for row in 0..q {
-        found = scan_row(shape, syn, row, places, found);
+        found = scan_row(shape, table, syn, row, places, found);
         if n <= found {
             return n;
         }

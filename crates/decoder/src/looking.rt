@@ -1,6 +1,6 @@
 // How many checks the judging of each position looks at.
 use crate::locate::judge;
-use correction::checks::shifts_of;
+use crate::locate::shifts_by;
 use gtb::Shape;
 ghost use mathlib.Core.Path.{_≡_};
 ghost use Prim.Native.Nat.{_+_, _*_, _<_};
@@ -8,31 +8,33 @@ ghost use lib.ListN.{length};
 ghost use Rattle.parity.specs.Lists.{tabulate};
 ghost use Rattle.gtb.specs.Shape.{Lawful, wordLength};
 ghost use Rattle.gtb.specs.Square.{at};
+ghost use Rattle.correction.specs.Shipped.{Tabled};
 ghost use Rattle.decoder.specs.Looking.{lookedAt};
 ghost use Rattle.decoder.specs.Steps.{Noted};
 
 // One row of the list.
-fn note_row(shape: Shape, syn: &[u32; 248], row: usize, looked: &mut [u32])
-    requires { ⌜ Lawful shape × (row < shape .q) × Noted shape (now syn) (row * shape .q) (now looked) ⌝ }
+fn note_row(shape: Shape, table: &[u8], syn: &[u32; 248], row: usize, looked: &mut [u32])
+    requires { ⌜ Lawful shape × Tabled shape (now table) × (row < shape .q) × Noted shape (now syn) (row * shape .q) (now looked) ⌝ }
     ensures { λ _. ⌜ Noted shape (now (syn .entry)) (row * shape .q + shape .q) (now (looked .exit)) ⌝ }
 {
     let q = shape.q as usize;
     let own = syn[row];
-    let shifts = shifts_of(shape, row);
+    let shifts = shifts_by(shape, table, row);
     for c in 0..q {
-        let judged = judge(shape, syn, own, &shifts, row, c);
+        let judged = judge(shape, table, syn, own, &shifts, row, c);
         looked[row * q + c] = judged.looked;
     }
 }
 
-// The whole list.
+// The whole list. The few that ask for it pay for no table.
 pub fn note(shape: Shape, word: &[u32], looked: &mut [u32])
     requires { ⌜ Lawful shape × (length (now word) ≡ wordLength shape) × (length (now looked) ≡ wordLength shape) ⌝ }
     ensures { λ _. ⌜ now (looked .exit) ≡ tabulate (wordLength shape) (lookedAt shape (at (now (word .entry)))) ⌝ }
 {
+    let none = [0u8; 1];
     let syn = gtb::syndrome::syndromes(shape, word);
     let q = shape.q as usize;
     for row in 0..q {
-        note_row(shape, &syn, row, looked);
+        note_row(shape, &none, &syn, row, looked);
     }
 }

@@ -23,7 +23,8 @@ use Rattle.gtb.specs.Rows.{shiftOf, rowOf, lowerRow}
 use Rattle.gtb.proofs.Words.{beyond}
 use Rattle.gtb.proofs.Rounds.{rows-silent}
 use Rattle.gtb.proofs.Information.{position, row-lt, info-row-lt, info-column-lt}
-use Rattle.encoder.specs.Steps.{Written, row, Placed, Sound, Interpolated}
+use Rattle.encoder.specs.Steps.{row, Placed, Sound, Interpolated}
+use Rattle.gtb.specs.Sweep.{Written}
 use Rattle.encoder.proofs.Divides.{sound-same}
 use Rattle.encoder.proofs.Upper.{placed-sound, copied-upper, copied-lower}
 

@@ -21,7 +21,8 @@ use Rattle.gtb.proofs.Sizes.{sizes}
 use Rattle.gtb.proofs.Turns.{row-in}
 use Rattle.gtb.proofs.Slopes.{shift-apart}
 use Rattle.gtb.specs.Rows.{shiftOf}
-use Rattle.encoder.specs.Steps.{Written, row, difference, Walked, Sound, Ready, Divisible, Quotient, RowDivided, Divided}
+use Rattle.encoder.specs.Steps.{row, difference, Walked, Sound, Ready, Divisible, Quotient, RowDivided, Divided}
+use Rattle.gtb.specs.Sweep.{Written}
 use Rattle.encoder.proofs.Rows.{written-row, written-other}
 use Rattle.encoder.proofs.Bounds.{shift-bounds}
 

@@ -13,7 +13,7 @@ use Rattle.gtb.specs.declared.Shape.{Shape}
 use Rattle.gtb.specs.Shape.{infoLength}
 use Rattle.gtb.specs.Square.{at}
 use Rattle.gtb.specs.Positions.{infoPosition, extractOf}
-use Rattle.encoder.specs.Steps.{Written}
+use Rattle.gtb.specs.Sweep.{Written}
 
 -- the symbols of i lower rows are copied; row m is the first, and each has p symbols
 pub record Gathered (q m p i : ℕ) (w xs xs′ : List ℕ) : Type 0 where

@@ -11,7 +11,8 @@ use Rattle.gtb.specs.declared.Shape.{Shape}
 use Rattle.gtb.specs.Shape.{Lawful, wordLength}
 use Rattle.gtb.specs.Square.{at}
 use Rattle.gtb.specs.Rows.{rowOf, lowerRow}
-use Rattle.encoder.specs.Steps.{Written, row, Placed}
+use Rattle.encoder.specs.Steps.{row, Placed}
+use Rattle.gtb.specs.Sweep.{Written}
 use Rattle.encoder.proofs.Rows.{written-row, written-other}
 
 -- i lower rows are put down, row m the first; each has p symbols

@@ -19,7 +19,8 @@ use Rattle.gtb.proofs.Bounds.{bounds, positive}
 use Rattle.gtb.proofs.Words.{narrow-at}
 use Rattle.gtb.specs.Rows.{shiftOf, rowOf, lowerRow}
 use Rattle.gtb.proofs.Rounds.{syndrome-eval, lower-cyclic, lower-width}
-use Rattle.encoder.specs.Steps.{Written, row, Placed, Sound, Ready}
+use Rattle.encoder.specs.Steps.{row, Placed, Sound, Ready}
+use Rattle.gtb.specs.Sweep.{Written}
 use Rattle.encoder.proofs.Divides.{sound-same}
 
 module _ (s : Shape) (h : Lawful s) where

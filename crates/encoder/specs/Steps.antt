@@ -21,13 +21,6 @@ pub record Tested (s : Shape) (symbols scratch word given scratch′ : List ℕ)
   pub refused : (e : Refusal) → r ≡ Refused e → scratch′ ≡ scratchAfter e scratch
   pub done : r ≡ Done → scratch′ ≡ replicate (length scratch) 0
 
--- places a to a + p - 1 hold f 0 to f (p - 1), all others what they held
-pub record Written (a p : ℕ) (f : ℕ → ℕ) (w w′ : List ℕ) : Type 0 where
-  pub size : length w′ ≡ length w
-  pub inside : (i : ℕ) → i < p → at w′ (a + i) ≡ f i
-  pub below : (j : ℕ) → j < a → at w′ j ≡ at w j
-  pub above : (j : ℕ) → a + p ≤ j → at w′ j ≡ at w j
-
 -- row r of a word as a function on a cycle of q places
 abbrev pub row : ℕ → List ℕ → ℕ → ℕ → ℕ
 row q w = rowOf q (at w)

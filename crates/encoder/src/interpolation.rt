@@ -9,7 +9,8 @@ ghost use Rattle.parity.specs.Cyclic.{Cyclic};
 ghost use Rattle.gtb.specs.Shape.{Lawful, wordLength};
 ghost use Rattle.gtb.specs.Square.{at};
 ghost use Rattle.gtb.specs.Rows.{shiftOf};
-ghost use Rattle.encoder.specs.Steps.{Written, difference, Walked, Ready, Divisible, RowDivided, Divided, Joined, Interpolated};
+ghost use Rattle.encoder.specs.Steps.{difference, Walked, Ready, Divisible, RowDivided, Divided, Joined, Interpolated};
+ghost use Rattle.gtb.specs.Sweep.{Written};
 
 // How far direction t + 1 moves a line from one row to the next.
 fn shift(shape: Shape, t: usize) -> usize

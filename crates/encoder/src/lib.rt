@@ -60,7 +60,7 @@ pub fn gather(shape: Shape, word: &[u32], symbols: &mut [u32])
     let rows = q - m;
     let p = q - 1;
     for i in 0..rows {
-        runs::copy_run(symbols, word, i * p, (m + i) * q + 1, p);
+        gtb::copy_run(symbols, word, i * p, (m + i) * q + 1, p);
     }
 }
 
@@ -88,7 +88,7 @@ fn write(shape: Shape, symbols: &[u32], word: &mut [u32])
     let syn = gtb::syndrome::syndromes(shape, word);
     let q = shape.q as usize;
     let m = shape.n as usize - 1;
-    runs::copy_run(word, &syn, 0, q, m * q);
+    gtb::copy_run(word, &syn, 0, q, m * q);
     interpolation::interpolate(shape, word, 0);
 }
 

@@ -11,6 +11,8 @@ pub mod Standard
 pub mod Answers
 pub mod Sweeps
 pub mod Copies
+pub mod Writes
+pub mod Doubles
 pub mod Turns
 pub mod Directions
 pub mod Information

@@ -1,4 +1,5 @@
 // The code of the trace square: its shape, the answers that every entry gives, and the syndromes of a word.
+mod doubled;
 pub mod number;
 pub mod size;
 pub mod syndrome;
@@ -11,6 +12,7 @@ ghost use lib.ListN.{length, drop, replicate};
 ghost use Rattle.parity.specs.Xor.{xorSum};
 ghost use Rattle.gtb.specs.Shape.{slopeOf, isOrder, regular, fitsSlope, sloped, lawful, shapeRefusal};
 ghost use Rattle.gtb.specs.Square.{at, narrow};
+ghost use Rattle.gtb.specs.Sweep.{Written};
 
 // (q, n, b): order, directions and width in bits; then the slopes of the directions from 1 on, of which the first n - 1 count.
 // A caller's shape may hold any numbers.
@@ -176,6 +178,14 @@ pub fn copy(from: &[u32], to: &mut [u32])
     for i in 0..from.len() {
         to[i] = from[i];
     }
+}
+
+// Copies `count` symbols of `from`, from place `start` on, to place `a` of `to`.
+pub fn copy_run(to: &mut [u32], from: &[u32], a: usize, start: usize, count: usize)
+    requires { ⌜ (a + count ≤ length (now to)) × (start + count ≤ length (now from)) ⌝ }
+    ensures { λ _. ⌜ Written a count (λ i. at (now (from .entry)) (start + i)) (now (to .entry)) (now (to .exit)) ⌝ }
+{
+    copy(&from[start..start + count], &mut to[a..a + count]);
 }
 
 // The XOR of `count` values, from place `from` on.

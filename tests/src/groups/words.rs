@@ -19,6 +19,7 @@ pub fn group() -> Group {
     for (q, n) in orders_and_directions() {
         group.test(format!("random words of ({q}, {n})"), move |random| random_words(q, n, random));
     }
+    group.test("the shipped shape and its neighbours", shipped);
     for shape in [2, 3].into_iter().flat_map(|n| all_slopes(3, n, 1)) {
         let name = format!("all words of (3, {}, 1), slopes {:?}", shape.n, shape.own_slopes());
         group.test(name, move |_| every_word(shape));
@@ -67,6 +68,33 @@ fn random_words(q: u32, n: u32, random: &mut Random) -> Verdict {
             let word = random.symbols(shape, shape.word_len());
             expect(&Damaged::by_itself(shape, &word))?;
             tried += 1;
+        }
+    }
+    Ok(tried)
+}
+
+/// Order 17 with slopes 0, 1, 2 and four directions, whatever the slopes past the third, and shapes that
+/// differ from it in one number: what is read may not depend on where the check numbers come from.
+fn shipped(random: &mut Random) -> Verdict {
+    const SLOPES: [[u32; 7]; 7] = [
+        [0, 1, 2, 3, 4, 5, 6],
+        [0, 1, 2, 0, 0, 0, 0],
+        [0, 1, 2, u32::MAX, 17, 1, 2],
+        [0, 1, 3, 2, 4, 5, 6],
+        [0, 2, 1, 3, 4, 5, 6],
+        [1, 0, 2, 3, 4, 5, 6],
+        [16, 1, 2, 3, 4, 5, 6],
+    ];
+    let mut tried = 0;
+    for (n, slopes) in [3, 4, 5].into_iter().flat_map(|n| SLOPES.map(|slopes| (n, slopes))) {
+        for b in WIDTHS {
+            let shape = Shape::new(17, n, b).with_slopes(slopes);
+            let sent =
+                if shape.lawful() { codeword(shape, &random.symbols(shape, shape.data_len())) } else { continue };
+            for error in errors(shape, random) {
+                expect(&Damaged { shape, sent: sent.clone(), error })?;
+                tried += 1;
+            }
         }
     }
     Ok(tried)

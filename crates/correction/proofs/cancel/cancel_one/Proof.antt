@@ -12,10 +12,10 @@ use Rattle.correction.proofs.cancel.cancel_one.Statement.{statement}
 use Rattle.correction.proofs.cancel.cancel_one.Tie as tie
 
 abbrev Inv-loop : tie.InvT-loop
-Inv-loop shape syn₀ j error n t₀ syn t = (t ≤ n) × Toggled t (checkOf shape j) (λ u. error) syn₀ syn
+Inv-loop shape table syn₀ j error n t₀ syn t = (t ≤ n) × Toggled t (checkOf shape j) (λ u. error) syn₀ syn
 
 abbrev μ-loop : tie.MeasureT-loop
-μ-loop shape syn₀ j error n t₀ syn t = n - t
+μ-loop shape table syn₀ j error n t₀ syn t = n - t
 
 cast-n : tie.Need-cast-n Inv-loop μ-loop
 cast-n c = search needs
@@ -23,14 +23,14 @@ cast-n c = search needs
 loop-holds : tie.Need-loop-holds Inv-loop μ-loop
 loop-holds c = (search needs, toggled-none _ _ _)
 
-check-number-requires : tie.Need-check-number-requires Inv-loop μ-loop
-check-number-requires c κs = search needs
+number-by-requires : tie.Need-number-by-requires Inv-loop μ-loop
+number-by-requires c κs = search needs
 
 -- the check is in the table
-inside : (c : tie.After-check-number Inv-loop μ-loop) → c .check-number .result < 248
+inside : (c : tie.After-number-by Inv-loop μ-loop) → c .number-by .result < 248
 inside c =
-    let s = c .before .before .before .before in
-    rw (c .check-number .ensures) (check-fits (s .args .shape) (s .pre .0) (c .before .before .loop .t) (s .args .j) (c .before .loop-test .taken) (s .pre .2))
+    let s = c .before .before .before .before .before in
+    rw (c .number-by .ensures) (check-fits (s .args .shape) (s .pre .0) (c .before .before .loop .t) (s .args .j) (c .before .loop-test .taken) (s .pre .3))
 
 mul-syn : tie.Need-mul-syn Inv-loop μ-loop
 mul-syn c = omega (arith, inside c)
@@ -50,8 +50,8 @@ loop-less c = search needs
 loop-again : tie.Need-loop-again Inv-loop μ-loop
 unfolding _⊕_
 loop-again c =
-    let s = c .before .before .before .before .before in
-    (search needs, toggled-more (c .before .check-number .result) (c .before .before .before .loop .inv .1) (c .before .check-number .ensures) (rw (s .pre .1) (inside (c .before))))
+    let s = c .before .before .before .before .before .before in
+    (search needs, toggled-more (c .before .number-by .result) (c .before .before .before .loop .inv .1) (c .before .number-by .ensures) (rw (s .pre .2) (inside (c .before))))
 
 returns : tie.Need-returns Inv-loop μ-loop
 returns c = rw (le-antisymm (c .before .loop .inv .0) (c .loop-test .left)) at (c .before .loop .inv .1)
@@ -64,7 +64,7 @@ cancel-one-spec =
     μ-loop
     cast-n
     loop-holds
-    check-number-requires
+    number-by-requires
     mul-syn
     element-copy-out-syn
     element-write-syn

@@ -4,8 +4,8 @@ use Rattle.decoder.proofs.Answers.{uncorrected, corrected}
 use Rattle.decoder.proofs.correct.correct.Statement.{statement}
 use Rattle.decoder.proofs.correct.correct.Tie as tie
 
-syndromes-requires : tie.Need-syndromes-requires
-syndromes-requires c κs = search needs
+fill-requires : tie.Need-fill-requires
+fill-requires c κs = search needs
 
 cast-n : tie.Need-cast-n
 cast-n c = search needs
@@ -17,12 +17,12 @@ same-length : tie.Need-same-length
 same-length c = search needs
 
 returns : tie.Need-returns
-returns c = uncorrected (c .before .find .ensures .many (c .if1 .taken) _ (c .before .before .before .before .before .before .syndromes .ensures))
+returns c = uncorrected (c .before .find .ensures .many (c .if1 .taken) _ (c .before .before .before .before .before .before .fill .ensures))
 
 restore-requires : tie.Need-restore-requires
 restore-requires c κs =
     let e = c .before .before .before in
-    (e .before .before .before .before .before .before .before .before .before .pre .1, e .before .find .ensures .within (e .if1 .left))
+    (e .before .before .before .before .before .before .before .before .before .before .pre .1, e .before .find .ensures .within (e .if1 .left))
 
 cast-changed : tie.Need-cast-changed
 cast-changed c = search needs
@@ -33,13 +33,13 @@ same-length-2 c = search needs
 returns-2 : tie.Need-returns-2
 returns-2 c =
     let e = c .before .before .before .before .before .before in
-    corrected (e .before .find .ensures .few (e .if1 .left) _ (e .before .before .before .before .before .before .syndromes .ensures)) (c .before .before .restore .ensures)
+    corrected (e .before .find .ensures .few (e .if1 .left) _ (e .before .before .before .before .before .before .fill .ensures)) (c .before .before .restore .ensures)
 
 pub correct-spec : {M : Type 1} → statement M
 correct-spec =
     tie.close
     (tie.spec
-    syndromes-requires
+    fill-requires
     cast-n
     find-requires
     same-length

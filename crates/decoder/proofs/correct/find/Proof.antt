@@ -1,14 +1,10 @@
--- `decoder::correct::find` meets its contract. What holds of the list, the errors and the table gives what the contract says of every word with these syndromes (Reading.antt).
+-- `decoder::correct::find` meets its contract. Silent checks leave nothing to find; else it is the search, with the table or without.
 use mathlib.Core.Path.{sym, _∙_}
-use Prim.Native.Nat.{_*_, _≤_}
 use native.Mathlib.Omega.{arith}
 use borrow.Author.Needs.{needs}
-use Rattle.gtb.specs.declared.Shape.{Shape}
-use Rattle.gtb.specs.Shape.{wordLength}
-use Rattle.correction.specs.Steps.{Within, Listed}
-use Rattle.decoder.specs.Steps.{judged}
 use Rattle.correction.proofs.CheckNumbers.{checks-fit}
-use Rattle.decoder.proofs.Reading.{within, found-many, found-few, found-none}
+use Rattle.correction.proofs.Tabulated.{tabled, untabled}
+use Rattle.decoder.proofs.Reading.{found-silent}
 use Rattle.decoder.proofs.correct.find.Statement.{statement}
 use Rattle.decoder.proofs.correct.find.Tie as tie
 
@@ -18,53 +14,46 @@ cast-q c = search needs
 cast-n : tie.Need-cast-n
 cast-n c = search needs
 
-locate-requires : tie.Need-locate-requires
-locate-requires c κs = (c .before .before .before .before .pre .0, c .before .before .before .before .pre .2)
-
-returns : tie.Need-returns
-returns c = found-many (c .before .before .before .before .before .before .pre .0) (c .before .locate .ensures .many (c .if1 .taken))
-
--- the list, and that it is one of positions
-abbrev shape : tie.Else1 → Shape
-shape c = c .before .before .before .before .before .before .args .shape
-
-listed : (c : tie.Else1) → Listed (judged (shape c) (c .before .before .before .before .before .before .args .syn .now)) (wordLength (shape c)) (c .before .locate .result) (c .before .locate .last .1 .1 .0)
-listed c = c .before .locate .ensures .few (c .if1 .left)
-
-inside : (c : tie.Else1) → Within (shape c) (c .before .locate .result) (c .before .locate .last .1 .1 .0)
-inside c = within (c .before .before .before .before .before .before .pre .0) (c .if1 .left) (listed c)
-
-measure-requires : tie.Need-measure-requires
-measure-requires c κs =
-    let p = c .before .before .before .before .before .before .before .before .before .pre in
-    (p .0, p .3, inside (c .before .before .before))
-
-cancel-requires : tie.Need-cancel-requires
-cancel-requires c κs =
-    let p = c .before .before .before .before .before .before .before .before .before .before .before .before .before .pre in
-    (p .0, p .1, inside (c .before .before .before .before .before .before .before))
-
--- all checks are in the table
-checks : (c : tie.After-cancel) → shape (c .before .before .before .before .before .before .before .before) .n * shape (c .before .before .before .before .before .before .before .before) .q ≤ 248
-checks c = checks-fit _ (c .before .before .before .before .before .before .before .before .before .before .before .before .before .before .pre .0)
-
-mul-is-silent : tie.Need-mul-is-silent
-mul-is-silent c = omega (arith, checks (c .before))
+mul-checks : tie.Need-mul-checks
+mul-checks c = let s = c .before .before in omega (arith, checks-fit (s .args .shape) (s .pre .0))
 
 is-silent-requires : tie.Need-is-silent-requires
-is-silent-requires c κs = checks (c .before)
+is-silent-requires c κs = let s = c .before .before .before in checks-fit (s .args .shape) (s .pre .0)
+
+returns : tie.Need-returns
+returns c =
+    let s = c .before .before .before .before .before in
+    found-silent (s .args .shape) (s .pre .0) _ (sym (c .before .is-silent .ensures) ∙ c .if1 .taken) (s .pre .1) (s .pre .2) (s .pre .3)
+
+is-shipped-requires : tie.Need-is-shipped-requires
+is-shipped-requires c κs = search needs
+
+check-numbers-requires : tie.Need-check-numbers-requires
+check-numbers-requires c κs = search needs
+
+slice-aggregate-find-by : tie.Need-slice-aggregate-find-by
+slice-aggregate-find-by c = search needs
+
+find-by-requires : tie.Need-find-by-requires
+find-by-requires c κs =
+    let n = c .before .before .before .before in
+    let t = n .before in
+    let p = t .before .before .before .before .before .before .before .pre in
+    (p .0, tabled _ (sym (t .before .is-shipped .ensures) ∙ t .if2 .taken) _ (n .check-numbers .ensures), p .1, p .2, p .3)
 
 returns-2 : tie.Need-returns-2
-returns-2 c =
-    let e = c .before .before .before .before .before .before .before .before .before .before .before in
-    found-few (e .before .before .before .before .before .before .pre .0) (e .if1 .left) (listed e) (c .before .before .before .before .before .before .before .measure .ensures) (c .before .before .before .cancel .ensures)
-    (sym (c .before .is-silent .ensures) ∙ c .if2 .taken)
+returns-2 c = search needs
+
+slice-aggregate-find-by-2 : tie.Need-slice-aggregate-find-by-2
+slice-aggregate-find-by-2 c = search needs
+
+find-by-requires-2 : tie.Need-find-by-requires-2
+find-by-requires-2 c κs =
+    let p = c .before .before .before .before .before .before .before .before .before .before .before .pre in
+    (p .0, untabled _ _ (λ e. omega arith), p .1, p .2, p .3)
 
 returns-3 : tie.Need-returns-3
-returns-3 c =
-    let e = c .before .before .before .before .before .before .before .before .before .before .before in
-    found-none (e .before .before .before .before .before .before .pre .0) (e .if1 .left) (listed e) (c .before .before .before .before .before .before .before .measure .ensures) (c .before .before .before .cancel .ensures)
-    (sym (c .before .is-silent .ensures) ∙ c .if2 .left)
+returns-3 c = search needs
 
 pub find-spec : {M : Type 1} → statement M
 find-spec =
@@ -72,11 +61,14 @@ find-spec =
     (tie.spec
     cast-q
     cast-n
-    locate-requires
-    returns
-    measure-requires
-    cancel-requires
-    mul-is-silent
+    mul-checks
     is-silent-requires
+    returns
+    is-shipped-requires
+    check-numbers-requires
+    slice-aggregate-find-by
+    find-by-requires
     returns-2
+    slice-aggregate-find-by-2
+    find-by-requires-2
     returns-3)

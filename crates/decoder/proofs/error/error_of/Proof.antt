@@ -14,10 +14,10 @@ use Rattle.decoder.proofs.error.error_of.Statement.{statement}
 use Rattle.decoder.proofs.error.error_of.Tie as tie
 
 abbrev Inv-loop : tie.InvT-loop
-Inv-loop shape syn places count j n t₀ t = (t ≤ n) × ((u : ℕ) → u < t → aloneAmong shape places count j u ≡ false)
+Inv-loop shape table syn places count j n t₀ t = (t ≤ n) × ((u : ℕ) → u < t → aloneAmong shape places count j u ≡ false)
 
 abbrev μ-loop : tie.MeasureT-loop
-μ-loop shape syn places count j n t₀ t = n - t
+μ-loop shape table syn places count j n t₀ t = n - t
 
 cast-n : tie.Need-cast-n Inv-loop μ-loop
 cast-n c = search needs
@@ -28,14 +28,14 @@ loop-holds c = (search needs, below-none _)
 is-alone-requires : tie.Need-is-alone-requires Inv-loop μ-loop
 is-alone-requires c κs = search needs
 
-check-number-requires : tie.Need-check-number-requires Inv-loop μ-loop
-check-number-requires c κs = search needs
+number-by-requires : tie.Need-number-by-requires Inv-loop μ-loop
+number-by-requires c κs = search needs
 
 -- the check is in the table
-inside : (c : tie.After-check-number Inv-loop μ-loop) → c .check-number .result < 248
+inside : (c : tie.After-number-by Inv-loop μ-loop) → c .number-by .result < 248
 inside c =
-    let s = c .before .before .before .before .before .before in
-    rw (c .check-number .ensures) (check-fits (s .args .shape) (s .pre .0) (c .before .before .before .before .loop .t) (s .args .j) (c .before .before .before .loop-test .taken) (s .pre .1))
+    let s = c .before .before .before .before .before .before .before in
+    rw (c .number-by .ensures) (check-fits (s .args .shape) (s .pre .0) (c .before .before .before .before .loop .t) (s .args .j) (c .before .before .before .loop-test .taken) (s .pre .2))
 
 mul-result : tie.Need-mul-result Inv-loop μ-loop
 mul-result c = omega (arith, inside c)
@@ -46,7 +46,7 @@ element-copy-out-result c = inside c
 returns : tie.Need-returns Inv-loop μ-loop
 unfolding errorAmong
 returns c =
-    ap (at (c .before .before .before .before .before .before .before .args .syn .now)) (c .before .check-number .ensures)
+    ap (at (c .before .before .before .before .before .before .before .before .args .syn .now)) (c .before .number-by .ensures)
     ∙ sym
     (first-at _ _ _ (c .before .before .before .before .before .loop .t) (c .before .before .before .before .loop-test .taken)
     (c .before .before .before .before .before .loop .inv .1)
@@ -74,7 +74,7 @@ error-of-spec =
     cast-n
     loop-holds
     is-alone-requires
-    check-number-requires
+    number-by-requires
     mul-result
     element-copy-out-result
     returns

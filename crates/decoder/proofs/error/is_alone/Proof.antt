@@ -13,17 +13,17 @@ use Rattle.decoder.proofs.error.is_alone.Statement.{statement}
 use Rattle.decoder.proofs.error.is_alone.Tie as tie
 
 abbrev Inv-loop : tie.InvT-loop
-Inv-loop shape places count j t x₀ x = (x ≤ count) × (any x (λ y. shares shape t j (at places y)) ≡ false)
+Inv-loop shape table places count j t x₀ x = (x ≤ count) × (any x (λ y. shares shape t j (at places y)) ≡ false)
 
 abbrev μ-loop : tie.MeasureT-loop
-μ-loop shape places count j t x₀ x = count - x
+μ-loop shape table places count j t x₀ x = count - x
 
 loop-holds : tie.Need-loop-holds Inv-loop μ-loop
 loop-holds c = (search needs, any-zero _)
 
 -- the list has 8 entries
 inside : (c : tie.In-loop Inv-loop μ-loop) → c .before .loop .x < 8
-inside c = omega (arith, c .before .before .pre .3 .few)
+inside c = omega (arith, c .before .before .before .pre .4 .few)
 
 mul-shares-check : tie.Need-mul-shares-check Inv-loop μ-loop
 mul-shares-check c = omega (arith, inside c)
@@ -33,8 +33,8 @@ element-copy-out-shares-check c = inside c
 
 shares-check-requires : tie.Need-shares-check-requires Inv-loop μ-loop
 shares-check-requires c κs =
-    let p = c .before .before .before .pre in
-    (p .0, p .1, p .2, p .3 .below (c .before .before .loop .x) (c .before .loop-test .taken))
+    let p = c .before .before .before .before .pre in
+    (p .0, p .1, p .2, p .3, p .4 .below (c .before .before .loop .x) (c .before .loop-test .taken))
 
 returns : tie.Need-returns Inv-loop μ-loop
 unfolding aloneAmong

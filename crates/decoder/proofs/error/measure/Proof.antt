@@ -9,17 +9,17 @@ use Rattle.decoder.proofs.error.measure.Statement.{statement}
 use Rattle.decoder.proofs.error.measure.Tie as tie
 
 abbrev Inv-loop : tie.InvT-loop
-Inv-loop shape syn places count errors₀ x₀ errors x = (x ≤ count) × Measured shape syn places count x errors
+Inv-loop shape table syn places count errors₀ x₀ errors x = (x ≤ count) × Measured shape syn places count x errors
 
 abbrev μ-loop : tie.MeasureT-loop
-μ-loop shape syn places count errors₀ x₀ errors x = count - x
+μ-loop shape table syn places count errors₀ x₀ errors x = count - x
 
 loop-holds : tie.Need-loop-holds Inv-loop μ-loop
-loop-holds c = (search needs, measured-none _ _ _ _ _ (c .pre .1))
+loop-holds c = (search needs, measured-none _ _ _ _ _ (c .before .pre .2))
 
 -- the lists have 8 entries
 inside : (c : tie.In-loop Inv-loop μ-loop) → c .before .loop .x < 8
-inside c = omega (arith, c .before .before .pre .2 .few)
+inside c = omega (arith, c .before .before .before .pre .3 .few)
 
 mul-error-of : tie.Need-mul-error-of Inv-loop μ-loop
 mul-error-of c = omega (arith, inside c)
@@ -29,8 +29,8 @@ element-copy-out-error-of c = inside c
 
 error-of-requires : tie.Need-error-of-requires Inv-loop μ-loop
 error-of-requires c κs =
-    let p = c .before .before .before .pre in
-    (p .0, p .2 .below (c .before .before .loop .x) (c .before .loop-test .taken), p .2)
+    let p = c .before .before .before .before .pre in
+    (p .0, p .1, p .3 .below (c .before .before .loop .x) (c .before .loop-test .taken), p .3)
 
 mul-errors : tie.Need-mul-errors Inv-loop μ-loop
 mul-errors c = omega (arith, inside (c .before .before))

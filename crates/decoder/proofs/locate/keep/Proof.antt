@@ -15,13 +15,13 @@ cast-q : tie.Need-cast-q
 cast-q c = search needs
 
 judge-requires : tie.Need-judge-requires
-judge-requires c κs = let p = c .before .pre in (p .0, p .1, p .2, p .4)
+judge-requires c κs = let p = c .before .before .pre in (p .0, p .1, p .2, p .3, p .4, p .5)
 
 -- the position is in the word, and small
-place : (c : tie.Then1) → c .before .before .before .args .row * c .before .before .before .args .shape .q + c .before .before .before .args .column < 961
+place : (c : tie.Then1) → c .before .before .before .before .args .row * c .before .before .before .before .args .shape .q + c .before .before .before .before .args .column < 961
 place c =
-    let s = c .before .before .before in
-    lt-of-lt-of-le (in-word (s .args .shape) (s .pre .3) (s .pre .4)) (square-le (s .args .shape .q) (bounds (s .args .shape) (s .pre .0) .q31))
+    let s = c .before .before .before .before in
+    lt-of-lt-of-le (in-word (s .args .shape) (s .pre .4) (s .pre .5)) (square-le (s .args .shape .q) (bounds (s .args .shape) (s .pre .0) .q31))
 
 mul-places : tie.Need-mul-places
 mul-places c = omega (arith, place c)
@@ -30,8 +30,8 @@ add-places : tie.Need-add-places
 add-places c = omega (arith, place c)
 
 -- there is room for one more
-room : (c : tie.Then1) → c .before .before .before .args .count < 8
-room c = omega (arith, bounds (c .before .before .before .args .shape) (c .before .before .before .pre .0) .n8)
+room : (c : tie.Then1) → c .before .before .before .before .args .count < 8
+room c = omega (arith, bounds (c .before .before .before .before .args .shape) (c .before .before .before .before .pre .0) .n8)
 
 mul-places-2 : tie.Need-mul-places-2
 mul-places-2 c = omega (arith, room c)
@@ -43,10 +43,10 @@ add-result : tie.Need-add-result
 add-result c = omega (arith, room c)
 
 returns : tie.Need-returns
-returns c = listed-keep (sym (c .before .judge .ensures .located) ∙ c .if1 .taken) (room c) (c .before .before .before .pre .6)
+returns c = listed-keep (sym (c .before .judge .ensures .located) ∙ c .if1 .taken) (room c) (c .before .before .before .before .pre .7)
 
 returns-2 : tie.Need-returns-2
-returns-2 c = listed-skip (sym (c .before .judge .ensures .located) ∙ c .if1 .left) (c .before .before .before .pre .6)
+returns-2 c = listed-skip (sym (c .before .judge .ensures .located) ∙ c .if1 .left) (c .before .before .before .before .pre .7)
 
 pub keep-spec : {M : Type 1} → statement M
 keep-spec =

@@ -13,10 +13,10 @@ use Rattle.decoder.proofs.locate.locate.Statement.{statement}
 use Rattle.decoder.proofs.locate.locate.Tie as tie
 
 abbrev Inv-loop : tie.InvT-loop
-Inv-loop shape syn places₀ q n found₀ row₀ places found row = (row ≤ q) × (found < n) × Listed (judged shape syn) (row * q) found places
+Inv-loop shape table syn places₀ q n found₀ row₀ places found row = (row ≤ q) × (found < n) × Listed (judged shape syn) (row * q) found places
 
 abbrev μ-loop : tie.MeasureT-loop
-μ-loop shape syn places₀ q n found₀ row₀ places found row = q - row
+μ-loop shape table syn places₀ q n found₀ row₀ places found row = q - row
 
 cast-q : tie.Need-cast-q Inv-loop μ-loop
 cast-q c = search needs
@@ -26,17 +26,17 @@ cast-n c = search needs
 
 loop-holds : tie.Need-loop-holds Inv-loop μ-loop
 loop-holds c =
-    let s = c .before .before in
-    (search needs, omega (arith, bounds (s .args .shape) (s .pre .0) .n2), rw (zero-mul (s .args .shape .q)) (listed-none _ _ (s .pre .1)))
+    let s = c .before .before .before in
+    (search needs, omega (arith, bounds (s .args .shape) (s .pre .0) .n2), rw (zero-mul (s .args .shape .q)) (listed-none _ _ (s .pre .2)))
 
 scan-row-requires : tie.Need-scan-row-requires Inv-loop μ-loop
 scan-row-requires c κs =
     let i = c .before .before .loop .inv in
-    (c .before .before .before .before .before .pre .0, c .before .loop-test .taken, i .1, i .2)
+    (c .before .before .before .before .before .before .pre .0, c .before .before .before .before .before .before .pre .1, c .before .loop-test .taken, i .1, i .2)
 
 returns : tie.Need-returns Inv-loop μ-loop
 returns c =
-    let s = c .before .before .before .before .before .before .before .args .shape in
+    let s = c .before .before .before .before .before .before .before .before .args .shape in
     let row = c .before .before .before .before .loop .row in
     scanned-many (row * s .q + s .q) (row-in row (s .q) (c .before .before .before .loop-test .taken)) (c .before .scan-row .ensures .0 .many (c .if1 .taken))
 

@@ -13,26 +13,26 @@ use Rattle.decoder.proofs.locate.scan_row.Statement.{statement}
 use Rattle.decoder.proofs.locate.scan_row.Tie as tie
 
 abbrev Inv-loop : tie.InvT-loop
-Inv-loop shape syn row places₀ count check q n shifts found₀ c₀ places found c = (c ≤ q) × (found < n) × Listed (judged shape syn) (row * q + c) found places
+Inv-loop shape table syn row places₀ count check q n shifts found₀ c₀ places found c = (c ≤ q) × (found < n) × Listed (judged shape syn) (row * q + c) found places
 
 abbrev μ-loop : tie.MeasureT-loop
-μ-loop shape syn row places₀ count check q n shifts found₀ c₀ places found c = q - c
+μ-loop shape table syn row places₀ count check q n shifts found₀ c₀ places found c = q - c
 
 -- a row's own check is in the table
 inside : (c : tie.Start Inv-loop μ-loop) → c .args .row < 248
 inside c = omega (arith, bounds (c .args .shape) (c .pre .0) .q31)
 
 mul-check : tie.Need-mul-check Inv-loop μ-loop
-mul-check c = omega (arith, inside c)
+mul-check c = omega (arith, inside (c .before))
 
 element-copy-out-check : tie.Need-element-copy-out-check Inv-loop μ-loop
-element-copy-out-check c = inside c
+element-copy-out-check c = inside (c .before)
 
 returns : tie.Need-returns Inv-loop μ-loop
 returns c =
-    let s = c .before .before in
+    let s = c .before .before .before in
     let passed = passed-over (s .args .shape) (s .pre .0) (s .args .syn .now) (s .args .row) (c .if1 .taken) in
-    (scanned-few (s .pre .2) (listed-skips (s .args .shape .q) (passed .located) (s .pre .3)), λ _. passed)
+    (scanned-few (s .pre .3) (listed-skips (s .args .shape .q) (passed .located) (s .pre .4)), λ _. passed)
 
 cast-q : tie.Need-cast-q Inv-loop μ-loop
 cast-q c = search needs
@@ -40,26 +40,26 @@ cast-q c = search needs
 cast-n : tie.Need-cast-n Inv-loop μ-loop
 cast-n c = search needs
 
-shifts-of-requires : tie.Need-shifts-of-requires Inv-loop μ-loop
-shifts-of-requires c κs = search needs
+shifts-by-requires : tie.Need-shifts-by-requires Inv-loop μ-loop
+shifts-by-requires c κs = search needs
 
 loop-holds : tie.Need-loop-holds Inv-loop μ-loop
 loop-holds c =
-    let s = c .before .before .before .before .before in
-    (search needs, s .pre .2, rw (add-zero (s .args .row * s .args .shape .q)) (s .pre .3))
+    let s = c .before .before .before .before .before .before in
+    (search needs, s .pre .3, rw (add-zero (s .args .row * s .args .shape .q)) (s .pre .4))
 
 keep-requires : tie.Need-keep-requires Inv-loop μ-loop
 keep-requires c κs =
     let l = c .before .before .before in
     let e = l .before .before .before .before in
-    let p = e .before .before .pre in
-    (p .0, l .before .shifts-of .ensures, refl, p .1, c .before .before .loop-test .taken, l .loop .inv .1, l .loop .inv .2)
+    let p = e .before .before .before .pre in
+    (p .0, p .1, l .before .shifts-by .ensures, refl, p .2, c .before .before .loop-test .taken, l .loop .inv .1, l .loop .inv .2)
 
 returns-2 : tie.Need-returns-2 Inv-loop μ-loop
 returns-2 c =
     let loop = c .before .before .before .before .before in
     let e = loop .before .before .before .before in
-    let s = e .before .before .args in (
+    let s = e .before .before .before .args in (
       scanned-many (s .row * s .shape .q + loop .loop .c + 1) (omega arith) (omega (arith, c .before .keep .ensures .counted)),
       λ z. absurd (e .if1 .left z),
     )
@@ -91,7 +91,7 @@ scan-row-spec =
     returns
     cast-q
     cast-n
-    shifts-of-requires
+    shifts-by-requires
     loop-holds
     keep-requires
     returns-2

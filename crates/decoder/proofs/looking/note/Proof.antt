@@ -9,10 +9,10 @@ use Rattle.decoder.proofs.looking.note.Statement.{statement}
 use Rattle.decoder.proofs.looking.note.Tie as tie
 
 abbrev Inv-loop : tie.InvT-loop
-Inv-loop shape word looked₀ syn q row₀ looked row = (row ≤ q) × Noted shape syn (row * q) looked
+Inv-loop shape word looked₀ none syn q row₀ looked row = (row ≤ q) × Noted shape syn (row * q) looked
 
 abbrev μ-loop : tie.MeasureT-loop
-μ-loop shape word looked₀ syn q row₀ looked row = q - row
+μ-loop shape word looked₀ none syn q row₀ looked row = q - row
 
 syndromes-requires : tie.Need-syndromes-requires Inv-loop μ-loop
 syndromes-requires c κs = search needs
@@ -24,6 +24,9 @@ loop-holds : tie.Need-loop-holds Inv-loop μ-loop
 loop-holds c =
     let s = c .before .before .before .before in
     (search needs, rw (zero-mul (s .args .shape .q)) (noted-none _ _ _ (s .pre .2)))
+
+slice-aggregate-note-row : tie.Need-slice-aggregate-note-row Inv-loop μ-loop
+slice-aggregate-note-row c = search needs
 
 note-row-requires : tie.Need-note-row-requires Inv-loop μ-loop
 note-row-requires c κs = search needs
@@ -55,6 +58,7 @@ note-spec =
     syndromes-requires
     cast-q
     loop-holds
+    slice-aggregate-note-row
     note-row-requires
     add-row
     loop-less

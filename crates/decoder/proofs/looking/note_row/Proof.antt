@@ -14,49 +14,49 @@ use Rattle.decoder.proofs.looking.note_row.Statement.{statement}
 use Rattle.decoder.proofs.looking.note_row.Tie as tie
 
 abbrev Inv-loop : tie.InvT-loop
-Inv-loop shape syn row looked₀ q own shifts c₀ looked c = (c ≤ q) × Noted shape syn (row * q + c) looked
+Inv-loop shape table syn row looked₀ q own shifts c₀ looked c = (c ≤ q) × Noted shape syn (row * q + c) looked
 
 abbrev μ-loop : tie.MeasureT-loop
-μ-loop shape syn row looked₀ q own shifts c₀ looked c = q - c
+μ-loop shape table syn row looked₀ q own shifts c₀ looked c = q - c
 
 cast-q : tie.Need-cast-q Inv-loop μ-loop
 cast-q c = search needs
 
 -- a row's own check is in the table
-table : (c : tie.After-struct-known Inv-loop μ-loop) → c .before .before .args .row < 248
-table c =
-    let s = c .before .before in
+inside : (c : tie.After-struct-known Inv-loop μ-loop) → c .before .before .before .args .row < 248
+inside c =
+    let s = c .before .before .before in
     omega (arith, bounds (s .args .shape) (s .pre .0) .q31)
 
 mul-own : tie.Need-mul-own Inv-loop μ-loop
-mul-own c = omega (arith, table c)
+mul-own c = omega (arith, inside c)
 
 element-copy-out-own : tie.Need-element-copy-out-own Inv-loop μ-loop
-element-copy-out-own c = table c
+element-copy-out-own c = inside c
 
-shifts-of-requires : tie.Need-shifts-of-requires Inv-loop μ-loop
-shifts-of-requires c κs = search needs
+shifts-by-requires : tie.Need-shifts-by-requires Inv-loop μ-loop
+shifts-by-requires c κs = search needs
 
 loop-holds : tie.Need-loop-holds Inv-loop μ-loop
 loop-holds c =
-    let s = c .before .before .before .before in
-    (search needs, rw (add-zero (s .args .row * s .args .shape .q)) (s .pre .2))
+    let s = c .before .before .before .before .before in
+    (search needs, rw (add-zero (s .args .row * s .args .shape .q)) (s .pre .3))
 
 judge-requires : tie.Need-judge-requires Inv-loop μ-loop
 judge-requires c κs =
     let l = c .before .before in
-    let s = l .before .before .before .before .before in
-    (s .pre .0, l .before .shifts-of .ensures, refl, c .before .loop-test .taken)
+    let s = l .before .before .before .before .before .before in
+    (s .pre .0, s .pre .1, l .before .shifts-by .ensures, refl, s .pre .2, c .before .loop-test .taken)
 
 -- the position is in the word, and small
-place : (c : tie.After-judge Inv-loop μ-loop) → c .before .before .before .before .before .before .before .before .args .row * c .before .before .before .before .before .before .before .before .args .shape .q + c .before .before .before .loop .c < wordLength (c .before .before .before .before .before .before .before .before .args .shape)
+place : (c : tie.After-judge Inv-loop μ-loop) → c .before .before .before .before .before .before .before .before .before .args .row * c .before .before .before .before .before .before .before .before .before .args .shape .q + c .before .before .before .loop .c < wordLength (c .before .before .before .before .before .before .before .before .before .args .shape)
 place c =
-    let s = c .before .before .before .before .before .before .before .before in
-    in-word (s .args .shape) (s .pre .1) (c .before .before .loop-test .taken)
+    let s = c .before .before .before .before .before .before .before .before .before in
+    in-word (s .args .shape) (s .pre .2) (c .before .before .loop-test .taken)
 
-small : (c : tie.After-judge Inv-loop μ-loop) → c .before .before .before .before .before .before .before .before .args .row * c .before .before .before .before .before .before .before .before .args .shape .q + c .before .before .before .loop .c < 961
+small : (c : tie.After-judge Inv-loop μ-loop) → c .before .before .before .before .before .before .before .before .before .args .row * c .before .before .before .before .before .before .before .before .before .args .shape .q + c .before .before .before .loop .c < 961
 small c =
-    let s = c .before .before .before .before .before .before .before .before in
+    let s = c .before .before .before .before .before .before .before .before .before in
     lt-of-lt-of-le (place c) (square-le (s .args .shape .q) (bounds (s .args .shape) (s .pre .0) .q31))
 
 mul-looked : tie.Need-mul-looked Inv-loop μ-loop
@@ -95,7 +95,7 @@ note-row-spec =
     cast-q
     mul-own
     element-copy-out-own
-    shifts-of-requires
+    shifts-by-requires
     loop-holds
     judge-requires
     mul-looked

@@ -6,8 +6,8 @@ use native.Mathlib.Omega.{arith}
 use borrow.Author.Needs.{needs}
 use Rattle.parity.specs.Xor.{_⊕_}
 use Rattle.gtb.specs.Square.{at}
-use Rattle.encoder.specs.Steps.{Written}
-use Rattle.encoder.proofs.Writes.{written-none, written-more}
+use Rattle.gtb.specs.Sweep.{Written}
+use Rattle.gtb.proofs.Writes.{written-none, written-more}
 use Rattle.encoder.proofs.interpolation.join_row.Statement.{statement}
 use Rattle.encoder.proofs.interpolation.join_row.Tie as tie
 

@@ -1,4 +1,4 @@
--- `gtb::syndrome::syndromes` meets its contract. The loop's invariant: the first t directions are done.
+-- `gtb::syndrome::rotated` meets its contract. The loop's invariant: the first t directions are done.
 use borrow.Author.Needs.{needs}
 use mathlib.Core.Path.{refl}
 use Prim.Native.Nat.{_-_, _≤_}
@@ -6,8 +6,8 @@ use native.Mathlib.Omega.{arith}
 use Rattle.gtb.proofs.Bounds.{bounds}
 use Rattle.gtb.proofs.Slopes.{slope-lt}
 use Rattle.gtb.proofs.Directions.{Directions, direction-room, direction-first, direction-next, direction-last}
-use Rattle.gtb.proofs.syndrome.syndromes.Statement.{statement}
-use Rattle.gtb.proofs.syndrome.syndromes.Tie as tie
+use Rattle.gtb.proofs.syndrome.rotated.Statement.{statement}
+use Rattle.gtb.proofs.syndrome.rotated.Tie as tie
 
 abbrev Inv-loop : tie.InvT-loop
 Inv-loop shape word q n syn₀ t₀ syn t = (1 ≤ t) × (t ≤ n) × Directions shape word t syn
@@ -76,8 +76,8 @@ returns c =
     let k = c .before .before .before .before .before .before .before in
     direction-last _ (k .pre .0) _ _ _ (omega arith) (c .before .loop .inv .2)
 
-pub syndromes-spec : {M : Type 1} → statement M
-syndromes-spec =
+pub rotated-spec : {M : Type 1} → statement M
+rotated-spec =
     tie.close
     (tie.spec
     Inv-loop

@@ -1,8 +1,8 @@
--- `encoder::runs::copy_run` meets its contract.
+-- `gtb::copy_run` meets its contract.
 use borrow.Author.Needs.{needs}
-use Rattle.encoder.proofs.Writes.{written-run}
-use Rattle.encoder.proofs.runs.copy_run.Statement.{statement}
-use Rattle.encoder.proofs.runs.copy_run.Tie as tie
+use Rattle.gtb.proofs.Writes.{written-run}
+use Rattle.gtb.proofs.copy_run.Statement.{statement}
+use Rattle.gtb.proofs.copy_run.Tie as tie
 
 add-copy : tie.Need-add-copy
 add-copy c = search needs

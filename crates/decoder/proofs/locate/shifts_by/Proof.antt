@@ -1,0 +1,16 @@
+-- `decoder::locate::shifts_by` meets its contract: with a table nothing is promised, without one they are the row's shifts.
+use borrow.Author.Needs.{needs}
+use Rattle.decoder.proofs.locate.shifts_by.Statement.{statement}
+use Rattle.decoder.proofs.locate.shifts_by.Tie as tie
+
+returns : tie.Need-returns
+returns c = λ ne. absurd (ne (c .if1 .taken))
+
+shifts-of-requires : tie.Need-shifts-of-requires
+shifts-of-requires c κs = search needs
+
+returns-2 : tie.Need-returns-2
+returns-2 c = λ _. c .shifts-of .ensures
+
+pub shifts-by-spec : {M : Type 1} → statement M
+shifts-by-spec = tie.close (tie.spec returns shifts-of-requires returns-2)

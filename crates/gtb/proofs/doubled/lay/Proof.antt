@@ -1,0 +1,49 @@
+-- `gtb::doubled::lay` meets its contract. The loop's invariant is the contract for the first r rows.
+use Prim.Native.Nat.{_-_, _≤_}
+use native.Mathlib.Nat.{le-antisymm}
+use borrow.Author.Needs.{needs}
+use Rattle.gtb.specs.Sweep.{Doubled}
+use Rattle.gtb.proofs.Doubles.{doubled-none}
+use Rattle.gtb.proofs.doubled.lay.Statement.{statement}
+use Rattle.gtb.proofs.doubled.lay.Tie as tie
+
+abbrev Inv-loop : tie.InvT-loop
+Inv-loop twice₀ word q r₀ twice r = (r ≤ q) × Doubled q r word twice
+
+abbrev μ-loop : tie.MeasureT-loop
+μ-loop twice₀ word q r₀ twice r = q - r
+
+loop-holds : tie.Need-loop-holds Inv-loop μ-loop
+loop-holds c = (search needs, doubled-none _ _ _ (c .before .before .pre .2))
+
+lay-row-requires : tie.Need-lay-row-requires Inv-loop μ-loop
+lay-row-requires c κs = search needs
+
+add-r : tie.Need-add-r Inv-loop μ-loop
+add-r c = search needs
+
+loop-less : tie.Need-loop-less Inv-loop μ-loop
+loop-less c = search needs
+
+loop-again : tie.Need-loop-again Inv-loop μ-loop
+loop-again c = (search needs, c .before .before .lay-row .ensures)
+
+same-length : tie.Need-same-length Inv-loop μ-loop
+same-length c = search needs
+
+returns : tie.Need-returns Inv-loop μ-loop
+returns c = rw (le-antisymm (c .before .loop .inv .0) (c .loop-test .left)) at (c .before .loop .inv .1)
+
+pub lay-spec : {M : Type 1} → statement M
+lay-spec =
+    tie.close
+    (tie.spec
+    Inv-loop
+    μ-loop
+    loop-holds
+    lay-row-requires
+    add-r
+    loop-less
+    loop-again
+    same-length
+    returns)
