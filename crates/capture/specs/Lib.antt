@@ -3,3 +3,4 @@ pub mod Judge
 pub mod Feed
 pub mod Steps
 pub mod Whole
+pub mod Print
