@@ -28,10 +28,10 @@ unfolding feed
 feed-none t held = refl
 
 -- after a line: its answer, and what the rest leads to
-abbrev next : Judged → List ℕ → Fed
+abbrev pub next : Judged → List ℕ → Fed
 next j bytes = after (answerText (j .answer)) (feed (j .tally) [] bytes)
 
-feed-end : (t : Tally) (held : List ℕ) (b : ℕ) (bytes : List ℕ) → eqb b newline ≡ true → feed t held (b ∷ bytes) ≡ next (judgedOf t held) bytes
+pub feed-end : (t : Tally) (held : List ℕ) (b : ℕ) (bytes : List ℕ) → eqb b newline ≡ true → feed t held (b ∷ bytes) ≡ next (judgedOf t held) bytes
 unfolding feed
 feed-end t held b bytes h = rw (feed, h)
 

@@ -6,3 +6,7 @@ pub mod Frames
 pub mod Examples
 pub mod Whole
 pub mod Standards
+pub mod Print
+pub mod Ranks
+pub mod Printed
+pub mod Captured

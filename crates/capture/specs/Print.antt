@@ -8,7 +8,7 @@ use lib.ListN.{length, getD, replicate}
 use Rattle.parity.specs.Lists.{tabulate}
 use Rattle.gtb.specs.declared.Shape.{Shape}
 use Rattle.gtb.specs.declared.Refusal.{Refusal}
-use Rattle.gtb.specs.Shape.{scratchLength, standard}
+use Rattle.gtb.specs.Shape.{scratchLength}
 use Rattle.lines.specs.Text.{newline, namesShape, namesWord, namesOutcome, spell}
 use Rattle.lines.specs.Content.{Content, Spelled, Unreadable}
 use Rattle.session.specs.declared.Outcome.{Outcome}
