@@ -48,17 +48,17 @@ unfolding fault
 shapes σ (Spelled xs) h = three σ xs (eqb (length xs) 3) h
 shapes σ Unreadable h = h
 
-words : (σ : Session) (c : Content) → Consistent σ → After (worded σ c)
+pub word-consistent : (σ : Session) (c : Content) → Consistent σ → Consistent (worded σ c .tally .session)
 unfolding arrived
-words σ (Spelled xs) h = after-consistent σ (broughtBy σ xs) h
-words σ Unreadable h = h
+word-consistent σ (Spelled xs) h = after-consistent σ (broughtBy σ xs) h
+word-consistent σ Unreadable h = h
 
 judges : (phase : Phase) (σ : Session) (line : List ℕ) → Consistent σ → After (judgedIn phase σ line)
 unfolding passed
 judges ShapeNames σ line h = names σ (sameBytes line namesShape) ShapeValues h
 judges ShapeValues σ line h = shapes σ (lineContent line) h
 judges WordNames σ line h = names σ (sameBytes line namesWord) Words h
-judges Words σ line h = words σ (lineContent line) h
+judges Words σ line h = word-consistent σ (lineContent line) h
 judges Ended σ line h = h
 
 -- each line leaves them right

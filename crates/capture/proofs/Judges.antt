@@ -27,7 +27,6 @@ use Rattle.session.specs.declared.Session.{Session}
 use Rattle.session.specs.Session.{freshOf, freshStatus}
 use Rattle.session.specs.declared.Arrived.{Arrived}
 use Rattle.session.specs.declared.Outcome.{Outcome}
-use Rattle.session.specs.declared.Outcome.the-variants.{Refused}
 use Rattle.session.specs.declared.Outcome.the-variants as outcome
 use Rattle.session.specs.Arrival.{isWay, wayOf, theWays, opened, outcomeOf, sessionAfter, outcomeScratch, Stepping, Bad}
 use Rattle.gtb.specs.Answer.{unless}
@@ -175,8 +174,7 @@ pub scratch-kept : {σ : Session} {word word′ scratch′ : List ℕ} {a : Arri
 scratch-kept {a = a} scratch room long few arr =
     rw (length-append, arr .scratchLeft, scratch-length (take room scratch) (a .outcome), length-take-le room scratch (omega arith), length-drop) (omega arith)
 
-pub worded-none : (σ : Session) (c : Content) → c ≡ Unreadable
-    → record { tally = record { phase = Words; session = σ }; answer = Line (Refused Refusal.Syntax) } ≡ worded σ c
+pub worded-none : (σ : Session) (c : Content) → c ≡ Unreadable → worded σ Unreadable ≡ worded σ c
 worded-none σ c h = rw h
 
 -- ---- the phases

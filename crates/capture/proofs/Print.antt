@@ -28,16 +28,17 @@ use Rattle.session.specs.Recording.{Arrival}
 use Rattle.session.specs.Claim.{Run, stop, step}
 use Rattle.session.proofs.Arrive.{step-arrives}
 use Rattle.session.proofs.Joins.{after-shape}
-use Rattle.session.proofs.Progress.{after-consistent}
 use Rattle.capture.specs.declared.Phase.{Phase}
 use Rattle.capture.specs.declared.Phase.the-variants.{ShapeValues, WordNames, Words}
 use Rattle.capture.specs.declared.Tally.{Tally}
-use Rattle.capture.specs.declared.Answer.the-variants.{Line}
+use Rattle.capture.specs.declared.Answer.{Answer}
+use Rattle.capture.specs.declared.Answer.the-variants.{Nothing, Line}
 use Rattle.capture.specs.declared.Judged.{Judged}
 use Rattle.capture.specs.Output.{outcomeLine}
 use Rattle.capture.specs.Judge.{lineContent, passed, broughtBy, arrived, worded, judgedOf}
 use Rattle.capture.specs.Feed.{start, after, feed}
 use Rattle.capture.specs.Print.{Unbroken, lineAt, linesText, captureText, joining, arrivalsIn, answerLines}
+use Rattle.capture.proofs.Figures.{word-consistent}
 use Rattle.capture.proofs.Feeds.{next, feed-none, feed-end, feed-run, after-after}
 
 -- ---- texts without a newline
@@ -163,14 +164,17 @@ module _ (q n b : ℕ) (law : Lawful (standard q n b)) where
 abbrev words : Session → Tally
 words σ = record { phase = Words; session = σ }
 
+-- the outcome that is answered; a word line is answered with one
+abbrev outcomeIn : Answer → Outcome
+outcomeIn Nothing = Refused Refusal.Shape
+outcomeIn (Line r) = r
+
 -- the answer to what a line says, and the session after it
 abbrev pub replied : Session → Content → Outcome
-replied σ (Spelled xs) = outcomeOf σ (broughtBy σ xs)
-replied σ Unreadable = Refused Refusal.Syntax
+replied σ c = outcomeIn (worded σ c .answer)
 
 abbrev pub left : Session → Content → Session
-left σ (Spelled xs) = sessionAfter σ (broughtBy σ xs)
-left σ Unreadable = σ
+left σ c = worded σ c .tally .session
 
 content-judged : (σ : Session) (c : Content) → worded σ c ≡ record { tally = words (left σ c); answer = Line (replied σ c) }
 unfolding arrived
@@ -220,7 +224,7 @@ by-calls σ (Page number marks k) (Refused e) h = h
 by-calls σ (Bad e) r h = h
 
 left-calls : (σ : Session) (c : Content) → length (σ .calls) ≡ 256 → length (left σ c .calls) ≡ 256
-unfolding sessionAfter
+unfolding arrived sessionAfter
 left-calls σ (Spelled xs) h = by-calls σ (broughtBy σ xs) (outcomeOf σ (broughtBy σ xs)) h
 left-calls σ Unreadable h = h
 
@@ -244,16 +248,14 @@ repliesTo σ [] = []
 repliesTo σ (line ∷ lines) = joins (lineContent line) (replied σ (lineContent line)) (repliesTo (left σ (lineContent line)) lines)
 
 left-shape : (σ : Session) (c : Content) → left σ c .shape ≡ σ .shape
+unfolding arrived
 left-shape σ (Spelled xs) = after-shape σ (broughtBy σ xs)
 left-shape σ Unreadable = refl
-
-left-consistent : (σ : Session) (c : Content) → Consistent σ → Consistent (left σ c)
-left-consistent σ (Spelled xs) right = after-consistent σ (broughtBy σ xs) right
-left-consistent σ Unreadable right = right
 
 -- the program steps past test 11, which a session with right figures passes
 content-run : (σ : Session) → Consistent σ → (c : Content) {arrivals : List Arrival} {answers : List Outcome} {end : Session}
     → Run theWays (left σ c) arrivals answers end → Run theWays σ (joining (σ .shape) c arrivals) (joins c (replied σ c) answers) end
+unfolding arrived
 content-run σ right (Spelled xs) run =
     let o : Opened = broughtBy σ xs in
     let r : Arrived = record { session = sessionAfter σ o; outcome = outcomeOf σ o } in
@@ -267,4 +269,4 @@ lines-run s [] σ same right = stop
 lines-run s (line ∷ lines) σ same right =
     let c : Content = lineContent line in
     subst (λ (x : Shape). Run theWays σ (joining x c (arrivalsIn s lines)) (repliesTo σ (line ∷ lines)) (endOf σ (line ∷ lines))) same
-    (content-run σ right c (lines-run s lines (left σ c) (left-shape σ c ∙ same) (left-consistent σ c right)))
+    (content-run σ right c (lines-run s lines (left σ c) (left-shape σ c ∙ same) (word-consistent σ c right)))
