@@ -8,7 +8,6 @@ use native.Mathlib.Nat.{le-of-lt}
 use native.Mathlib.Omega.{arith}
 use lib.Dec.{eqb}
 use lib.ListN.{length, take}
-use lib.Seq.{take-all}
 use borrow.Author.Tests.{ne-eqb}
 use Rattle.parity.proofs.Lists.{is-tabulate}
 use Rattle.parity.proofs.Tests.{either}
@@ -32,12 +31,12 @@ use Rattle.capture.specs.declared.Tally.{Tally}
 use Rattle.capture.specs.declared.Reader.{Reader}
 use Rattle.capture.specs.Output.{outcomeLine, refusedLine, callsText}
 use Rattle.capture.specs.Judge.{lineContent}
-use Rattle.capture.specs.Feed.{start, after, feed, closing, written, readLimit, outputOf}
+use Rattle.capture.specs.Feed.{start, after, closing, written, readLimit, outputOf}
 use Rattle.capture.specs.Steps.{Finished}
 use Rattle.capture.specs.Whole.{BlockRun, joined}
 use Rattle.capture.specs.Print.{Unbroken, lineAt, captureText, arrivalOf, arrivalsIn, LineBrings, answerLines, cutLine, ownTable, Prints, tableFrom, secondTable}
 use Rattle.capture.proofs.Texts.{closing-in}
-use Rattle.capture.proofs.Whole.{whole-output}
+use Rattle.capture.proofs.Whole.{read-whole, whole-output}
 use Rattle.capture.proofs.Print.{Plain, plain-append, plainTest, test-plain, decimal-plain, space-plain, answersTo, endOf, repliesTo, feed-shape, feed-lines, feed-cut, answers-number, fresh-end-calls, lines-run}
 use Rattle.capture.proofs.Ranks.{rank, line-stands, rank-less, line-before, line-unread}
 
@@ -109,11 +108,6 @@ module _ (s : Shape) (pages : List Sheet) (lines : List (List ℕ)) (r : Recordi
   end-table : callsText (endOf (freshOf s) lines .calls) ≡ ownTable pages
   unfolding ownTable
   end-table = ap callsText (is-tabulate 256 (tally pages (λ p. true)) (endOf (freshOf s) lines .calls) (fresh-end-calls lines s) (demand .whole))
-
--- within the limit all of the input is read
-read-whole : (input : List ℕ) → length input ≤ readLimit → outputOf input ≡ written (feed start [] input)
-unfolding outputOf
-read-whole input few = ap (λ (x : List ℕ). written (feed start [] x)) (take-all readLimit input few)
 
 module _ (q n b : ℕ) (pages : List Sheet) (lines : List (List ℕ)) (cut : List ℕ) (r : Recording (standard q n b) pages) (unbroken : (i : ℕ) → i < length lines → Unbroken (lineAt lines i)) (last : Unbroken cut) (fits : Fits theWays (standard q n b) pages (arrivalsIn (standard q n b) lines)) (few : length (captureText q n b lines cut) ≤ readLimit) where
   the-text : outputOf (captureText q n b lines cut)

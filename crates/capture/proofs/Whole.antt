@@ -35,6 +35,11 @@ leads (Block r r₁ r₂ buffer buffer₁ buffer₂ block text rest blocks t run
       output = ap (λ (x : List ℕ). x ++ rest) (t .wrote ∙ f .output) ∙ ap (λ (x : List ℕ). fed .text ++ x) (l .output ∙ ap (λ (x : Fed). x .text) same);
     })
 
+-- within the limit all of the input is read
+pub read-whole : (input : List ℕ) → length input ≤ readLimit → outputOf input ≡ written (feed start [] input)
+unfolding outputOf
+read-whole input few = ap (λ (x : List ℕ). written (feed start [] x)) (take-all readLimit input few)
+
 -- from the beginning on, with the closing at the end, in each way in which the program stops reading
 module _ {r r₂ : Reader} {buffer buffer₂ text out : List ℕ} {k : ℕ} (blocks : List (List ℕ)) (first : r .tally ≡ start) (empty : r .held ≡ 0) (full : length buffer ≡ 16384)
     (run : BlockRun r buffer blocks text r₂ buffer₂) (end : Finished r₂ out k) (few : length (joined blocks) ≤ readLimit) where
@@ -51,8 +56,7 @@ module _ {r r₂ : Reader} {buffer buffer₂ text out : List ℕ} {k : ℕ} (blo
 
   -- where the input ended
   pub whole-output : namesOutcome ++ text ++ take k out ≡ outputOf (joined blocks)
-  unfolding outputOf
-  whole-output = fed-output ∙ ap (λ (x : List ℕ). written (feed start [] x)) (sym (take-all readLimit (joined blocks) few))
+  whole-output = fed-output ∙ sym (read-whole (joined blocks) few)
 
   -- where a fault was answered, that is the output of the whole input, whatever bytes follow
   pub ended-output : isEnded (r₂ .tally .phase) ≡ true → (rest : List ℕ) → namesOutcome ++ text ++ take k out ≡ outputOf (joined blocks ++ rest)
