@@ -13,6 +13,7 @@ use Rattle.gtb.proofs.Orders.{order-rule}
 
 -- order, directions and width of a lawful shape
 pub record Bounds (s : Shape) : Type 0 where
+  pub listed : isOrder (s .q) ≡ true
   pub order : Order (s .q)
   pub q3 : 3 ≤ s .q
   pub q31 : s .q ≤ 31
@@ -49,6 +50,7 @@ bounds s h =
     let (upto-n2, nq) = and-parts _ _ upto-nq in
     let (o, n2) = and-parts _ _ upto-n2 in
     record {
+      listed = o;
       order = order-rule (s .q) o .order;
       q3 = order-rule (s .q) o .low;
       q31 = order-rule (s .q) o .high;

@@ -1,10 +1,10 @@
 -- A slice copied, one symbol after the other.
 use mathlib.Core.Path.{_≡_, ap, _∙_}
-use mathlib.Core.List.{List, _++_, append-nil}
+use mathlib.Core.List.{List, _++_}
 use Prim.Native.Nat.{ℕ, suc, _+_, _<_}
 use native.Mathlib.Numerals.{add-one}
 use native.Mathlib.Omega.{arith}
-use lib.ListN.{length, getD, take, drop, set, drop-of-length-le}
+use lib.ListN.{length, getD, take, drop, set}
 use lib.Seq.{drop-cons, set-at, take-suc, append-snoc, take-length, length-take-le}
 
 -- i symbols are copied, and one more is
@@ -17,7 +17,3 @@ copied from old i e l m =
 pub all-copied : (from old : List ℕ) (i : ℕ) {now : List ℕ} → now ≡ take i from ++ drop i old → i ≡ length from →
     now ≡ from ++ drop (length from) old
 all-copied from old i e l = e ∙ rw (l, take-length)
-
--- copied onto a list of the same length it is that list
-pub whole-copied : (from old : List ℕ) {now : List ℕ} → length from ≡ length old → now ≡ from ++ drop (length from) old → now ≡ from
-whole-copied from old l e = e ∙ ap (λ (r : List ℕ). from ++ r) (drop-of-length-le old {i = length from} (omega arith)) ∙ append-nil from

@@ -7,23 +7,17 @@ use native.Mathlib.Nat.{zero-mul, one-mul, suc-mul, mul-le-mul, le-trans, not-su
 use native.Mathlib.Numerals.{add-one}
 use native.Mathlib.Omega.{arith}
 use lib.Arith.{lt-one, digits-lt}
-use lib.ListN.{length, replicate}
+use lib.ListN.{replicate}
 use Rattle.parity.specs.Xor.{_⊕_, xorSum}
 use Rattle.parity.proofs.Xors.{zero-l}
 use Rattle.parity.proofs.Lists.{at-zeros}
 use Rattle.gtb.specs.declared.Shape.{Shape}
 use Rattle.gtb.specs.Shape.{Lawful, slopeOf}
 use Rattle.gtb.specs.Square.{at, syndrome, Syndromes}
-use Rattle.gtb.specs.Sweep.{Added}
+use Rattle.gtb.specs.Sweep.{Added, Directions}
 use Rattle.gtb.proofs.Bounds.{bounds}
 use Rattle.gtb.specs.Rows.{shiftOf}
 use Rattle.gtb.proofs.Rows.{syndrome-row, syndrome-rows}
-
--- the entries of the first t directions are the syndromes, the others still 0
-pub record Directions (s : Shape) (w : List ℕ) (t : ℕ) (syn : List ℕ) : Type 0 where
-  pub size : length syn ≡ 248
-  pub entry : (u : ℕ) → u < t → (L : ℕ) → L < s .q → at syn (u * s .q + L) ≡ syndrome s (at w) u L
-  pub rest : (e : ℕ) → t * s .q ≤ e → at syn e ≡ 0
 
 -- what a sweep of direction t with the slope k does
 abbrev Swept : Shape → List ℕ → ℕ → ℕ → List ℕ → List ℕ → Type 0

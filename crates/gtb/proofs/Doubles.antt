@@ -1,6 +1,6 @@
 -- Rows laid down twice, and the sweeps over them.
 use mathlib.Core.List.{List}
-use mathlib.Core.Path.{_≡_, _∙_, refl, sym, ap}
+use mathlib.Core.Path.{_≡_, _∙_, sym, ap}
 use Prim.Native.Nat.{ℕ, _+_, _-_, _*_, _%_, _≤_, _<_}
 use native.Mathlib.Nat.{mod-eq-of-lt, add-mod-right, add-mod-mod, mod-lt, mul-le-mul, mul-le-mul-right, not-suc-le-zero, suc-mul}
 use native.Mathlib.Decide.{decLt}
@@ -13,8 +13,8 @@ use Rattle.parity.proofs.XorSums.{cong}
 use Rattle.gtb.specs.declared.Shape.{Shape}
 use Rattle.gtb.specs.Shape.{Lawful, slopeOf}
 use Rattle.gtb.specs.Square.{at}
-use Rattle.gtb.specs.Sweep.{Added, Written, Doubled}
-use Rattle.gtb.proofs.Directions.{Directions, direction-first, direction-next}
+use Rattle.gtb.specs.Sweep.{Added, Written, Doubled, Directions}
+use Rattle.gtb.proofs.Directions.{direction-first, direction-next}
 
 -- a row's place among the doubled ones
 pub place-in : (r q : ℕ) → r < q → r * (q + q) + (q + q) ≤ q * (q + q)

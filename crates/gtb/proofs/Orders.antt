@@ -1,11 +1,11 @@
 -- The table of orders: its rule, computed once over the ten entries, and that up to 31 no number is missing.
 use mathlib.Core.Path.{_≡_, refl, sym, ap, _∙_}
-use mathlib.Core.Bool.{Bool, true, not, Bool·beq, _&&_}
+use mathlib.Core.Bool.{Bool, true, false, not, Bool·beq, _&&_}
 use Prim.Native.Nat.{ℕ, _+_, _-_, _%_, _≤_, _<_, suc-le-suc}
 use native.Mathlib.Omega.{arith}
 use lib.Dec.{eqb, leb}
 use lib.ListN.{getD}
-use borrow.Author.Tests.{eqb-true, eqb-false, leb-true, not-true}
+use borrow.Author.Tests.{eqb-true, eqb-false, ne-eqb, leb-true, not-true}
 use Rattle.parity.specs.Count.{any, all}
 use Rattle.parity.specs.Cyclic.{Order}
 use Rattle.parity.proofs.Orders.{orderTest, order-of}
@@ -59,3 +59,10 @@ order-rule q o =
 pub orders-rule : (q : ℕ) → q ≤ 31 → isOrder q ≡ oddPrime q
 unfolding isOrder orders oddPrime all any
 orders-rule q h = agree (isOrder q) (oddPrime q) (all-elim 32 (λ q. Bool·beq (isOrder q) (oddPrime q)) refl q (suc-le-suc h))
+
+-- an order that is none of the first nine is 31
+pub last-order : (q : ℕ) → isOrder q ≡ true → (q ≡ 3 → ⊥) → (q ≡ 5 → ⊥) → (q ≡ 7 → ⊥) → (q ≡ 11 → ⊥) → (q ≡ 13 → ⊥) → (q ≡ 17 → ⊥) → (q ≡ 19 → ⊥) → (q ≡ 23 → ⊥) → (q ≡ 29 → ⊥) → q ≡ 31
+unfolding isOrder any orders
+last-order q o no3 no5 no7 no11 no13 no17 no19 no23 no29 =
+    let other : (k : ℕ) → (q ≡ k → ⊥) → eqb k q ≡ false = λ k h. ne-eqb k q (λ e. h (sym e)) in
+    sym (eqb-true 31 q (rw (other 3 no3, other 5 no5, other 7 no7, other 11 no11, other 13 no13, other 17 no17, other 19 no19, other 23 no23, other 29 no29) at o))

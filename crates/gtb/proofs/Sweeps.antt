@@ -2,8 +2,8 @@
 use borrow.Author.Count.{below-none, below-more}
 use mathlib.Core.List.{List}
 use mathlib.Core.Path.{_≡_, _∙_, refl, sym, ap, ap₂, subst, subst₂}
-use Prim.Native.Nat.{ℕ, _+_, _-_, _%_, _≤_, _<_}
-use native.Mathlib.Nat.{zero-add, lt-trans, mod-eq-of-lt, add-mod-right}
+use Prim.Native.Nat.{ℕ, _+_, _-_, _≤_, _<_}
+use native.Mathlib.Nat.{zero-add}
 use native.Mathlib.Decide.{decLt}
 use native.Mathlib.Omega.{arith}
 use lib.ListN.{length, set, length-set}
@@ -103,20 +103,3 @@ join base a b f g h old mid new first second ef eg = record {
         let u : a + k ≡ i = omega arith in
         ap (at new) (sym e) ∙ second .inside k (omega arith)
         ∙ ap₂ (λ (x y : ℕ). x ⊕ y) (ap (at mid) e ∙ first .above (base + i) (omega arith)) (eg k (omega arith) ∙ ap h u)
-
--- a row in two runs: entry L takes up column (L + place) mod q
-pub added-row : (to from place q : ℕ) (w old mid new : List ℕ) → place < q → Added to (q - place) (λ i. at w (from + place + i)) old mid
-    → Added (to + (q - place)) place (λ i. at w (from + i)) mid new → Added to q (λ L. at w (from + (L + place) % q)) old new
-added-row to from place q w old mid new l first second =
-    added-end
-    (join to (q - place) place _ _ (λ L. at w (from + (L + place) % q)) old mid new first second
-    (λ i h. ap (at w) (ahead i (omega arith))) (λ i h. ap (at w) (around i h)))
-    (omega arith)
-  where
-    ahead : (i : ℕ) → i + place < q → from + place + i ≡ from + (i + place) % q
-    ahead i h = omega (arith, mod-eq-of-lt h)
-
-    around : (i : ℕ) → i < place → from + i ≡ from + (q - place + i + place) % q
-    around i h =
-        let s : q - place + i + place ≡ i + q = omega arith in
-        omega (arith, ap (λ (x : ℕ). x % q) s ∙ add-mod-right i q ∙ mod-eq-of-lt (lt-trans h l))

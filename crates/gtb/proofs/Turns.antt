@@ -1,8 +1,7 @@
 -- The numbers of a sweep: where row r starts, and by how many columns it is turned.
-use mathlib.Core.List.{List}
 use mathlib.Core.Path.{_≡_, _∙_, sym, ap, subst, subst⁻¹}
 use Prim.Native.Nat.{ℕ, zero-le, _+_, _*_, _%_, _≤_, _<_}
-use native.Mathlib.Nat.{mul-zero, zero-mod, suc-mul, mul-suc, mul-le-mul, mul-le-mul-right, lt-of-le-of-lt, mod-lt, mod-add-mod, add-mod-mod}
+use native.Mathlib.Nat.{mul-zero, zero-mod, suc-mul, mul-suc, mul-le-mul, mul-le-mul-right, lt-of-le-of-lt, mod-lt, mod-add-mod}
 use native.Mathlib.Numerals.{add-one}
 use Rattle.gtb.specs.Square.{at}
 
@@ -27,9 +26,3 @@ turn-more step r q place next h e =
 -- and by less than a whole turn
 pub turn-lt : (step r q place : ℕ) → place ≡ step * r % q → r < q → place < q
 turn-lt step r q place h l = subst⁻¹ (λ (x : ℕ). x < q) h (mod-lt (step * r) (lt-of-le-of-lt zero-le l))
-
--- the symbol that line L has of row r
-pub turn-symbol : (w : List ℕ) (from step r q place L : ℕ) → place ≡ step * r % q
-    → at w (from + (L + place) % q) ≡ at w (from + (L + step * r) % q)
-turn-symbol w from step r q place L h =
-    ap (λ (x : ℕ). at w (from + x)) (ap (λ (x : ℕ). (L + x) % q) h ∙ add-mod-mod L (step * r) q)

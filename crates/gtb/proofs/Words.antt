@@ -2,12 +2,13 @@
 use mathlib.Core.Path.{_≡_}
 use mathlib.Core.Bool.{true}
 use mathlib.Core.List.{List}
-use Prim.Native.Nat.{ℕ, _^_, _<_}
+use Prim.Native.Nat.{ℕ, _^_, _<_, _≤_}
+use native.Mathlib.Nat.{lt-of-lt-of-le}
 use native.Mathlib.Decide.{decLt}
 use native.Mathlib.Omega.{arith}
 use lib.Dec.{eqb, ltb}
 use lib.ListN.{length, List·getD-eq-default}
-use lib.Pow.{pow-pos}
+use lib.Pow.{pow-pos, pow-mono}
 use borrow.Author.Tests.{lt-ltb, ltb-true, eqb-true}
 use Rattle.parity.specs.Count.{all}
 use Rattle.parity.specs.Lists.{tabulate}
@@ -24,6 +25,11 @@ beyond b w h j =
       | yes l ↦ h j l
       | no l ↦ rw (List·getD-eq-default w 0 {n = j} (omega arith)) (pow-pos b)
     ]
+
+-- numbers that the code holds are below 2^32
+pub all-narrow : (b : ℕ) (w : List ℕ) → 32 ≤ b → ((j : ℕ) → at w j < 2 ^ 32) → narrow b w ≡ true
+unfolding narrow
+all-narrow b w e h = all-intro (length w) (λ j. ltb (at w j) (2 ^ b)) (λ j l. lt-ltb (at w j) (2 ^ b) (lt-of-lt-of-le (h j) (pow-mono e)))
 
 pub word-narrow : (s : Shape) (w : List ℕ) → Word s w → narrow (s .b) w ≡ true
 unfolding narrow

@@ -4,7 +4,8 @@ use mathlib.Core.List.{List}
 use Prim.Native.Nat.{ℕ, _+_, _*_, _≤_, _<_}
 use lib.ListN.{length}
 use Rattle.parity.specs.Xor.{_⊕_}
-use Rattle.gtb.specs.Square.{at}
+use Rattle.gtb.specs.declared.Shape.{Shape}
+use Rattle.gtb.specs.Square.{at, syndrome}
 
 -- f 0 .. f (count - 1) are XORed onto the entries from base on; the other entries stay
 pub record Added (base count : ℕ) (f : ℕ → ℕ) (old new : List ℕ) : Type 0 where
@@ -25,3 +26,9 @@ pub record Doubled (q m : ℕ) (w twice : List ℕ) : Type 0 where
   pub size : length twice ≡ q * (q + q)
   pub once : (r : ℕ) → r < m → (c : ℕ) → c < q → at twice (r * (q + q) + c) ≡ at w (r * q + c)
   pub again : (r : ℕ) → r < m → (c : ℕ) → c < q → at twice (r * (q + q) + q + c) ≡ at w (r * q + c)
+
+-- the entries of the first t directions are the syndromes, the others still 0
+pub record Directions (s : Shape) (w : List ℕ) (t : ℕ) (syn : List ℕ) : Type 0 where
+  pub size : length syn ≡ 248
+  pub entry : (u : ℕ) → u < t → (L : ℕ) → L < s .q → at syn (u * s .q + L) ≡ syndrome s (at w) u L
+  pub rest : (e : ℕ) → t * s .q ≤ e → at syn e ≡ 0

@@ -12,7 +12,7 @@ ghost use lib.ListN.{length, replicate};
 ghost use Rattle.parity.specs.Xor.{xorSum};
 ghost use Rattle.gtb.specs.Shape.{Lawful, wordLength};
 ghost use Rattle.gtb.specs.Square.{at, Syndromes};
-ghost use Rattle.gtb.specs.Sweep.{Added, Doubled};
+ghost use Rattle.gtb.specs.Sweep.{Added, Doubled, Directions};
 
 // Row r, twice.
 fn lay_row(twice: &mut [u32], word: &[u32], r: usize, q: usize)
@@ -47,13 +47,27 @@ fn sweep_twice(syn: &mut [u32; 248], twice: &[u32], to: usize, step: usize, q: u
     }
 }
 
-// The values of all checks, as `syndrome::fill` has them; `twice` is room for the rows.
-pub fn fill_by(shape: Shape, word: &[u32], syn: &mut [u32; 248], twice: &mut [u32], q: usize)
-    requires { ⌜ (Lawful shape) × (length (now word) ≡ wordLength shape) × (now syn ≡ replicate 248 0) × (length (now twice) ≡ q * (q + q)) × (q ≡ shape .q) ⌝ }
+// Direction 0, on zeros.
+pub fn first_direction(shape: Shape, word: &[u32], syn: &mut [u32; 248], q: usize)
+    requires { ⌜ (Lawful shape) × (length (now word) ≡ wordLength shape) × (now syn ≡ replicate 248 0) × (q ≡ shape .q) ⌝ }
+    ensures { λ _. ⌜ Directions shape (now (word .entry)) 1 (now (syn .exit)) ⌝ }
+{
+    add_rows(syn, word, q);
+}
+
+// The other directions; `twice` is room for the rows. It stands apart from direction 0 so that both stay small enough to be compiled
+// into each caller, with its literal.
+pub fn other_directions(
+    shape: Shape,
+    word: &[u32],
+    syn: &mut [u32; 248],
+    twice: &mut [u32],
+    q: usize,
+)
+    requires { ⌜ (Lawful shape) × (length (now word) ≡ wordLength shape) × (Directions shape (now word) 1 (now syn)) × (length (now twice) ≡ q * (q + q)) × (q ≡ shape .q) ⌝ }
     ensures { λ _. ⌜ Syndromes shape (now (word .entry)) (now (syn .exit)) ⌝ }
 {
     let n = shape.n as usize;
-    add_rows(syn, word, q);
     lay(twice, word, q);
     for t in 1..n {
         sweep_twice(syn, twice, t * q, q - slope(shape, t), q);

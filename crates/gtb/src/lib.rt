@@ -1,5 +1,6 @@
 // The code of the trace square: its shape, the answers that every entry gives, and the syndromes of a word.
 mod doubled;
+mod literal;
 pub mod number;
 pub mod size;
 pub mod syndrome;
@@ -147,7 +148,7 @@ pub fn shape_refusal(shape: Shape) -> Refusal
 }
 
 // Every symbol is below 2^b. The loop has no early exit, so that it is compiled for several symbols at once.
-pub fn is_narrow(symbols: &[u32], b: u32) -> bool
+fn are_below(symbols: &[u32], b: u32) -> bool
     requires { ⌜ b ≤ 32 ⌝ }
     ensures { λ r. ⌜ r ≡ narrow b (now (symbols .entry)) ⌝ }
 {
@@ -159,6 +160,17 @@ pub fn is_narrow(symbols: &[u32], b: u32) -> bool
         }
     }
     fits
+}
+
+// Test 3. Every u32 is below 2^32, so that there is nothing to look at if b is 32.
+pub fn is_narrow(symbols: &[u32], b: u32) -> bool
+    requires { ⌜ b ≤ 32 ⌝ }
+    ensures { λ r. ⌜ r ≡ narrow b (now (symbols .entry)) ⌝ }
+{
+    if b == 32 {
+        return true;
+    }
+    are_below(symbols, b)
 }
 
 // Sets every value to 0.

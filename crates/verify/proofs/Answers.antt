@@ -2,13 +2,11 @@
 use mathlib.Core.Path.{_≡_, refl, sym, ap, _∙_, subst}
 use mathlib.Core.Bool.{Bool, true, false, _&&_}
 use mathlib.Core.List.{List}
-use Prim.Native.Nat.{ℕ, _-_, _^_, _<_, _≤_}
-use native.Mathlib.Nat.{lt-of-lt-of-le}
-use lib.Dec.{eqb, leb, ltb}
+use Prim.Native.Nat.{ℕ, _-_}
+use lib.Dec.{eqb, leb}
 use lib.ListN.{length}
-use lib.Pow.{pow-mono}
-use borrow.Author.Tests.{lt-ltb, eqb-true}
-use Rattle.parity.proofs.Tests.{and-left, and-right, and-no-left, all-intro}
+use borrow.Author.Tests.{eqb-true}
+use Rattle.parity.proofs.Tests.{and-left, and-right, and-no-left}
 use Rattle.gtb.specs.declared.Shape.{Shape}
 use Rattle.gtb.specs.declared.Refusal.{Refusal}
 use Rattle.gtb.specs.Shape.{lawful, shapeRefusal, wordLength}
@@ -25,11 +23,6 @@ first-fails b h = sym (and-no-left b h)
 
 pub first-passes : {a : Bool} (b : Bool) → a ≡ true → b ≡ (a && b)
 first-passes b h = sym (ap (λ (x : Bool). x && b) h)
-
--- symbols that the code holds are below 2^32
-pub all-narrow : (b : ℕ) (w : List ℕ) → 32 ≤ b → ((j : ℕ) → at w j < 2 ^ 32) → narrow b w ≡ true
-unfolding narrow
-all-narrow b w e h = all-intro (length w) (λ j. ltb (at w j) (2 ^ b)) (λ j l. lt-ltb (at w j) (2 ^ b) (lt-of-lt-of-le (h j) (pow-mono e)))
 
 -- ---- past the tests
 and-assoc : (a b c : Bool) → (a && (b && c)) ≡ (a && b && c)

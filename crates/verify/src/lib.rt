@@ -30,14 +30,11 @@ fn have_length(received: &[u32], proposed: &[u32], size: usize) -> bool
     proposed.len() == size
 }
 
-// Test 3, over both words. Every u32 is below 2^32, so that there is nothing to look at if b is 32.
+// Test 3, over both words.
 fn are_narrow(received: &[u32], proposed: &[u32], b: u32) -> bool
     requires { ⌜ b ≤ 32 ⌝ }
     ensures { λ r. ⌜ r ≡ (narrow b (now (received .entry)) && narrow b (now (proposed .entry))) ⌝ }
 {
-    if b == 32 {
-        return true;
-    }
     if !gtb::is_narrow(received, b) {
         return false;
     }
