@@ -6,7 +6,7 @@ use native.Mathlib.Nat.{suc-mul, mod-lt, add-mod-mod, ne-of-lt}
 use native.Mathlib.Numerals.{add-one}
 use native.Mathlib.Omega.{arith}
 use lib.Arith.{digits-lt, digits-div}
-use lib.ListN.{set, replicate, length-set}
+use lib.ListN.{length, set, length-set}
 use lib.Seq.{getD-set-same, getD-set-other}
 use borrow.Author.Count.{below-more}
 use Rattle.gtb.specs.declared.Shape.{Shape}
@@ -30,8 +30,8 @@ pub own-check : (s : Shape) (row : ℕ) {c : ℕ} → c < s .q → row ≡ check
 own-check s row {c} l = sym (digits-div row l) ∙ check-row s 0 (row * s .q + c) refl
 
 -- ---- the list of the shifts
-pub shifts-none : (s : Shape) (row : ℕ) → Shifts s row 1 (replicate 8 0)
-shifts-none s row = record { size = refl; shift = λ t l one. absurd (omega arith) }
+pub shifts-none : (s : Shape) (row : ℕ) {shifts : List ℕ} → length shifts ≡ 8 → Shifts s row 1 shifts
+shifts-none s row e = record { size = e; shift = λ t l one. absurd (omega arith) }
 
 pub shifts-more : {s : Shape} {row t : ℕ} {shifts : List ℕ} (v : ℕ)
     → t < 8 → v ≡ slopeOf s t * row % s .q → Shifts s row t shifts → Shifts s row (t + 1) (set shifts t v)

@@ -2,6 +2,7 @@
 use gtb::Shape;
 ghost use mathlib.Core.Path.{_≡_};
 ghost use Prim.Native.Nat.{_<_};
+ghost use lib.ListN.{length};
 ghost use Rattle.gtb.specs.Shape.{Lawful, wordLength};
 ghost use Rattle.correction.specs.Error.{checkOf};
 ghost use Rattle.correction.specs.Steps.{Shifts};
@@ -19,16 +20,18 @@ pub fn check_number(shape: Shape, t: usize, j: usize) -> usize
     t * q + (j % q + gtb::slope(shape, t) * row) % q
 }
 
-// Column c of the row is on line c + shift modulo q of a direction from 1 on. The shifts: slope × row modulo q.
-pub fn shifts_of(shape: Shape, row: usize) -> [usize; 8]
-    requires { ⌜ Lawful shape × (row < shape .q) ⌝ }
-    ensures { λ r. ⌜ Shifts shape row (shape .n) r ⌝ }
+// Column c of the row is on line c + shift modulo q of a direction from 1 on. The shifts, slope × row modulo q, are put down where room
+// is lent: handed back by value they would be copied before the last of them is stored, which costs more than all else here.
+pub fn put_shifts(shape: Shape, row: usize, shifts: &mut [usize; 8])
+    requires { ⌜ Lawful shape × (row < shape .q) × (length (now shifts) ≡ 8) ⌝ }
+    ensures { λ _. ⌜ Shifts shape row (shape .n) (now (shifts .exit)) ⌝ }
 {
-    let q = shape.q as usize;
+    let q = shape.q;
     let n = shape.n as usize;
-    let mut shifts = [0usize; 8];
+    let slopes = shape.slopes;
+    let r = row as u32;
     for t in 1..n {
-        shifts[t] = gtb::slope(shape, t) * row % q;
+        let place = t - 1;
+        shifts[t] = (slopes[place] * r % q) as usize;
     }
-    shifts
 }

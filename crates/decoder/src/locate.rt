@@ -1,7 +1,7 @@
 // The located positions, in rising order, in a local array of 8. One more than n - 1 of them is one too many, and ends the search.
 // Where no table of check numbers is lent, what the slopes add to the columns of a row is computed once for the row, so that no symbol
 // needs a remainder.
-use correction::checks::shifts_of;
+use correction::checks::put_shifts;
 use correction::shipped::number_by;
 use gtb::Shape;
 ghost use mathlib.Core.Path.{_≡_};
@@ -15,14 +15,14 @@ ghost use Rattle.correction.specs.Steps.{Shifts, Listed, Scanned};
 ghost use Rattle.decoder.specs.Steps.{judged, Judges, PassedOver};
 
 // The shifts of a row, where no table is lent: with one there is no need of them.
-pub fn shifts_by(shape: Shape, table: &[u8], row: usize) -> [usize; 8]
-    requires { ⌜ Lawful shape × (row < shape .q) ⌝ }
-    ensures { λ r. ⌜ ((length (now (table .entry)) ≡ 1156 → ⊥) → Shifts shape row (shape .n) r) ⌝ }
+pub fn shifts_by(shape: Shape, table: &[u8], row: usize, shifts: &mut [usize; 8])
+    requires { ⌜ Lawful shape × (row < shape .q) × (length (now shifts) ≡ 8) ⌝ }
+    ensures { λ _. ⌜ ((length (now (table .entry)) ≡ 1156 → ⊥) → Shifts shape row (shape .n) (now (shifts .exit))) ⌝ }
 {
     if table.len() == 1156 {
-        return [0usize; 8];
+        return;
     }
-    shifts_of(shape, row)
+    put_shifts(shape, row, shifts);
 }
 
 // The number of a position's check in a direction from 1 on.
@@ -133,7 +133,8 @@ fn scan_row(
     }
     let q = shape.q as usize;
     let n = shape.n as usize;
-    let shifts = shifts_by(shape, table, row);
+    let mut shifts = [0usize; 8];
+    shifts_by(shape, table, row, &mut shifts);
     let mut found = count;
     for c in 0..q {
         found = keep(shape, table, syn, check, &shifts, row, c, places, found);

@@ -19,7 +19,8 @@ fn note_row(shape: Shape, table: &[u8], syn: &[u32; 248], row: usize, looked: &m
 {
     let q = shape.q as usize;
     let own = syn[row];
-    let shifts = shifts_by(shape, table, row);
+    let mut shifts = [0usize; 8];
+    shifts_by(shape, table, row, &mut shifts);
     for c in 0..q {
         let judged = judge(shape, table, syn, own, &shifts, row, c);
         looked[row * q + c] = judged.looked;

@@ -3,7 +3,7 @@
 // once for the row, so that this needs no remainder.
 use crate::vote::hit;
 use crate::vote::vote;
-use correction::checks::shifts_of;
+use correction::checks::put_shifts;
 use gtb::Shape;
 ghost use mathlib.Core.Path.{_≡_};
 ghost use mathlib.Core.Bool.{true};
@@ -97,7 +97,8 @@ fn scan_row(
     if is_passed_over(loud, value) {
         return count;
     }
-    let shifts = shifts_of(shape, row);
+    let mut shifts = [0usize; 8];
+    put_shifts(shape, row, &mut shifts);
     let own = hit(value, 0);
     let mut found = count;
     for c in 0..q {

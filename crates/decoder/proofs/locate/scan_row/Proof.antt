@@ -45,20 +45,20 @@ shifts-by-requires c κs = search needs
 
 loop-holds : tie.Need-loop-holds Inv-loop μ-loop
 loop-holds c =
-    let s = c .before .before .before .before .before .before in
+    let s = c .before .before .before .before .before .before .before in
     (search needs, s .pre .3, rw (add-zero (s .args .row * s .args .shape .q)) (s .pre .4))
 
 keep-requires : tie.Need-keep-requires Inv-loop μ-loop
 keep-requires c κs =
     let l = c .before .before .before in
-    let e = l .before .before .before .before in
+    let e = l .before .before .before .before .before in
     let p = e .before .before .before .pre in
     (p .0, p .1, l .before .shifts-by .ensures, refl, p .2, c .before .before .loop-test .taken, l .loop .inv .1, l .loop .inv .2)
 
 returns-2 : tie.Need-returns-2 Inv-loop μ-loop
 returns-2 c =
     let loop = c .before .before .before .before .before in
-    let e = loop .before .before .before .before in
+    let e = loop .before .before .before .before .before in
     let s = e .before .before .before .args in (
       scanned-many (s .row * s .shape .q + loop .loop .c + 1) (omega arith) (omega (arith, c .before .keep .ensures .counted)),
       λ z. absurd (e .if1 .left z),
@@ -75,7 +75,7 @@ loop-again c = (search needs, c .if2 .left, rw (← add-assoc) (c .before .keep 
 
 returns-3 : tie.Need-returns-3 Inv-loop μ-loop
 returns-3 c =
-    let e = c .before .before .before .before .before in (
+    let e = c .before .before .before .before .before .before in (
       scanned-few (c .before .loop .inv .1) (rw (le-antisymm (c .before .loop .inv .0) (c .loop-test .left)) at (c .before .loop .inv .2)),
       λ z. absurd (e .if1 .left z),
     )

@@ -39,24 +39,24 @@ shifts-by-requires c κs = search needs
 
 loop-holds : tie.Need-loop-holds Inv-loop μ-loop
 loop-holds c =
-    let s = c .before .before .before .before .before in
+    let s = c .before .before .before .before .before .before in
     (search needs, rw (add-zero (s .args .row * s .args .shape .q)) (s .pre .3))
 
 judge-requires : tie.Need-judge-requires Inv-loop μ-loop
 judge-requires c κs =
     let l = c .before .before in
-    let s = l .before .before .before .before .before .before in
+    let s = l .before .before .before .before .before .before .before in
     (s .pre .0, s .pre .1, l .before .shifts-by .ensures, refl, s .pre .2, c .before .loop-test .taken)
 
 -- the position is in the word, and small
-place : (c : tie.After-judge Inv-loop μ-loop) → c .before .before .before .before .before .before .before .before .before .args .row * c .before .before .before .before .before .before .before .before .before .args .shape .q + c .before .before .before .loop .c < wordLength (c .before .before .before .before .before .before .before .before .before .args .shape)
+place : (c : tie.After-judge Inv-loop μ-loop) → c .before .before .before .before .before .before .before .before .before .before .args .row * c .before .before .before .before .before .before .before .before .before .before .args .shape .q + c .before .before .before .loop .c < wordLength (c .before .before .before .before .before .before .before .before .before .before .args .shape)
 place c =
-    let s = c .before .before .before .before .before .before .before .before .before in
+    let s = c .before .before .before .before .before .before .before .before .before .before in
     in-word (s .args .shape) (s .pre .2) (c .before .before .loop-test .taken)
 
-small : (c : tie.After-judge Inv-loop μ-loop) → c .before .before .before .before .before .before .before .before .before .args .row * c .before .before .before .before .before .before .before .before .before .args .shape .q + c .before .before .before .loop .c < 961
+small : (c : tie.After-judge Inv-loop μ-loop) → c .before .before .before .before .before .before .before .before .before .before .args .row * c .before .before .before .before .before .before .before .before .before .before .args .shape .q + c .before .before .before .loop .c < 961
 small c =
-    let s = c .before .before .before .before .before .before .before .before .before in
+    let s = c .before .before .before .before .before .before .before .before .before .before in
     lt-of-lt-of-le (place c) (square-le (s .args .shape .q) (bounds (s .args .shape) (s .pre .0) .q31))
 
 mul-looked : tie.Need-mul-looked Inv-loop μ-loop

@@ -48,23 +48,23 @@ returns c =
     (λ column l. nothing-found (s .args .shape) (s .args .syn .now) (s .args .loud) (s .args .row) column l (sym (c .before .is-passed-over .ensures) ∙ c .if1 .taken))
     (s .pre .3))
 
-shifts-of-requires : tie.Need-shifts-of-requires Inv-loop μ-loop
-shifts-of-requires c κs = search needs
+put-shifts-requires : tie.Need-put-shifts-requires Inv-loop μ-loop
+put-shifts-requires c κs = search needs
 
 hit-requires : tie.Need-hit-requires Inv-loop μ-loop
 hit-requires c κs = search needs
 
 loop-holds : tie.Need-loop-holds Inv-loop μ-loop
 loop-holds c =
-    let s = c .before .before .before .before .before .before .before in
+    let s = c .before .before .before .before .before .before .before .before in
     (search needs, s .pre .2, rw (add-zero (s .args .row * s .args .shape .q)) (s .pre .3))
 
 keep-requires : tie.Need-keep-requires Inv-loop μ-loop
 keep-requires c κs =
     let l = c .before .before .before in
     let h = l .before in
-    let p = h .before .before .before .before .before .before .before .pre in
-    (p .0, h .before .shifts-of .ensures, h .hit .ensures, p .1, c .before .before .loop-test .taken, l .loop .inv .1, l .loop .inv .2 .size)
+    let p = h .before .before .before .before .before .before .before .before .pre in
+    (p .0, h .before .put-shifts .ensures, h .hit .ensures, p .1, c .before .before .loop-test .taken, l .loop .inv .1, l .loop .inv .2 .size)
 
 -- the row was not passed over
 module _ (c : tie.After-keep Inv-loop μ-loop) where
@@ -72,11 +72,11 @@ module _ (c : tie.After-keep Inv-loop μ-loop) where
   loop = c .before .before .before .before
 
   abbrev start : tie.Start Inv-loop μ-loop
-  start = loop .before .before .before .before .before .before .before .before
+  start = loop .before .before .before .before .before .before .before .before .before
 
   same : foundIn (start .args .shape) (start .args .syn .now) (start .args .loud) (start .args .row * start .args .shape .q + loop .loop .c) ≡ changes (start .args .shape) (start .args .syn .now) (start .args .row * start .args .shape .q + loop .loop .c)
   same =
-      let e = loop .before .before .before in
+      let e = loop .before .before .before .before in
       all-found (start .args .shape) (start .args .syn .now) (start .args .loud) (start .args .row) (loop .loop .c) (c .before .before .before .loop-test .taken) (sym (e .before .is-passed-over .ensures) ∙ e .if1 .left)
 
 returns-2 : tie.Need-returns-2 Inv-loop μ-loop
@@ -114,7 +114,7 @@ scan-row-spec =
     element-copy-out-value
     is-passed-over-requires
     returns
-    shifts-of-requires
+    put-shifts-requires
     hit-requires
     loop-holds
     keep-requires
