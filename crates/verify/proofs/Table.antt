@@ -54,10 +54,10 @@ pub differ-no : (w v : List ℕ) (j : ℕ) → at w j ≡ at v j → differs w v
 unfolding differs
 differ-no w v j e = not-of-true (eq-eqb (difference w v j) 0 (ap (λ (x : ℕ). x ⊕ at v j) e ∙ self (at v j)))
 
--- a row that is the same in both
-pub same-row : (w v : List ℕ) (from count : ℕ) → all count (λ i. eqb (difference w v (from + i)) 0) ≡ true → (c : ℕ) → c < count → differs w v (from + c) ≡ false
+-- a run that is the same in both
+pub same-run : (w v : List ℕ) (from count : ℕ) → all count (λ i. eqb (difference w v (from + i)) 0) ≡ true → (c : ℕ) → c < count → differs w v (from + c) ≡ false
 unfolding differs
-same-row w v from count h c l = not-of-true (all-elim count (λ i. eqb (difference w v (from + i)) 0) h c l)
+same-run w v from count h c l = not-of-true (all-elim count (λ i. eqb (difference w v (from + i)) 0) h c l)
 
 -- ---- the list of the differences
 pub measured-none : (w v places errors : List ℕ) → length errors ≡ 8 → Measured w v places 0 errors

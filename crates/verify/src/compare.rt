@@ -1,12 +1,14 @@
 // Two words of lawful shape, length and width. The proposal's syndromes must all be 0; with the differences put on them they are those of
 // the difference alone. So no syndromes of the received word are computed, and nothing is decoded.
 use crate::locate::locate;
-use correction::cancel::cancel;
+use correction::cancel::cancel_by;
 use correction::cancel::is_silent;
-use correction::checks::check_number;
+use correction::shipped::is_shipped;
+use correction::shipped::number_by;
+use correction::table::check_numbers;
 use gtb::Shape;
 ghost use mathlib.Core.Path.{_≡_};
-ghost use mathlib.Core.Bool.{true, _&&_};
+ghost use mathlib.Core.Bool.{true, not, _&&_};
 ghost use Prim.Native.Nat.{ℕ, _-_, _≤_, _<_};
 ghost use lib.Dec.{leb};
 ghost use lib.ListN.{length};
@@ -14,7 +16,8 @@ ghost use Rattle.parity.specs.Count.{any};
 ghost use Rattle.gtb.specs.Shape.{Lawful, wordLength};
 ghost use Rattle.gtb.specs.Square.{at, silentTest, Syndromes};
 ghost use Rattle.correction.specs.Error.{weight};
-ghost use Rattle.correction.specs.Steps.{Within};
+ghost use Rattle.correction.specs.Shipped.{Tabled};
+ghost use Rattle.correction.specs.Steps.{Within, Cancelled};
 ghost use Rattle.verify.specs.Verify.{difference, unmaskedTest, restores};
 ghost use Rattle.verify.specs.Steps.{hushed, Measured};
 
@@ -36,13 +39,13 @@ fn measure(
 }
 
 // Some check on position j is silent.
-fn is_masked(shape: Shape, syn: &[u32; 248], j: usize) -> bool
-    requires { ⌜ Lawful shape × (j < wordLength shape) ⌝ }
+fn is_masked(shape: Shape, table: &[u8], syn: &[u32; 248], j: usize) -> bool
+    requires { ⌜ Lawful shape × Tabled shape (now table) × (j < wordLength shape) ⌝ }
     ensures { λ r. ⌜ r ≡ hushed shape (now (syn .entry)) j ⌝ }
 {
     let n = shape.n as usize;
     for t in 0..n {
-        if syn[check_number(shape, t, j)] == 0 {
+        if syn[number_by(shape, table, t, j)] == 0 {
             return true;
         }
     }
@@ -50,19 +53,43 @@ fn is_masked(shape: Shape, syn: &[u32; 248], j: usize) -> bool
 }
 
 // So it is with one of the first `count` places.
-fn any_masked(shape: Shape, syn: &[u32; 248], places: &[usize; 8], count: usize) -> bool
-    requires { ⌜ Lawful shape × Within shape count (now places) ⌝ }
+fn any_masked(
+    shape: Shape,
+    table: &[u8],
+    syn: &[u32; 248],
+    places: &[usize; 8],
+    count: usize,
+) -> bool
+    requires { ⌜ Lawful shape × Tabled shape (now table) × Within shape count (now places) ⌝ }
     ensures { λ r. ⌜ r ≡ any count (λ x. hushed shape (now (syn .entry)) (at (now (places .entry)) x)) ⌝ }
 {
     for x in 0..count {
-        if is_masked(shape, syn, places[x]) {
+        if is_masked(shape, table, syn, places[x]) {
             return true;
         }
     }
     false
 }
 
-// The difference is unmasked damage to at most n - 1 symbols; `syn` has the syndromes of a silent proposal.
+// The errors are put on `syn`, and then none of the places is on a silent check.
+fn is_clean_by(
+    shape: Shape,
+    table: &[u8],
+    syn: &mut [u32; 248],
+    places: &[usize; 8],
+    errors: &[u32; 8],
+    count: usize,
+) -> bool
+    requires { ⌜ Lawful shape × Tabled shape (now table) × (length (now syn) ≡ 248) × Within shape count (now places) ⌝ }
+    ensures { λ r. ⌜ Cancelled shape count (now (places .entry)) (now (errors .entry)) (now (syn .entry)) (now (syn .exit))
+        × (r ≡ not (any count (λ x. hushed shape (now (syn .exit)) (at (now (places .entry)) x)))) ⌝ }
+{
+    cancel_by(shape, table, syn, places, errors, count);
+    !any_masked(shape, table, syn, places, count)
+}
+
+// The difference is unmasked damage to at most n - 1 symbols; `syn` has the syndromes of a silent proposal. The check numbers of the
+// shipped shape come from its table.
 fn is_clean(shape: Shape, syn: &mut [u32; 248], received: &[u32], proposed: &[u32]) -> bool
     requires { ⌜ Lawful shape × (length (now received) ≡ wordLength shape) × (length (now proposed) ≡ wordLength shape)
         × Syndromes shape (now proposed) (now syn) × (silentTest shape (at (now proposed)) ≡ true) ⌝ }
@@ -77,8 +104,12 @@ fn is_clean(shape: Shape, syn: &mut [u32; 248], received: &[u32], proposed: &[u3
         return false;
     }
     measure(received, proposed, &places, count, &mut errors);
-    cancel(shape, syn, &places, &errors, count);
-    !any_masked(shape, syn, &places, count)
+    if is_shipped(shape) {
+        let table = check_numbers();
+        return is_clean_by(shape, &table, syn, &places, &errors, count);
+    }
+    let none = [0u8; 1];
+    is_clean_by(shape, &none, syn, &places, &errors, count)
 }
 
 // The proposal is a codeword, and unmasked damage to at most n - 1 symbols makes the received word of it.

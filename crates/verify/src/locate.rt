@@ -1,7 +1,7 @@
 // The positions where two words differ, in rising order, in a local array of 8. One more than n - 1 of them is one too many, and ends the search.
 use gtb::Shape;
 ghost use mathlib.Core.Path.{_≡_};
-ghost use Prim.Native.Nat.{_+_, _*_, _≤_, _<_};
+ghost use Prim.Native.Nat.{_+_, _≤_, _<_};
 ghost use lib.Dec.{eqb};
 ghost use lib.ListN.{length};
 ghost use Rattle.parity.specs.Count.{all};
@@ -41,27 +41,26 @@ fn keep(
     count
 }
 
-// One row; most are the same in both words.
-fn scan_row(
-    shape: Shape,
+// The `size` symbols from place `from` on; most runs are the same in both words.
+fn scan_run(
     received: &[u32],
     proposed: &[u32],
-    row: usize,
+    from: usize,
+    size: usize,
+    n: usize,
     places: &mut [usize; 8],
     count: usize,
 ) -> usize
-    requires { ⌜ Lawful shape × (length (now received) ≡ wordLength shape) × (length (now proposed) ≡ wordLength shape) × (row < shape .q)
-        × (count < shape .n) × Listed (differs (now received) (now proposed)) (row * shape .q) count (now places) ⌝ }
-    ensures { λ r. ⌜ Scanned (differs (now (received .entry)) (now (proposed .entry))) (shape .n) (row * shape .q + shape .q) r (now (places .exit)) ⌝ }
+    requires { ⌜ (from + size ≤ length (now received)) × (from + size ≤ length (now proposed)) × (n ≤ 8) × (count < n)
+        × Listed (differs (now received) (now proposed)) from count (now places) ⌝ }
+    ensures { λ r. ⌜ Scanned (differs (now (received .entry)) (now (proposed .entry))) n (from + size) r (now (places .exit)) ⌝ }
 {
-    let q = shape.q as usize;
-    let n = shape.n as usize;
-    if are_same(received, proposed, row * q, q) {
+    if are_same(received, proposed, from, size) {
         return count;
     }
     let mut found = count;
-    for c in 0..q {
-        found = keep(received, proposed, row * q + c, places, found);
+    for i in 0..size {
+        found = keep(received, proposed, from + i, places, found);
         if n <= found {
             return n;
         }
@@ -69,19 +68,29 @@ fn scan_row(
     found
 }
 
-// The whole word: the number of positions, or n if there are more than n - 1.
+// The whole word: the number of positions, or n if there are more than n - 1. By runs of 16, a literal, so that comparing one is
+// compiled without a loop; then the rest.
 pub fn locate(shape: Shape, received: &[u32], proposed: &[u32], places: &mut [usize; 8]) -> usize
     requires { ⌜ Lawful shape × (length (now received) ≡ wordLength shape) × (length (now proposed) ≡ wordLength shape) × (length (now places) ≡ 8) ⌝ }
     ensures { λ r. ⌜ Scanned (differs (now (received .entry)) (now (proposed .entry))) (shape .n) (wordLength shape) r (now (places .exit)) ⌝ }
 {
-    let q = shape.q as usize;
     let n = shape.n as usize;
+    let size = received.len();
+    let runs = size / 16;
     let mut found = 0;
-    for row in 0..q {
-        found = scan_row(shape, received, proposed, row, places, found);
+    for k in 0..runs {
+        found = scan_run(received, proposed, k * 16, 16, n, places, found);
         if n <= found {
             return n;
         }
     }
-    found
+    scan_run(
+        received,
+        proposed,
+        runs * 16,
+        size - runs * 16,
+        n,
+        places,
+        found,
+    )
 }

@@ -13,17 +13,17 @@ use Rattle.verify.proofs.compare.any_masked.Statement.{statement}
 use Rattle.verify.proofs.compare.any_masked.Tie as tie
 
 abbrev Inv-loop : tie.InvT-loop
-Inv-loop shape syn places count x₀ x = (x ≤ count) × (any x (λ y. hushed shape syn (at places y)) ≡ false)
+Inv-loop shape table syn places count x₀ x = (x ≤ count) × (any x (λ y. hushed shape syn (at places y)) ≡ false)
 
 abbrev μ-loop : tie.MeasureT-loop
-μ-loop shape syn places count x₀ x = count - x
+μ-loop shape table syn places count x₀ x = count - x
 
 loop-holds : tie.Need-loop-holds Inv-loop μ-loop
 loop-holds c = (search needs, any-zero _)
 
 -- the list has 8 entries
 inside : (c : tie.In-loop Inv-loop μ-loop) → c .before .loop .x < 8
-inside c = omega (arith, c .before .before .pre .1 .few)
+inside c = omega (arith, c .before .before .before .pre .2 .few)
 
 mul-is-masked : tie.Need-mul-is-masked Inv-loop μ-loop
 mul-is-masked c = omega (arith, inside c)
@@ -33,8 +33,8 @@ element-copy-out-is-masked c = inside c
 
 is-masked-requires : tie.Need-is-masked-requires Inv-loop μ-loop
 is-masked-requires c κs =
-    let p = c .before .before .before .pre in
-    (p .0, p .1 .below (c .before .before .loop .x) (c .before .loop-test .taken))
+    let p = c .before .before .before .before .pre in
+    (p .0, p .1, p .2 .below (c .before .before .loop .x) (c .before .loop-test .taken))
 
 returns : tie.Need-returns Inv-loop μ-loop
 returns c = sym (any-intro _ _ (c .before .before .before .before .loop .x) (c .before .before .before .loop-test .taken) (sym (c .before .is-masked .ensures) ∙ c .if1 .taken))

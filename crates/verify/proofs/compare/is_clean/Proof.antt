@@ -1,10 +1,11 @@
 -- `verify::compare::is_clean` meets its contract. What holds of the list, the errors and the table is what the definitions say (Table.antt).
-use mathlib.Core.Path.{ap, _∙_}
-use mathlib.Core.Bool.{not}
+use mathlib.Core.Path.{sym, _∙_}
 use native.Mathlib.Omega.{arith}
 use borrow.Author.Needs.{needs}
 use Rattle.gtb.proofs.Bounds.{bounds}
 use Rattle.gtb.proofs.Words.{test-silent}
+use Rattle.correction.specs.Steps.{Within}
+use Rattle.correction.proofs.Tabulated.{tabled, untabled}
 use Rattle.decoder.proofs.Reading.{within}
 use Rattle.verify.proofs.Table.{differ-many, differ-inside, differ-few}
 use Rattle.verify.proofs.compare.is_clean.Statement.{statement}
@@ -28,24 +29,51 @@ measure-requires c κs =
       differ-inside (s .args .shape) (s .args .received .now) (s .args .proposed .now) (s .pre .1) (s .pre .2) (e .before .locate .ensures .few (e .if1 .left)),
     )
 
-cancel-requires : tie.Need-cancel-requires
-cancel-requires c κs =
-    let p = c .before .before .before .before .before .before .before .before .before .before .before .before .pre in
-    let e = c .before .before .before .before .before .before in
-    (p .0, p .3 .size, within (p .0) (e .if1 .left) (e .before .locate .ensures .few (e .if1 .left)))
+is-shipped-requires : tie.Need-is-shipped-requires
+is-shipped-requires c κs = search needs
 
-any-masked-requires : tie.Need-any-masked-requires
-any-masked-requires c κs =
-    let p = c .before .before .before .before .before .before .before .before .before .before .before .before .before .before .before .pre in
-    let e = c .before .before .before .before .before .before .before .before .before in
-    (p .0, within (p .0) (e .if1 .left) (e .before .locate .ensures .few (e .if1 .left)))
+check-numbers-requires : tie.Need-check-numbers-requires
+check-numbers-requires c κs = search needs
+
+slice-aggregate-is-clean-by : tie.Need-slice-aggregate-is-clean-by
+slice-aggregate-is-clean-by c = search needs
+
+-- the places listed are positions of the word
+inside : (c : tie.Else1) → Within (c .before .before .before .before .before .before .args .shape) (c .before .locate .result) (c .before .locate .last .1 .1 .1 .0)
+inside c = within (c .before .before .before .before .before .before .pre .0) (c .if1 .left) (c .before .locate .ensures .few (c .if1 .left))
+
+is-clean-by-requires : tie.Need-is-clean-by-requires
+is-clean-by-requires c κs =
+    let n = c .before .before .before .before in
+    let t = n .before in
+    let e = t .before .before .before .before .before in
+    let p = e .before .before .before .before .before .before .pre in
+    (p .0, tabled _ (sym (t .before .is-shipped .ensures) ∙ t .if2 .taken) _ (n .check-numbers .ensures), p .3 .size, inside e)
 
 returns-2 : tie.Need-returns-2
 returns-2 c =
-    let p = c .before .before .before .before .before .before .before .before .before .before .before .before .before .before .before .before .pre in
-    let e = c .before .before .before .before .before .before .before .before .before .before in
-    ap not (c .any-masked .ensures)
-    ∙ differ-few (p .0) (e .before .locate .ensures .few (e .if1 .left)) (c .before .before .before .before .before .before .before .measure .ensures) (p .3) (test-silent _ _ (p .4)) (c .before .before .before .cancel .ensures) (e .if1 .left)
+    let m = c .before .before .before .before .before .before .before .before in
+    let e = m .before .before .before in
+    let p = e .before .before .before .before .before .before .pre in
+    c .is-clean-by .ensures .1
+    ∙ differ-few (p .0) (e .before .locate .ensures .few (e .if1 .left)) (m .measure .ensures) (p .3) (test-silent _ _ (p .4)) (c .is-clean-by .ensures .0) (e .if1 .left)
+
+slice-aggregate-is-clean-by-2 : tie.Need-slice-aggregate-is-clean-by-2
+slice-aggregate-is-clean-by-2 c = search needs
+
+is-clean-by-requires-2 : tie.Need-is-clean-by-requires-2
+is-clean-by-requires-2 c κs =
+    let e = c .before .before .before .before .before .before .before .before .before in
+    let p = e .before .before .before .before .before .before .pre in
+    (p .0, untabled _ _ (λ x. omega arith), p .3 .size, inside e)
+
+returns-3 : tie.Need-returns-3
+returns-3 c =
+    let m = c .before .before .before .before .before .before .before in
+    let e = m .before .before .before in
+    let p = e .before .before .before .before .before .before .pre in
+    c .is-clean-by2 .ensures .1
+    ∙ differ-few (p .0) (e .before .locate .ensures .few (e .if1 .left)) (m .measure .ensures) (p .3) (test-silent _ _ (p .4)) (c .is-clean-by2 .ensures .0) (e .if1 .left)
 
 pub is-clean-spec : {M : Type 1} → statement M
 is-clean-spec =
@@ -55,6 +83,11 @@ is-clean-spec =
     locate-requires
     returns
     measure-requires
-    cancel-requires
-    any-masked-requires
-    returns-2)
+    is-shipped-requires
+    check-numbers-requires
+    slice-aggregate-is-clean-by
+    is-clean-by-requires
+    returns-2
+    slice-aggregate-is-clean-by-2
+    is-clean-by-requires-2
+    returns-3)

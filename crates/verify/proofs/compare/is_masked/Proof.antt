@@ -18,25 +18,25 @@ use Rattle.verify.proofs.compare.is_masked.Statement.{statement}
 use Rattle.verify.proofs.compare.is_masked.Tie as tie
 
 abbrev Inv-loop : tie.InvT-loop
-Inv-loop shape syn j n t₀ t = (t ≤ n) × (any t (λ u. eqb (at syn (checkOf shape j u)) 0) ≡ false)
+Inv-loop shape table syn j n t₀ t = (t ≤ n) × (any t (λ u. eqb (at syn (checkOf shape j u)) 0) ≡ false)
 
 abbrev μ-loop : tie.MeasureT-loop
-μ-loop shape syn j n t₀ t = n - t
+μ-loop shape table syn j n t₀ t = n - t
 
 cast-n : tie.Need-cast-n Inv-loop μ-loop
 cast-n c = search needs
 
 loop-holds : tie.Need-loop-holds Inv-loop μ-loop
-loop-holds c = (let b = bounds _ (c .before .pre .0) in omega arith, any-zero _)
+loop-holds c = (let b = bounds _ (c .before .before .pre .0) in omega arith, any-zero _)
 
-check-number-requires : tie.Need-check-number-requires Inv-loop μ-loop
-check-number-requires c κs = search needs
+number-by-requires : tie.Need-number-by-requires Inv-loop μ-loop
+number-by-requires c κs = search needs
 
 -- the check is in the table
-inside : (c : tie.After-check-number Inv-loop μ-loop) → c .check-number .result < 248
+inside : (c : tie.After-number-by Inv-loop μ-loop) → c .number-by .result < 248
 inside c =
-    let s = c .before .before .before .before in
-    rw (c .check-number .ensures) (check-fits (s .args .shape) (s .pre .0) (c .before .before .loop .t) (s .args .j) (c .before .loop-test .taken) (s .pre .1))
+    let s = c .before .before .before .before .before in
+    rw (c .number-by .ensures) (check-fits (s .args .shape) (s .pre .0) (c .before .before .loop .t) (s .args .j) (c .before .loop-test .taken) (s .pre .2))
 
 mul-if1 : tie.Need-mul-if1 Inv-loop μ-loop
 mul-if1 c = omega (arith, inside c)
@@ -47,10 +47,10 @@ element-copy-out-if1 c = inside c
 returns : tie.Need-returns Inv-loop μ-loop
 unfolding hushed
 returns c =
-    let s = c .before .before .before .before .before .before .args in
+    let s = c .before .before .before .before .before .before .before .args in
     sym
     (any-intro _ (λ u. eqb (at (s .syn .now) (checkOf (s .shape) (s .j) u)) 0) (c .before .before .before .before .loop .t) (c .before .before .before .loop-test .taken)
-    (eq-eqb _ 0 (sym (ap (at (s .syn .now)) (c .before .before .check-number .ensures)) ∙ c .if1 .taken)))
+    (eq-eqb _ 0 (sym (ap (at (s .syn .now)) (c .before .before .number-by .ensures)) ∙ c .if1 .taken)))
 
 add-t : tie.Need-add-t Inv-loop μ-loop
 add-t c = search needs
@@ -60,10 +60,10 @@ loop-less c = search needs
 
 loop-again : tie.Need-loop-again Inv-loop μ-loop
 loop-again c =
-    let s = c .before .before .before .before .before .before .args in (
+    let s = c .before .before .before .before .before .before .before .args in (
       search needs,
       any-more _ _
-          ∙ ap₂ (λ (x y : Bool). x || y) (c .before .before .before .before .loop .inv .1) (ne-eqb _ 0 (λ z. c .if1 .left (ap (at (s .syn .now)) (c .before .before .check-number .ensures) ∙ z))),
+          ∙ ap₂ (λ (x y : Bool). x || y) (c .before .before .before .before .loop .inv .1) (ne-eqb _ 0 (λ z. c .if1 .left (ap (at (s .syn .now)) (c .before .before .number-by .ensures) ∙ z))),
     )
 
 returns-2 : tie.Need-returns-2 Inv-loop μ-loop
@@ -78,7 +78,7 @@ is-masked-spec =
     μ-loop
     cast-n
     loop-holds
-    check-number-requires
+    number-by-requires
     mul-if1
     element-copy-out-if1
     returns

@@ -1,57 +1,81 @@
--- `verify::locate::locate` meets its contract. The loop's invariant: the list holds the differing positions of the rows passed, fewer than n.
-use Prim.Native.Nat.{_+_, _-_, _*_, _<_, _≤_}
+-- `verify::locate::locate` meets its contract. The loop's invariant: the list holds the differing positions of the runs passed, fewer than n.
+use mathlib.Core.Path.{_≡_, _∙_}
+use Prim.Native.Nat.{ℕ, _+_, _-_, _*_, _/_, _<_, _≤_}
+use lib.ListN.{length}
 use Rattle.correction.specs.Steps.{Listed}
 use Rattle.verify.specs.Steps.{differs}
-use native.Mathlib.Nat.{zero-mul, le-antisymm}
+use native.Mathlib.Nat.{le-antisymm}
 use native.Mathlib.Omega.{arith}
 use borrow.Author.Needs.{needs}
 use Rattle.gtb.proofs.Bounds.{bounds}
-use Rattle.gtb.proofs.Turns.{row-in}
 use Rattle.correction.proofs.Rows.{next-row}
-use Rattle.correction.proofs.Listing.{listed-none, scanned-few, scanned-many}
+use Rattle.correction.proofs.Listing.{listed-none, scanned-many}
 use Rattle.verify.proofs.locate.locate.Statement.{statement}
 use Rattle.verify.proofs.locate.locate.Tie as tie
 
 abbrev Inv-loop : tie.InvT-loop
-Inv-loop shape received proposed places₀ q n found₀ row₀ places found row = (row ≤ q) × (found < n) × Listed (differs received proposed) (row * q) found places
+Inv-loop received proposed places₀ n size runs found₀ k₀ places found k = (k ≤ runs) × (found < n) × Listed (differs received proposed) (k * 16) found places
 
 abbrev μ-loop : tie.MeasureT-loop
-μ-loop shape received proposed places₀ q n found₀ row₀ places found row = q - row
+μ-loop received proposed places₀ n size runs found₀ k₀ places found k = runs - k
 
-cast-q : tie.Need-cast-q Inv-loop μ-loop
-cast-q c = search needs
+-- the runs and the rest are the whole word
+runs-and-rest : (size : ℕ) → size / 16 * 16 + (size - size / 16 * 16) ≡ size
+runs-and-rest size = omega arith
 
 cast-n : tie.Need-cast-n Inv-loop μ-loop
 cast-n c = search needs
 
 loop-holds : tie.Need-loop-holds Inv-loop μ-loop
 loop-holds c =
-    let s = c .before .before .before .before in
-    (search needs, omega (arith, bounds (s .args .shape) (s .pre .0) .n2), rw (zero-mul (s .args .shape .q)) (listed-none _ _ (s .pre .3)))
+    let s = c .before .before .before in
+    (search needs, omega (arith, bounds (s .args .shape) (s .pre .0) .n2), listed-none _ _ (s .pre .3))
 
-scan-row-requires : tie.Need-scan-row-requires Inv-loop μ-loop
-scan-row-requires c κs =
+mul-scan-run : tie.Need-mul-scan-run Inv-loop μ-loop
+mul-scan-run c = search needs
+
+scan-run-requires : tie.Need-scan-run-requires Inv-loop μ-loop
+scan-run-requires c κs =
+    let s = c .before .before .before .before .before .before in
     let i = c .before .before .loop .inv in
-    let p = c .before .before .before .before .before .before .before .pre in
-    (p .0, p .1, p .2, c .before .loop-test .taken, i .1, i .2)
+    let b = bounds (s .args .shape) (s .pre .0) in
+    (omega arith, omega arith, b .n8, i .1, i .2)
 
 returns : tie.Need-returns Inv-loop μ-loop
 returns c =
-    let s = c .before .before .before .before .before .before .before .before .before .args .shape in
-    let row = c .before .before .before .before .loop .row in
-    scanned-many (row * s .q + s .q) (row-in row (s .q) (c .before .before .before .loop-test .taken)) (c .before .scan-row .ensures .many (c .if1 .taken))
+    let l = c .before .before .before .before in
+    let s = l .before .before .before .before in
+    scanned-many (l .loop .k * 16 + 16) (omega (arith, s .pre .1)) (c .before .scan-run .ensures .many (c .if1 .taken))
 
-add-row : tie.Need-add-row Inv-loop μ-loop
-add-row c = search needs
+add-k : tie.Need-add-k Inv-loop μ-loop
+add-k c = search needs
 
 loop-less : tie.Need-loop-less Inv-loop μ-loop
 loop-less c = search needs
 
 loop-again : tie.Need-loop-again Inv-loop μ-loop
-loop-again c = (search needs, c .if1 .left, rw next-row (c .before .scan-row .ensures .few (c .if1 .left)))
+loop-again c = (search needs, c .if1 .left, rw next-row (c .before .scan-run .ensures .few (c .if1 .left)))
+
+mul-scan-run-2 : tie.Need-mul-scan-run-2 Inv-loop μ-loop
+mul-scan-run-2 c = search needs
+
+mul-scan-run-3 : tie.Need-mul-scan-run-3 Inv-loop μ-loop
+mul-scan-run-3 c = search needs
+
+sub-scan-run : tie.Need-sub-scan-run Inv-loop μ-loop
+sub-scan-run c = search needs
+
+scan-run-requires-2 : tie.Need-scan-run-requires-2 Inv-loop μ-loop
+scan-run-requires-2 c κs =
+    let s = c .before .before .before .before .before .before in
+    let i = c .before .before .loop .inv in
+    let b = bounds (s .args .shape) (s .pre .0) in
+    (omega arith, omega arith, b .n8, i .1, rw (le-antisymm (i .0) (c .before .loop-test .left)) at (i .2))
 
 returns-2 : tie.Need-returns-2 Inv-loop μ-loop
-returns-2 c = scanned-few (c .before .loop .inv .1) (rw (le-antisymm (c .before .loop .inv .0) (c .loop-test .left)) at (c .before .loop .inv .2))
+returns-2 c =
+    let s = c .before .before .before .before .before .before .before in
+    rw (runs-and-rest (length (s .args .received .now)) ∙ s .pre .1) at (c .scan-run2 .ensures)
 
 pub locate-spec : {M : Type 1} → statement M
 locate-spec =
@@ -59,12 +83,16 @@ locate-spec =
     (tie.spec
     Inv-loop
     μ-loop
-    cast-q
     cast-n
     loop-holds
-    scan-row-requires
+    mul-scan-run
+    scan-run-requires
     returns
-    add-row
+    add-k
     loop-less
     loop-again
+    mul-scan-run-2
+    mul-scan-run-3
+    sub-scan-run
+    scan-run-requires-2
     returns-2)
