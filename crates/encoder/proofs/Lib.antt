@@ -1,6 +1,7 @@
 pub mod Writes
 pub mod Walks
 pub mod Rows
+pub mod Turned
 pub mod Bounds
 pub mod Divides
 pub mod Joins
