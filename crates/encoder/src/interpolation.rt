@@ -1,4 +1,5 @@
 // The upper rows from their values at the shifts, in place (Newton's interpolation).
+use crate::runs::join_run;
 use gtb::Shape;
 use gtb::add_mod;
 ghost use mathlib.Core.Path.{_≡_};
@@ -81,16 +82,6 @@ fn divide(shape: Shape, word: &mut [u32], k: usize)
     let m = n - 1;
     for t in k + 1..m {
         divide_row(shape, word, k, t);
-    }
-}
-
-// The places from a on take in those from `from` on.
-fn join_run(word: &mut [u32], a: usize, from: usize, count: usize)
-    requires { ⌜ (a + count ≤ from) × (from + count ≤ length (now word)) ⌝ }
-    ensures { λ _. ⌜ Written a count (λ c. at (now (word .entry)) (a + c) ⊕ at (now (word .entry)) (from + c)) (now (word .entry)) (now (word .exit)) ⌝ }
-{
-    for c in 0..count {
-        word[a + c] ^= word[from + c];
     }
 }
 

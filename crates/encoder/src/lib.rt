@@ -69,9 +69,9 @@ fn place(shape: Shape, symbols: &[u32], word: &mut [u32])
     requires { ⌜ (Lawful shape) × (length (now word) ≡ wordLength shape) × (length (now symbols) ≡ infoLength shape) ⌝ }
     ensures { λ _. ⌜ Placed shape (now (symbols .entry)) (now (word .exit)) ⌝ }
 {
-    gtb::clear(word);
     let q = shape.q as usize;
     let m = shape.n as usize - 1;
+    runs::clear_run(word, m * q);
     let rows = q - m;
     let p = q - 1;
     for i in 0..rows {

@@ -1,4 +1,4 @@
--- `encoder::interpolation::join_run` meets its contract. The loop's invariant: the first c places are written; what is still to be read is as it was.
+-- `encoder::runs::join_run` meets its contract. The loop's invariant: the first c places are written; what is still to be read is as it was.
 use mathlib.Core.Path.{_≡_, ap₂}
 use Prim.Native.Nat.{ℕ, _+_, _-_, _≤_}
 use native.Mathlib.Omega.{arith}
@@ -7,8 +7,8 @@ use Rattle.parity.specs.Xor.{_⊕_}
 use Rattle.gtb.specs.Square.{at}
 use Rattle.gtb.specs.Sweep.{Written}
 use Rattle.gtb.proofs.Writes.{written-none, written-more}
-use Rattle.encoder.proofs.interpolation.join_run.Statement.{statement}
-use Rattle.encoder.proofs.interpolation.join_run.Tie as tie
+use Rattle.encoder.proofs.runs.join_run.Statement.{statement}
+use Rattle.encoder.proofs.runs.join_run.Tie as tie
 
 abbrev Inv-loop : tie.InvT-loop
 Inv-loop word₀ a from count c₀ word c = (c ≤ count) × Written a c (λ j. at word₀ (a + j) ⊕ at word₀ (from + j)) word₀ word
