@@ -9,6 +9,7 @@ pub mod Newtons
 pub mod Gathers
 pub mod Answers
 pub mod Places
+pub mod Stacks
 pub mod Upper
 pub mod Codewords
 pub mod Alikes
