@@ -1,6 +1,6 @@
 -- `encoder::interpolation::join_row` meets its contract: the second run reads what the first left as it was.
 use mathlib.Core.Path.{ap, ap₂, _∙_}
-use Prim.Native.Nat.{ℕ, _+_, _-_}
+use Prim.Native.Nat.{ℕ, _+_}
 use native.Mathlib.Omega.{arith}
 use borrow.Author.Needs.{needs}
 use Rattle.parity.specs.Xor.{_⊕_}

@@ -1,5 +1,5 @@
 -- `encoder::interpolation::walk` meets its contract. The loop's invariant: i steps are done, u is where they lead, and `value` what stands there.
-use mathlib.Core.Path.{_≡_, refl, sym, ap, ap₂, _∙_}
+use mathlib.Core.Path.{_≡_, refl, sym, ap₂}
 use Prim.Native.Nat.{ℕ, _*_, _-_, _%_, _≤_, _<_}
 use native.Mathlib.Omega.{arith}
 use borrow.Author.Needs.{needs}
