@@ -16,25 +16,23 @@ use Rattle.parity.proofs.Newton.{lowerEval, eval-parts}
 use Rattle.parity.proofs.Lists.{is-tabulate}
 use Rattle.gtb.specs.declared.Shape.{Shape}
 use Rattle.gtb.specs.Shape.{Lawful, wordLength, infoLength}
-use Rattle.gtb.specs.Square.{at, narrow, Syndromes}
+use Rattle.gtb.specs.Square.{at, narrow}
 use Rattle.gtb.specs.Positions.{infoPosition, extractOf, Encodes}
 use Rattle.gtb.proofs.Bounds.{bounds}
 use Rattle.gtb.specs.Rows.{shiftOf, rowOf, lowerRow}
 use Rattle.gtb.proofs.Words.{beyond}
 use Rattle.gtb.proofs.Rounds.{rows-silent}
 use Rattle.gtb.proofs.Information.{position, row-lt, info-row-lt, info-column-lt}
-use Rattle.encoder.specs.Steps.{row, Placed, Sound, Interpolated}
-use Rattle.gtb.specs.Sweep.{Written}
+use Rattle.encoder.specs.Steps.{row, Placed, Raised, Sound, Interpolated}
 use Rattle.encoder.proofs.Divides.{sound-same}
-use Rattle.encoder.proofs.Upper.{placed-sound, copied-upper, copied-lower}
+use Rattle.encoder.proofs.Upper.{placed-sound}
 
-module _ (s : Shape) (h : Lawful s) (symbols w v w₁ w₂ : List ℕ)
+module _ (s : Shape) (h : Lawful s) (symbols w w₁ w₂ : List ℕ)
     (len : length symbols ≡ infoLength s) (small : narrow (s .b) symbols ≡ true)
-    (placed : Placed s symbols w) (syn : Syndromes s w v)
-    (copied : Written 0 ((s .n - 1) * s .q) (λ i. at v (s .q + i)) w w₁) (inter : Interpolated s 0 w₁ w₂) where
+    (placed : Placed s symbols w) (raised : Raised s w w₁) (inter : Interpolated s 0 w₁ w₂) where
   -- the lower rows are still those that were put down
   lower-same : (r : ℕ) → s .n ≤ suc r → (c : ℕ) → row (s .q) w₂ r c ≡ row (s .q) w r c
-  lower-same r l c = inter .past r l c ∙ copied-lower s h w w₁ v syn copied r l c
+  lower-same r l c = inter .past r l c ∙ raised .lower r l c
 
   sound : (r : ℕ) → r < s .q → Sound s (row (s .q) w₂ r)
   sound r l =
@@ -68,7 +66,7 @@ module _ (s : Shape) (h : Lawful s) (symbols w v w₁ w₂ : List ℕ)
   upper-line t l c =
       cong (s .n - 1) _ _ (λ r lr. ap (λ (k : ℕ). row (s .q) w₂ k (c + shiftOf s t * r)) (sym (zero-add r)))
       ∙ ap (λ (k : ℕ). eval k (λ i. row (s .q) w₂ (0 + i)) (shiftOf s t) c) (omega arith)
-      ∙ inter .value t (omega arith) l c ∙ copied-upper s h w w₁ v syn copied t l c ∙ placed-line (shiftOf s t) c
+      ∙ inter .value t (omega arith) l c ∙ raised .upper t l c ∙ placed-line (shiftOf s t) c
 
   vanish : (t : ℕ) → suc t < s .n → (c : ℕ) → eval (s .q) (row (s .q) w₂) (shiftOf s t) c ≡ 0
   unfolding below
@@ -78,7 +76,7 @@ module _ (s : Shape) (h : Lawful s) (symbols w v w₁ w₂ : List ℕ)
 
   -- ---- every symbol is below 2^b
   size : length w₂ ≡ wordLength s
-  size = inter .size ∙ copied .size ∙ placed .size
+  size = inter .size ∙ raised .size ∙ placed .size
 
   width : (j : ℕ) → at w₂ j < 2 ^ s .b
   unfolding rowOf

@@ -1,6 +1,7 @@
 pub mod Writes
 pub mod Walks
 pub mod Rows
+pub mod Turned
 pub mod Bounds
 pub mod Divides
 pub mod Joins
@@ -8,6 +9,7 @@ pub mod Newtons
 pub mod Gathers
 pub mod Answers
 pub mod Places
+pub mod Stacks
 pub mod Upper
 pub mod Codewords
 pub mod Alikes

@@ -1,15 +1,16 @@
 -- The symbols put down, one lower row at a time.
-use mathlib.Core.Path.{_≡_, refl, ap, _∙_}
+use mathlib.Core.Path.{_≡_, refl, sym, ap, _∙_}
 use mathlib.Core.List.{List}
 use mathlib.Core.Logic.{⊎-elim}
 use Prim.Native.Nat.{ℕ, _+_, _-_, _*_, _%_, _<_}
-use native.Mathlib.Nat.{not-suc-le-zero, eq-or-lt-of-le}
+use native.Mathlib.Nat.{not-suc-le-zero, eq-or-lt-of-le, zero-add, mod-lt}
 use native.Mathlib.Omega.{arith}
-use lib.ListN.{length, replicate, length-replicate}
-use Rattle.parity.proofs.Lists.{at-zeros}
+use lib.Arith.{digits-lt}
+use lib.ListN.{length}
 use Rattle.gtb.specs.declared.Shape.{Shape}
 use Rattle.gtb.specs.Shape.{Lawful, wordLength}
 use Rattle.gtb.specs.Square.{at}
+use Rattle.gtb.proofs.Bounds.{positive}
 use Rattle.gtb.specs.Rows.{rowOf, lowerRow}
 use Rattle.encoder.specs.Steps.{row, Placed}
 use Rattle.gtb.specs.Sweep.{Written}
@@ -41,11 +42,14 @@ module _ (q m p : ℕ) (xs w : List ℕ) where
       other : (r : ℕ) → (r ≡ m + i → ⊥) → (c : ℕ) → row q w″ r c ≡ row q w′ r c
       other = written-other q pos (m + i) (lowerRow p (λ j. at xs (i * p + j))) w′ w″ written
 
-pub placing-all : (s : Shape) → Lawful s → (xs w w′ : List ℕ) (k : ℕ) → k ≡ wordLength s → w ≡ replicate k 0
+pub placing-all : (s : Shape) → Lawful s → (xs w₀ w w′ : List ℕ) → length w₀ ≡ wordLength s → Written 0 ((s .n - 1) * s .q) (λ i. 0) w₀ w
     → Placing (s .q) (s .n - 1) (s .q - 1) (s .q - (s .n - 1)) xs w w′ → Placed s xs w′
 unfolding rowOf
-placing-all s h xs w w′ k size zeros p = record {
-  size = p .size ∙ ap length zeros ∙ length-replicate k 0 ∙ size;
-  upper = λ r l c. p .upper r (omega arith) c ∙ ap (λ (v : List ℕ). at v (r * s .q + c % s .q)) zeros ∙ at-zeros k (r * s .q + c % s .q);
+placing-all s h xs w₀ w w′ size zeros p = record {
+  size = p .size ∙ zeros .size ∙ size;
+  upper = λ r l c. p .upper r (omega arith) c ∙ cleared (r * s .q + c % s .q) (digits-lt (omega arith) (mod-lt c (positive s h)));
   lower = λ i l c. p .lower i (omega arith) c;
 }
+  where
+    cleared : (j : ℕ) → j < (s .n - 1) * s .q → at w j ≡ 0
+    cleared j l = ap (at w) (sym (zero-add j)) ∙ zeros .inside j l

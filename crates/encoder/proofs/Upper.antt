@@ -1,25 +1,26 @@
--- The upper rows before they are interpolated: the syndromes of the symbols that were put down, which are sound rows.
+-- The upper rows before they are interpolated: what the directions show of the symbols that were put down, which are sound rows.
 use mathlib.Core.Path.{_≡_, refl, sym, ap, _∙_}
 use mathlib.Core.Bool.{true}
 use mathlib.Core.List.{List}
 use Prim.Native.Nat.{ℕ, suc, _+_, _-_, _*_, _%_, _^_, _≤_, _<_}
-use native.Mathlib.Nat.{zero-add, suc-mul, mul-le-mul-right, mod-lt}
+use native.Mathlib.Nat.{zero-add, zero-mul, one-mul, suc-mul, mul-le-mul-right, mod-lt, add-mul-mod-self-left}
 use native.Mathlib.Decide.{decLt}
 use native.Mathlib.Omega.{arith}
 use lib.Arith.{digits-lt}
 use lib.ListN.{length}
 use lib.Pow.{pow-pos}
+use Rattle.parity.specs.Xor.{xorSum}
 use Rattle.parity.specs.Cyclic.{eval}
-use Rattle.parity.proofs.XorSums.{none, first, bound}
+use Rattle.parity.proofs.XorSums.{none, cong, bound}
 use Rattle.parity.proofs.Newton.{eval-cyclic}
 use Rattle.gtb.specs.declared.Shape.{Shape}
-use Rattle.gtb.specs.Shape.{Lawful, wordLength}
+use Rattle.gtb.specs.Shape.{Lawful, wordLength, slopeOf}
 use Rattle.gtb.specs.Square.{at, narrow, Syndromes}
 use Rattle.gtb.proofs.Bounds.{bounds, positive}
 use Rattle.gtb.proofs.Words.{narrow-at}
 use Rattle.gtb.specs.Rows.{shiftOf, rowOf, lowerRow}
 use Rattle.gtb.proofs.Rounds.{syndrome-eval, lower-cyclic, lower-width}
-use Rattle.encoder.specs.Steps.{row, Placed, Sound, Ready}
+use Rattle.encoder.specs.Steps.{row, Placed, Raised, Sound, Ready}
 use Rattle.gtb.specs.Sweep.{Written}
 use Rattle.encoder.proofs.Divides.{sound-same}
 
@@ -51,7 +52,7 @@ module _ (s : Shape) (h : Lawful s) where
 
   -- ---- the syndromes copied to the upper rows
   module _ (w w₁ v : List ℕ) (syn : Syndromes s w v) (copied : Written 0 ((s .n - 1) * s .q) (λ i. at v (s .q + i)) w w₁) where
-    pub copied-upper : (t : ℕ) → suc t < s .n → (c : ℕ) → row (s .q) w₁ t c ≡ eval (s .q) (row (s .q) w) (shiftOf s t) c
+    copied-upper : (t : ℕ) → suc t < s .n → (c : ℕ) → row (s .q) w₁ t c ≡ eval (s .q) (row (s .q) w) (shiftOf s t) c
     unfolding rowOf
     copied-upper t l c =
         ap (at w₁) (sym (zero-add (t * s .q + c % s .q)))
@@ -59,16 +60,47 @@ module _ (s : Shape) (h : Lawful s) where
         ∙ ap (at v) (omega (arith, suc-mul t (s .q)))
         ∙ syn .entry (suc t) (c % s .q) l (mod-lt c (positive s h)) ∙ syndrome-eval s h (at w) t l c
 
-    pub copied-lower : (r : ℕ) → s .n ≤ suc r → (c : ℕ) → row (s .q) w₁ r c ≡ row (s .q) w r c
+    copied-lower : (r : ℕ) → s .n ≤ suc r → (c : ℕ) → row (s .q) w₁ r c ≡ row (s .q) w r c
     unfolding rowOf
     copied-lower r l c =
         let after : (s .n - 1) * s .q ≤ r * s .q = mul-le-mul-right (s .q) (omega arith) in
         copied .above (r * s .q + c % s .q) (omega arith)
 
-    pub copied-ready : length w ≡ wordLength s → ((r : ℕ) → r < s .q → Sound s (row (s .q) w r)) → Ready s 0 w₁
-    copied-ready size sound = record {
-      lawful = h;
-      size = copied .size ∙ size;
-      first = let b = bounds s h in omega arith;
-      sound = λ t from l. sound-same s (eval (s .q) (row (s .q) w) (shiftOf s t)) (row (s .q) w₁ t) (copied-upper t l) (eval-sound w sound (shiftOf s t));
+    pub raised-copied : Raised s w w₁
+    raised-copied = record { size = copied .size; upper = copied-upper; lower = copied-lower }
+
+  -- ---- the rows stacked on the first: a shift of q moves nothing
+  module _ (w w₁ : List ℕ) (two : s .n ≡ 2) (flat : slopeOf s 1 ≡ 0) (stacked : Written 0 (s .q) (λ c. xorSum (s .q) (λ r. at w (r * s .q + c))) w w₁) where
+    moved : (c r : ℕ) → (c + shiftOf s 0 * r) % s .q ≡ c % s .q
+    unfolding shiftOf
+    moved c r =
+        let whole : s .q - slopeOf s 1 ≡ s .q = omega (arith, flat) in
+        ap (λ (x : ℕ). (c + x * r) % s .q) whole ∙ add-mul-mod-self-left c (s .q) r
+
+    stacked-first : (c : ℕ) → row (s .q) w₁ 0 c ≡ eval (s .q) (row (s .q) w) (shiftOf s 0) c
+    unfolding rowOf eval
+    stacked-first c =
+        ap (at w₁) (omega (arith, zero-mul (s .q))) ∙ stacked .inside (c % s .q) (mod-lt c (positive s h))
+        ∙ cong (s .q) _ _ (λ r l. ap (λ (k : ℕ). at w (r * s .q + k)) (sym (moved c r)))
+
+    stacked-lower : (r : ℕ) → s .n ≤ suc r → (c : ℕ) → row (s .q) w₁ r c ≡ row (s .q) w r c
+    unfolding rowOf
+    stacked-lower r l c =
+        let after : 1 * s .q ≤ r * s .q = mul-le-mul-right (s .q) (omega (arith, two)) in
+        stacked .above (r * s .q + c % s .q) (omega (arith, one-mul (s .q)))
+
+    pub raised-stacked : Raised s w w₁
+    raised-stacked = record {
+      size = stacked .size;
+      upper = λ t l c. let e : t ≡ 0 = omega (arith, two) in rw e (stacked-first c);
+      lower = stacked-lower;
     }
+
+  -- ---- either way
+  pub raised-ready : (w w₁ : List ℕ) → Raised s w w₁ → length w ≡ wordLength s → ((r : ℕ) → r < s .q → Sound s (row (s .q) w r)) → Ready s 0 w₁
+  raised-ready w w₁ raised size sound = record {
+    lawful = h;
+    size = raised .size ∙ size;
+    first = let b = bounds s h in omega arith;
+    sound = λ t from l. sound-same s (eval (s .q) (row (s .q) w) (shiftOf s t)) (row (s .q) w₁ t) (raised .upper t l) (eval-sound w sound (shiftOf s t));
+  }

@@ -10,7 +10,6 @@ use lib.ListN.{length, set, replicate, length-set}
 use lib.Seq.{getD-set-same, getD-set-other}
 use Rattle.parity.specs.Xor.{_⊕_}
 use Rattle.parity.specs.Cyclic.{Cyclic, walk}
-use Rattle.parity.proofs.Xors.{assoc}
 use Rattle.parity.proofs.Cycles.{wrap, same}
 use Rattle.parity.proofs.Walk.{walk-start, walk-period, forth, walk-step}
 use Rattle.gtb.specs.Square.{at}
@@ -71,8 +70,6 @@ module _ (q δ : ℕ) (d : ℕ → ℕ) (pos : 0 < q) where
   }
 
 -- what a step takes up
-pub taken-up : (q : ℕ) (w : List ℕ) (k t u y : ℕ) → u < q → y ⊕ at w (t * q + u) ⊕ at w (k * q + u) ≡ y ⊕ difference q w k t u
+pub taken-up : (q : ℕ) (w : List ℕ) (k t u : ℕ) → u < q → at w (t * q + u) ⊕ at w (k * q + u) ≡ difference q w k t u
 unfolding rowOf
-taken-up q w k t u y l =
-    assoc y (at w (t * q + u)) (at w (k * q + u))
-    ∙ ap (λ (c : ℕ). y ⊕ (at w (t * q + c) ⊕ at w (k * q + c))) (sym (mod-eq-of-lt l))
+taken-up q w k t u l = ap (λ (c : ℕ). at w (t * q + c) ⊕ at w (k * q + c)) (sym (mod-eq-of-lt l))

@@ -31,6 +31,12 @@ pub record Placed (s : Shape) (symbols w : List ℕ) : Type 0 where
   pub upper : (r : ℕ) → suc r < s .n → (c : ℕ) → row (s .q) w r c ≡ 0
   pub lower : (i : ℕ) → s .n - 1 + i < s .q → (c : ℕ) → row (s .q) w (s .n - 1 + i) c ≡ lowerRow (s .q - 1) (λ j. at symbols (i * (s .q - 1) + j)) (c % s .q)
 
+-- the upper rows hold what each direction from 1 on shows, the lower ones are as they were
+pub record Raised (s : Shape) (w w′ : List ℕ) : Type 0 where
+  pub size : length w′ ≡ length w
+  pub upper : (t : ℕ) → suc t < s .n → (c : ℕ) → row (s .q) w′ t c ≡ eval (s .q) (row (s .q) w) (shiftOf s t) c
+  pub lower : (r : ℕ) → s .n ≤ suc r → (c : ℕ) → row (s .q) w′ r c ≡ row (s .q) w r c
+
 -- the difference of the rows t and k
 abbrev pub difference : ℕ → List ℕ → ℕ → ℕ → ℕ → ℕ
 difference q w k t c = row q w t c ⊕ row q w k c

@@ -1,4 +1,5 @@
 // The upper rows from their values at the shifts, in place (Newton's interpolation).
+use crate::runs::join_run;
 use gtb::Shape;
 use gtb::add_mod;
 ghost use mathlib.Core.Path.{_≡_};
@@ -21,30 +22,42 @@ fn shift(shape: Shape, t: usize) -> usize
     q - gtb::slope(shape, t + 1)
 }
 
-// Once round the cycle in steps of `delta`, taking up the difference of the rows t and k.
+// Once round the cycle in steps of `delta`, taking up the difference of the rows t and k. The value is carried along: read back from the
+// array, each step would wait for the last one's store.
 fn walk(word: &[u32], q: usize, k: usize, t: usize, delta: usize) -> [u32; 32]
     requires { ⌜ (1 ≤ q) × (q ≤ 31) × (delta < q) × (k * q + q ≤ length (now word)) × (t * q + q ≤ length (now word)) × Cyclic q (difference q (now word) k t) ⌝ }
     ensures { λ r. ⌜ Walked q delta (difference q (now (word .entry)) k t) r ⌝ }
 {
     let mut walked = [0u32; 32];
     let mut u = 0;
+    let mut value: u32 = 0;
     let last = q - 1;
     for i in 0..last {
-        let next = add_mod(u, delta, q);
-        walked[next] = walked[u] ^ word[t * q + u] ^ word[k * q + u];
-        u = next;
+        value ^= word[t * q + u] ^ word[k * q + u];
+        u = add_mod(u, delta, q);
+        walked[u] = value;
     }
     walked
 }
 
-// The row at place a becomes what was walked, moved by z, with the total added.
+// What was walked from place `from` on, with the total added, goes to place a.
+fn store_run(word: &mut [u32], walked: &[u32], total: u32, a: usize, from: usize, count: usize)
+    requires { ⌜ (a + count ≤ length (now word)) × (from + count ≤ length (now walked)) ⌝ }
+    ensures { λ _. ⌜ Written a count (λ c. at (now (walked .entry)) (from + c) ⊕ total) (now (word .entry)) (now (word .exit)) ⌝ }
+{
+    for c in 0..count {
+        word[a + c] = walked[from + c] ^ total;
+    }
+}
+
+// The row at place a becomes what was walked, moved by z, with the total added: the columns before the wrap, then those after it.
 fn store_row(word: &mut [u32], walked: &[u32], total: u32, q: usize, a: usize, z: usize)
     requires { ⌜ (1 ≤ q) × (q ≤ 31) × (z ≤ q) × (a + q ≤ length (now word)) × (length (now walked) ≡ 32) ⌝ }
     ensures { λ _. ⌜ Written a q (λ c. at (now (walked .entry)) ((c + z) % q) ⊕ total) (now (word .entry)) (now (word .exit)) ⌝ }
 {
-    for c in 0..q {
-        word[a + c] = walked[add_mod(c, z, q)] ^ total;
-    }
+    let rest = q - z;
+    store_run(word, walked, total, a, z, rest);
+    store_run(word, walked, total, a + rest, 0, z);
 }
 
 // Row t becomes its difference from row k, divided by the difference of their shifts.
@@ -77,9 +90,9 @@ fn join_row(word: &mut [u32], q: usize, a: usize, x: usize)
     requires { ⌜ (1 ≤ q) × (q ≤ 31) × (x ≤ q) × (a + q + q ≤ length (now word)) ⌝ }
     ensures { λ _. ⌜ Written a q (λ c. at (now (word .entry)) (a + c) ⊕ at (now (word .entry)) (a + q + (c + x) % q)) (now (word .entry)) (now (word .exit)) ⌝ }
 {
-    for c in 0..q {
-        word[a + c] ^= word[a + q + add_mod(c, x, q)];
-    }
+    let rest = q - x;
+    join_run(word, a, a + q + x, rest);
+    join_run(word, a + rest, a + q, x);
 }
 
 // Each row from k to n - 3 takes the next one in.

@@ -1,4 +1,5 @@
 // Writing and data extraction.
+mod checks;
 mod interpolation;
 mod runs;
 
@@ -69,9 +70,9 @@ fn place(shape: Shape, symbols: &[u32], word: &mut [u32])
     requires { ⌜ (Lawful shape) × (length (now word) ≡ wordLength shape) × (length (now symbols) ≡ infoLength shape) ⌝ }
     ensures { λ _. ⌜ Placed shape (now (symbols .entry)) (now (word .exit)) ⌝ }
 {
-    gtb::clear(word);
     let q = shape.q as usize;
     let m = shape.n as usize - 1;
+    runs::clear_run(word, m * q);
     let rows = q - m;
     let p = q - 1;
     for i in 0..rows {
@@ -79,16 +80,13 @@ fn place(shape: Shape, symbols: &[u32], word: &mut [u32])
     }
 }
 
-// The codeword of the symbols: the upper rows are interpolated from the syndromes of the lower ones.
+// The codeword of the symbols: the upper rows are interpolated from what the directions show of the lower ones.
 fn write(shape: Shape, symbols: &[u32], word: &mut [u32])
     requires { ⌜ (Lawful shape) × (length (now word) ≡ wordLength shape) × (length (now symbols) ≡ infoLength shape) × (narrow (shape .b) (now symbols) ≡ true) ⌝ }
     ensures { λ _. ⌜ Encodes shape (now (symbols .entry)) (now (word .exit)) ⌝ }
 {
     place(shape, symbols, word);
-    let syn = gtb::syndrome::syndromes(shape, word);
-    let q = shape.q as usize;
-    let m = shape.n as usize - 1;
-    gtb::copy_run(word, &syn, 0, q, m * q);
+    checks::raise(shape, word);
     interpolation::interpolate(shape, word, 0);
 }
 

@@ -5,7 +5,7 @@ use native.Mathlib.Omega.{arith}
 use borrow.Author.Needs.{needs}
 use Rattle.gtb.proofs.Bounds.{bounds}
 use Rattle.gtb.proofs.Sizes.{sizes}
-use Rattle.encoder.proofs.Bounds.{Lower, lower}
+use Rattle.encoder.proofs.Bounds.{Lower, lower, upper-fits}
 use Rattle.encoder.proofs.Places.{Placing, placing-none, placing-more, placing-all}
 use Rattle.encoder.proofs.place.Statement.{statement}
 use Rattle.encoder.proofs.place.Tie as tie
@@ -16,9 +16,6 @@ Inv-loop symbols word₀ q m rows p i₀ word i = (i ≤ rows) × Placing q m p 
 abbrev μ-loop : tie.MeasureT-loop
 μ-loop symbols word₀ q m rows p i₀ word i = rows - i
 
-clear-requires : tie.Need-clear-requires Inv-loop μ-loop
-clear-requires c κs = search needs
-
 cast-q : tie.Need-cast-q Inv-loop μ-loop
 cast-q c = search needs
 
@@ -26,7 +23,17 @@ cast-m : tie.Need-cast-m Inv-loop μ-loop
 cast-m c = search needs
 
 sub-m : tie.Need-sub-m Inv-loop μ-loop
-sub-m c = let b = bounds _ (c .before .before .before .before .before .before .before .before .pre .0) in omega arith
+sub-m c = let b = bounds _ (c .before .before .before .before .pre .0) in omega arith
+
+mul-clear-run : tie.Need-mul-clear-run Inv-loop μ-loop
+mul-clear-run c =
+    let h = c .before .before .before .before .before .pre .0 in
+    let f = upper-fits _ h in
+    let z = sizes _ h in
+    omega arith
+
+clear-run-requires : tie.Need-clear-run-requires Inv-loop μ-loop
+clear-run-requires c κs = let f = upper-fits _ (c .before .before .before .before .before .pre .0) in omega arith
 
 sub-rows : tie.Need-sub-rows Inv-loop μ-loop
 sub-rows c = let b = bounds _ (c .before .before .before .before .before .before .before .before .pre .0) in omega arith
@@ -63,7 +70,7 @@ place-row-requires : tie.Need-place-row-requires Inv-loop μ-loop
 place-row-requires c κs =
     let f = fit (c .before) in
     let b = bounds _ (start (c .before) .pre .0) in
-    omega (arith, c .before .before .loop .inv .1 .size ∙ c .before .before .before .before .before .before .before .clear .kept .0)
+    omega (arith, c .before .before .loop .inv .1 .size ∙ c .before .before .before .before .before .clear-run .ensures .size)
 
 add-i : tie.Need-add-i Inv-loop μ-loop
 add-i c = search needs
@@ -78,7 +85,7 @@ loop-again c =
     (omega arith, placing-more _ _ _ _ _ _ _ _ (omega arith) (omega arith) (turn .before .before .before .loop .inv .1) (turn .place-row .ensures))
 
 same-length : tie.Need-same-length Inv-loop μ-loop
-same-length c = c .before .loop .inv .1 .size ∙ c .before .before .before .before .before .before .clear .kept .0
+same-length c = c .before .loop .inv .1 .size ∙ c .before .before .before .before .clear-run .ensures .size
 
 returns : tie.Need-returns Inv-loop μ-loop
 returns c =
@@ -86,7 +93,7 @@ returns c =
     let st = c .before .before .before .before .before .before .before .before .before .before in
     let b = bounds _ (st .pre .0) in
     let e : l .i ≡ st .args .shape .q - (st .args .shape .n - 1) = omega arith in
-    placing-all _ (st .pre .0) _ _ _ _ (st .pre .1) (c .before .before .before .before .before .before .clear .ensures) (rw e at (l .inv .1))
+    placing-all _ (st .pre .0) _ _ _ _ (st .pre .1) (c .before .before .before .before .clear-run .ensures) (rw e at (l .inv .1))
 
 pub place-spec : {M : Type 1} → statement M
 place-spec =
@@ -94,10 +101,11 @@ place-spec =
     (tie.spec
     Inv-loop
     μ-loop
-    clear-requires
     cast-q
     cast-m
     sub-m
+    mul-clear-run
+    clear-run-requires
     sub-rows
     sub-p
     loop-holds

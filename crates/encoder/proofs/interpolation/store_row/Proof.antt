@@ -1,79 +1,40 @@
--- `encoder::interpolation::store_row` meets its contract. The loop's invariant: the first c columns are written.
-use mathlib.Core.Path.{_≡_, ap}
-use Prim.Native.Nat.{ℕ, _+_, _-_, _%_, _≤_}
+-- `encoder::interpolation::store_row` meets its contract.
+use mathlib.Core.Path.{refl, ap}
+use Prim.Native.Nat.{ℕ}
+use native.Mathlib.Nat.{zero-add}
 use native.Mathlib.Omega.{arith}
 use borrow.Author.Needs.{needs}
 use Rattle.parity.specs.Xor.{_⊕_}
 use Rattle.gtb.specs.Square.{at}
-use Rattle.gtb.specs.Sweep.{Written}
-use Rattle.gtb.proofs.Writes.{written-none, written-more}
+use Rattle.encoder.proofs.Turned.{written-turned}
 use Rattle.encoder.proofs.interpolation.store_row.Statement.{statement}
 use Rattle.encoder.proofs.interpolation.store_row.Tie as tie
 
-abbrev Inv-loop : tie.InvT-loop
-Inv-loop word₀ walked total q a z c₀ word c = (c ≤ q) × Written a c (λ j. at walked ((j + z) % q) ⊕ total) word₀ word
+sub-rest : tie.Need-sub-rest
+sub-rest c = search needs
 
-abbrev μ-loop : tie.MeasureT-loop
-μ-loop word₀ walked total q a z c₀ word c = q - c
+store-run-requires : tie.Need-store-run-requires
+store-run-requires c κs = search needs
 
-loop-holds : tie.Need-loop-holds Inv-loop μ-loop
-loop-holds c = (search needs, written-none _ _ _)
+add-store-run : tie.Need-add-store-run
+add-store-run c = search needs
 
-add-mod-requires : tie.Need-add-mod-requires Inv-loop μ-loop
-add-mod-requires c κs = search needs
+store-run-requires-2 : tie.Need-store-run-requires-2
+store-run-requires-2 c κs = search needs
 
-mul-word : tie.Need-mul-word Inv-loop μ-loop
-mul-word c = search needs
-
-shared-slice-read-word : tie.Need-shared-slice-read-word Inv-loop μ-loop
-shared-slice-read-word c = search needs
-
-add-word : tie.Need-add-word Inv-loop μ-loop
-add-word c = search needs
-
-mul-word-2 : tie.Need-mul-word-2 Inv-loop μ-loop
-mul-word-2 c = search needs
-
-slice-write-word : tie.Need-slice-write-word Inv-loop μ-loop
-slice-write-word c = search needs
-
-add-c : tie.Need-add-c Inv-loop μ-loop
-add-c c = search needs
-
-loop-less : tie.Need-loop-less Inv-loop μ-loop
-loop-less c = search needs
-
-loop-again : tie.Need-loop-again Inv-loop μ-loop
-unfolding _⊕_
-loop-again c =
-    let n = c .before in
-    let l = n .before .before .loop in
-    let a = n .before .before .before .before .before .args in
-    (omega arith, written-more _ _ _ _ _ _ (omega arith) (ap (λ (k : ℕ). at (a .walked .now) k ⊕ a .total) (n .add-mod .ensures .0)) (l .inv .1))
-
-same-length : tie.Need-same-length Inv-loop μ-loop
+same-length : tie.Need-same-length
 same-length c = search needs
 
-returns : tie.Need-returns Inv-loop μ-loop
+returns : tie.Need-returns
 returns c =
-    let e : c .before .loop .c ≡ c .before .before .before .before .args .q = omega arith in
-    rw e at (c .before .loop .inv .1)
+    let first = c .before .before .before .before .before .before in
+    let a = first .before .before .before .before .args in
+    let v = a .walked .now in
+    written-turned (a .a) (a .q) (a .z) _ _ (λ c u. at v u ⊕ a .total) (a .word .now) _ _ (omega arith)
+    (first .store-run .ensures) (c .before .before .store-run2 .ensures)
+    (λ i l. refl) (λ i l. ap (λ (k : ℕ). at v k ⊕ a .total) (zero-add i))
 
 pub store-row-spec : {M : Type 1} → statement M
 store-row-spec =
     tie.close
-    (tie.spec
-    Inv-loop
-    μ-loop
-    loop-holds
-    add-mod-requires
-    mul-word
-    shared-slice-read-word
-    add-word
-    mul-word-2
-    slice-write-word
-    add-c
-    loop-less
-    loop-again
-    same-length
-    returns)
+    (tie.spec sub-rest store-run-requires add-store-run store-run-requires-2 same-length returns)

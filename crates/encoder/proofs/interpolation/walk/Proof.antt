@@ -1,8 +1,9 @@
--- `encoder::interpolation::walk` meets its contract. The loop's invariant: i steps are done, and u is where they lead.
-use mathlib.Core.Path.{_≡_}
-use Prim.Native.Nat.{_*_, _-_, _%_, _≤_, _<_}
+-- `encoder::interpolation::walk` meets its contract. The loop's invariant: i steps are done, u is where they lead, and `value` what stands there.
+use mathlib.Core.Path.{_≡_, refl, sym, ap₂}
+use Prim.Native.Nat.{ℕ, _*_, _-_, _%_, _≤_, _<_}
 use native.Mathlib.Omega.{arith}
 use borrow.Author.Needs.{needs}
+use lib.Seq.{getD-set-same}
 use Rattle.parity.specs.Xor.{_⊕_}
 use Rattle.gtb.specs.Square.{at}
 use Rattle.gtb.proofs.Turns.{turn-none, turn-more}
@@ -12,10 +13,10 @@ use Rattle.encoder.proofs.interpolation.walk.Statement.{statement}
 use Rattle.encoder.proofs.interpolation.walk.Tie as tie
 
 abbrev Inv-loop : tie.InvT-loop
-Inv-loop word q k t delta walked₀ u₀ last i₀ walked u i = (i ≤ last) × (u ≡ delta * i % q) × (u < q) × Walking q delta (difference q word k t) i walked
+Inv-loop word q k t delta walked₀ u₀ value₀ last i₀ walked u value i = (i ≤ last) × (u ≡ delta * i % q) × (u < q) × (value ≡ at walked u) × Walking q delta (difference q word k t) i walked
 
 abbrev μ-loop : tie.MeasureT-loop
-μ-loop word q k t delta walked₀ u₀ last i₀ walked u i = last - i
+μ-loop word q k t delta walked₀ u₀ value₀ last i₀ walked u value i = last - i
 
 sub-last : tie.Need-sub-last Inv-loop μ-loop
 sub-last c = search needs
@@ -23,43 +24,37 @@ sub-last c = search needs
 loop-holds : tie.Need-loop-holds Inv-loop μ-loop
 loop-holds c =
     let a = c .before .args in
-    (search needs, turn-none (a .delta) (a .q), search needs, walking-none (a .q) (a .delta) _ (search needs))
+    (search needs, turn-none (a .delta) (a .q), search needs, refl, walking-none (a .q) (a .delta) _ (search needs))
+
+mul-value : tie.Need-mul-value Inv-loop μ-loop
+mul-value c = search needs
+
+add-value : tie.Need-add-value Inv-loop μ-loop
+add-value c = search needs
+
+mul-value-2 : tie.Need-mul-value-2 Inv-loop μ-loop
+mul-value-2 c = search needs
+
+shared-slice-read-value : tie.Need-shared-slice-read-value Inv-loop μ-loop
+shared-slice-read-value c = search needs
+
+mul-value-3 : tie.Need-mul-value-3 Inv-loop μ-loop
+mul-value-3 c = search needs
+
+add-value-2 : tie.Need-add-value-2 Inv-loop μ-loop
+add-value-2 c = search needs
+
+mul-value-4 : tie.Need-mul-value-4 Inv-loop μ-loop
+mul-value-4 c = search needs
+
+shared-slice-read-value-2 : tie.Need-shared-slice-read-value-2 Inv-loop μ-loop
+shared-slice-read-value-2 c = search needs
 
 add-mod-requires : tie.Need-add-mod-requires Inv-loop μ-loop
 add-mod-requires c κs = search needs
 
 mul-walked : tie.Need-mul-walked Inv-loop μ-loop
 mul-walked c = search needs
-
-array-read-walked : tie.Need-array-read-walked Inv-loop μ-loop
-array-read-walked c = search needs
-
-mul-walked-2 : tie.Need-mul-walked-2 Inv-loop μ-loop
-mul-walked-2 c = search needs
-
-add-walked : tie.Need-add-walked Inv-loop μ-loop
-add-walked c = search needs
-
-mul-walked-3 : tie.Need-mul-walked-3 Inv-loop μ-loop
-mul-walked-3 c = search needs
-
-shared-slice-read-walked : tie.Need-shared-slice-read-walked Inv-loop μ-loop
-shared-slice-read-walked c = search needs
-
-mul-walked-4 : tie.Need-mul-walked-4 Inv-loop μ-loop
-mul-walked-4 c = search needs
-
-add-walked-2 : tie.Need-add-walked-2 Inv-loop μ-loop
-add-walked-2 c = search needs
-
-mul-walked-5 : tie.Need-mul-walked-5 Inv-loop μ-loop
-mul-walked-5 c = search needs
-
-shared-slice-read-walked-2 : tie.Need-shared-slice-read-walked-2 Inv-loop μ-loop
-shared-slice-read-walked-2 c = search needs
-
-mul-walked-6 : tie.Need-mul-walked-6 Inv-loop μ-loop
-mul-walked-6 c = search needs
 
 array-write-walked : tie.Need-array-write-walked Inv-loop μ-loop
 array-write-walked c = search needs
@@ -73,15 +68,15 @@ loop-less c = search needs
 loop-again : tie.Need-loop-again Inv-loop μ-loop
 unfolding _⊕_
 loop-again c =
-    let n = c .before .before in
-    let l = n .before .before .loop in
-    let st = n .before .before .before .before in
+    let l = c .before .before .before .before .loop in
+    let st = c .before .before .before .before .before .before in
     let a = st .args in (
       omega arith,
-      turn-more (a .delta) (l .i) (a .q) (l .u) _ (l .inv .1) (n .add-mod .ensures .0),
-      n .add-mod .ensures .1,
-      walking-more (a .q) (a .delta) _ (omega arith) (l .i) (l .u) _ _ _ (omega arith) (st .pre .5) (l .inv .1) (n .add-mod .ensures .0)
-          (taken-up (a .q) (a .word .now) (a .k) (a .t) (l .u) (at (l .walked) (l .u)) (l .inv .2)) (l .inv .3),
+      turn-more (a .delta) (l .i) (a .q) (l .u) _ (l .inv .1) (c .add-mod .ensures .0),
+      c .add-mod .ensures .1,
+      sym (getD-set-same (l .walked) (c .add-mod .result) _ 0 (omega (arith, l .inv .4 .size, c .add-mod .ensures .1))),
+      walking-more (a .q) (a .delta) _ (omega arith) (l .i) (l .u) _ _ _ (omega arith) (st .pre .5) (l .inv .1) (c .add-mod .ensures .0)
+          (ap₂ (λ (x y : ℕ). x ⊕ y) (l .inv .3) (taken-up (a .q) (a .word .now) (a .k) (a .t) (l .u) (l .inv .2))) (l .inv .4),
     )
 
 returns : tie.Need-returns Inv-loop μ-loop
@@ -89,7 +84,7 @@ returns c =
     let l = c .before .loop in
     let a = c .before .before .before .args in
     let e : l .i ≡ a .q - 1 = omega arith in
-    walking-all (a .q) (a .delta) _ (omega arith) _ (rw e at (l .inv .3))
+    walking-all (a .q) (a .delta) _ (omega arith) _ (rw e at (l .inv .4))
 
 pub walk-spec : {M : Type 1} → statement M
 walk-spec =
@@ -99,18 +94,16 @@ walk-spec =
     μ-loop
     sub-last
     loop-holds
+    mul-value
+    add-value
+    mul-value-2
+    shared-slice-read-value
+    mul-value-3
+    add-value-2
+    mul-value-4
+    shared-slice-read-value-2
     add-mod-requires
     mul-walked
-    array-read-walked
-    mul-walked-2
-    add-walked
-    mul-walked-3
-    shared-slice-read-walked
-    mul-walked-4
-    add-walked-2
-    mul-walked-5
-    shared-slice-read-walked-2
-    mul-walked-6
     array-write-walked
     add-i
     loop-less

@@ -1,0 +1,58 @@
+-- `encoder::checks::raise` meets its contract.
+use mathlib.Core.Path.{_≡_, sym, _∙_}
+use mathlib.Core.Bool.{true, _&&_}
+use native.Mathlib.Omega.{arith}
+use lib.Dec.{eqb}
+use borrow.Author.Needs.{needs}
+use borrow.Author.Tests.{eqb-true}
+use Rattle.parity.proofs.Tests.{and-left, and-right}
+use Rattle.gtb.specs.Shape.{slopeOf}
+use Rattle.gtb.proofs.Bounds.{bounds}
+use Rattle.encoder.proofs.Upper.{raised-stacked}
+use Rattle.encoder.proofs.checks.raise.Statement.{statement}
+use Rattle.encoder.proofs.checks.raise.Tie as tie
+
+is-flat-requires : tie.Need-is-flat-requires
+is-flat-requires c κs = search needs
+
+cast-q : tie.Need-cast-q
+cast-q c = search needs
+
+stack-requires : tie.Need-stack-requires
+stack-requires c κs =
+    let st = c .before .before .before .before .before in
+    let b = bounds _ (st .pre .0) in
+    (omega arith, b .q31, st .pre .1)
+
+same-length : tie.Need-same-length
+same-length c = search needs
+
+returns : tie.Need-returns
+returns c =
+    let st = c .before .before .before .before .before .before .before .before in
+    let s = st .args .shape in
+    let flat : (eqb (s .n) 2 && eqb (slopeOf s 1) 0) ≡ true = sym (c .before .before .before .before .before .before .is-flat .ensures) ∙ c .before .before .before .before .before .if1 .taken in
+    raised-stacked _ (st .pre .0) _ _ (eqb-true _ _ (and-left (eqb (s .n) 2) (eqb (slopeOf s 1) 0) flat))
+    (eqb-true _ _ (and-right (eqb (s .n) 2) (eqb (slopeOf s 1) 0) flat)) (c .before .before .stack .ensures)
+
+copy-checks-requires : tie.Need-copy-checks-requires
+copy-checks-requires c κs = search needs
+
+same-length-2 : tie.Need-same-length-2
+same-length-2 c = search needs
+
+returns-2 : tie.Need-returns-2
+returns-2 c = c .before .before .copy-checks .ensures
+
+pub raise-spec : {M : Type 1} → statement M
+raise-spec =
+    tie.close
+    (tie.spec
+    is-flat-requires
+    cast-q
+    stack-requires
+    same-length
+    returns
+    copy-checks-requires
+    same-length-2
+    returns-2)
