@@ -1,0 +1,3 @@
+pub mod Choices
+pub mod Counted
+pub mod Texts
