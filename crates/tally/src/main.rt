@@ -49,12 +49,12 @@ struct Got {
     failed: bool,
 }
 
-// Reads a block; `left` is what the limit leaves.
-fn read_block(fd: i32, block: &mut [u8], left: usize) -> Got
+// Reads a block, unless the tally has ended; `left` is what the limit leaves.
+fn read_block(fd: i32, block: &mut [u8], left: usize, ended: bool) -> Got
     requires { ⌜ length (now block) ≡ 16384 ⌝ }
     ensures { λ r. ⌜ Block left (now (block .exit)) (r .count) ⌝ }
 {
-    if left == 0 {
+    if ended || left == 0 {
         return Got {
             count: 0,
             failed: false,
@@ -82,7 +82,7 @@ fn run(fd: i32, name: &[u8]) {
     let mut scratch = scratch_buffer();
     let mut out = output_buffer();
     let mut left = capture::limit();
-    let mut got = read_block(fd, &mut block, left);
+    let mut got = read_block(fd, &mut block, left, false);
     if got.failed {
         complain(name);
         return;
@@ -104,10 +104,7 @@ fn run(fd: i32, name: &[u8]) {
         let pages = reader.tally.session.pages;
         let lowest = reader.tally.session.lowest;
         seen = watch::look(seen, &out[..reader.at], left, pages, lowest);
-        if capture::has_ended(reader) {
-            break;
-        }
-        got = read_block(fd, &mut block, left);
+        got = read_block(fd, &mut block, left, capture::has_ended(reader));
         if got.failed {
             watch::clear(seen);
             complain(name);
