@@ -4,35 +4,25 @@ use Rattle.command.proofs.Counted.{letter-taken, letter-again, letter-r
 use borrow.Author.Needs.{needs}
 use Rattle.command.proofs.by_letter.Statement.{statement}
 use Rattle.command.proofs.by_letter.Tie as tie
-use Rattle.command.proofs.by_letter.Reads as reads
-use Rattle.command.proofs.by_letter.Lts as lts
-use Rattle.command.proofs.one_more.Reads as one-more-reads
 
--- src/lib.rt:108:20
 one-more-requires : tie.Need-one-more-requires
 one-more-requires c κs = search needs
 
--- src/lib.rt:107:9
 returns : tie.Need-returns
 returns c = rw (letter-taken _ _ (c .before .if1 .taken), c .one-more .ensures)
 
--- src/lib.rt:116:20
 one-more-requires-2 : tie.Need-one-more-requires-2
 one-more-requires-2 c κs = search needs
 
--- src/lib.rt:114:9
 returns-2 : tie.Need-returns-2
 returns-2 c = rw (letter-again _ _ (c .before .before .if1 .left) (c .before .if2 .taken), c .one-more2 .ensures)
 
--- src/lib.rt:124:22
 one-more-requires-3 : tie.Need-one-more-requires-3
 one-more-requires-3 c κs = search needs
 
--- src/lib.rt:121:9
 returns-3 : tie.Need-returns-3
 returns-3 c = rw (letter-refused _ _ (c .before .before .before .if1 .left) (c .before .before .if2 .left) (c .before .if3 .taken), c .one-more3 .ensures)
 
--- src/lib.rt:100:1
 returns-4 : tie.Need-returns-4
 returns-4 c = sym (letter-other _ _ (c .before .before .if1 .left) (c .before .if2 .left) (c .if3 .left))
 

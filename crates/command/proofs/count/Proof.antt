@@ -7,9 +7,6 @@ use Rattle.command.proofs.Counted.{counted-on, counted-all}
 use borrow.Author.Needs.{needs}
 use Rattle.command.proofs.count.Statement.{statement}
 use Rattle.command.proofs.count.Tie as tie
-use Rattle.command.proofs.count.Reads as reads
-use Rattle.command.proofs.count.Lts as lts
-use Rattle.command.proofs.step.Reads as step-reads
 
 abbrev Inv-loop : tie.InvT-loop
 Inv-loop text counts₀ first₀ i₀ i-end counts first i =
@@ -18,33 +15,26 @@ Inv-loop text counts₀ first₀ i₀ i-end counts first i =
 abbrev μ-loop : tie.MeasureT-loop
 μ-loop text counts₀ first₀ i₀ i-end counts first i = length text - i
 
--- src/lib.rt:146:5
 loop-holds : tie.Need-loop-holds Inv-loop μ-loop
 loop-holds c = search needs
 
--- src/lib.rt:147:20
 shared-slice-read-byte : tie.Need-shared-slice-read-byte Inv-loop μ-loop
 shared-slice-read-byte c = search needs
 
--- src/lib.rt:148:9
 step-requires : tie.Need-step-requires Inv-loop μ-loop
 step-requires c κs = search needs
 
--- src/lib.rt:146:9
 add-i : tie.Need-add-i Inv-loop μ-loop
 add-i c = search needs
 
--- src/lib.rt:146:5
 loop-less : tie.Need-loop-less Inv-loop μ-loop
 loop-less c = search needs
 
--- src/lib.rt:146:5
 loop-again : tie.Need-loop-again Inv-loop μ-loop
 loop-again c =
     let at = c .before .before .before .loop in
     (search needs, rw (c .step .ensures) (sym (counted-on (at .first) (at .counts) _ (at .i) (c .before .before .loop-test .taken)) ∙ at .inv .1))
 
--- src/lib.rt:141:1
 returns : tie.Need-returns Inv-loop μ-loop
 returns c = sym (counted-all (c .before .loop .first) (c .before .loop .counts) _ (c .before .loop .i) (c .loop-test .left)) ∙ c .before .loop .inv .1
 

@@ -5,59 +5,43 @@ use Rattle.command.proofs.Choices.{means-standard, means-help, means-sh
 use borrow.Author.Needs.{needs}
 use Rattle.command.proofs.meaning.Statement.{statement}
 use Rattle.command.proofs.meaning.Tie as tie
-use Rattle.command.proofs.meaning.Reads as reads
-use Rattle.command.proofs.meaning.Lts as lts
-use Rattle.check.proofs.same.Reads as same-reads
 
--- src/lib.rt:37:30
 slice-aggregate-same : tie.Need-slice-aggregate-same
 slice-aggregate-same c = search needs
 
--- src/lib.rt:37:8
 same-requires : tie.Need-same-requires
 same-requires c κs = search needs
 
--- src/lib.rt:38:9
 returns : tie.Need-returns
 returns c = sym (means-standard _ (sym (tested-same _ _ _ (c .before .same .ensures)) ∙ c .if1 .taken))
 
--- src/lib.rt:40:30
 slice-aggregate-same-2 : tie.Need-slice-aggregate-same-2
 slice-aggregate-same-2 c = search needs
 
--- src/lib.rt:40:8
 same-requires-2 : tie.Need-same-requires-2
 same-requires-2 c κs = search needs
 
--- src/lib.rt:41:9
 returns-2 : tie.Need-returns-2
 returns-2 c = sym (means-help _ (sym (tested-same _ _ _ (c .before .before .before .before .same .ensures)) ∙ c .before .before .before .if1 .left) (sym (tested-same _ _ _ (c .before .same2 .ensures)) ∙ c .if2 .taken))
 
--- src/lib.rt:43:30
 slice-aggregate-same-3 : tie.Need-slice-aggregate-same-3
 slice-aggregate-same-3 c = search needs
 
--- src/lib.rt:43:8
 same-requires-3 : tie.Need-same-requires-3
 same-requires-3 c κs = search needs
 
--- src/lib.rt:44:9
 returns-3 : tie.Need-returns-3
 returns-3 c = sym (means-short _ (sym (tested-same _ _ _ (c .before .before .before .before .before .before .before .same .ensures)) ∙ c .before .before .before .before .before .before .if1 .left) (sym (tested-same _ _ _ (c .before .before .before .before .same2 .ensures)) ∙ c .before .before .before .if2 .left) (sym (tested-same _ _ _ (c .before .same3 .ensures)) ∙ c .if3 .taken))
 
--- src/lib.rt:47:9
 returns-4 : tie.Need-returns-4
 returns-4 c = sym (means-file _ (sym (tested-same _ _ _ (c .before .before .before .before .before .before .before .before .same .ensures)) ∙ c .before .before .before .before .before .before .before .if1 .left) (sym (tested-same _ _ _ (c .before .before .before .before .before .same2 .ensures)) ∙ c .before .before .before .before .if2 .left) (sym (tested-same _ _ _ (c .before .before .same3 .ensures)) ∙ c .before .if3 .left) (empty-dash (c .before .before .before .before .before .before .before .before .before .before .before .args .argument .now) (c .if4 .taken)))
 
--- src/lib.rt:49:8
 shared-slice-read-if5 : tie.Need-shared-slice-read-if5
 shared-slice-read-if5 c = search needs
 
--- src/lib.rt:50:9
 returns-5 : tie.Need-returns-5
 returns-5 c = sym (means-unknown _ (sym (tested-same _ _ _ (c .before .before .before .before .before .before .before .before .before .before .same .ensures)) ∙ c .before .before .before .before .before .before .before .before .before .if1 .left) (sym (tested-same _ _ _ (c .before .before .before .before .before .before .before .same2 .ensures)) ∙ c .before .before .before .before .before .before .if2 .left) (sym (tested-same _ _ _ (c .before .before .before .before .same3 .ensures)) ∙ c .before .before .before .if3 .left) (c .if5 .taken))
 
--- src/lib.rt:34:1
 returns-6 : tie.Need-returns-6
 returns-6 c = sym (means-file _ (sym (tested-same _ _ _ (c .before .before .before .before .before .before .before .before .before .before .same .ensures)) ∙ c .before .before .before .before .before .before .before .before .before .if1 .left) (sym (tested-same _ _ _ (c .before .before .before .before .before .before .before .same2 .ensures)) ∙ c .before .before .before .before .before .before .if2 .left) (sym (tested-same _ _ _ (c .before .before .before .before .same3 .ensures)) ∙ c .before .before .before .if3 .left) (c .if5 .left))
 

@@ -4,10 +4,7 @@ use Rattle.command.specs.Shown.{usageText}
 use borrow.Author.Needs.{needs}
 use Rattle.command.proofs.usage.Statement.{statement}
 use Rattle.command.proofs.usage.Tie as tie
-use Rattle.command.proofs.usage.Reads as reads
-use Rattle.command.proofs.usage.Lts as lts
 
--- src/lib.rt:69:1
 returns : tie.Need-returns
 unfolding usageText
 returns c = refl

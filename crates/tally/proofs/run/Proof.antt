@@ -11,24 +11,6 @@ use Rattle.tally.proofs.Buffers.{prefix, prefix-short}
 use borrow.Author.Needs.{needs}
 use Rattle.tally.proofs.run.Statement.{statement}
 use Rattle.tally.proofs.run.Tie as tie
-use Rattle.tally.proofs.run.Reads as reads
-use Rattle.tally.proofs.run.Lts as lts
-use Rattle.capture.proofs.begin.Reads as begin-reads
-use Rattle.capture.proofs.finish.Reads as finish-reads
-use Rattle.capture.proofs.has_ended.Reads as has-ended-reads
-use Rattle.capture.proofs.limit.Reads as limit-reads
-use Rattle.capture.proofs.take_block.Reads as take-block-reads
-use Rattle.io.proofs.write_all.Reads as write-all-reads
-use Rattle.lines.proofs.put_outcome_names.Reads as put-outcome-names-reads
-use Rattle.tally.proofs.buffer.Reads as buffer-reads
-use Rattle.tally.proofs.complain.Reads as complain-reads
-use Rattle.tally.proofs.output_buffer.Reads as output-buffer-reads
-use Rattle.tally.proofs.read_block.Reads as read-block-reads
-use Rattle.tally.proofs.scratch_buffer.Reads as scratch-buffer-reads
-use Rattle.tally.proofs.watch.begin.Reads as watch-begin-reads
-use Rattle.tally.proofs.watch.clear.Reads as clear-reads
-use Rattle.tally.proofs.watch.finish.Reads as watch-finish-reads
-use Rattle.tally.proofs.watch.look.Reads as look-reads
 
 abbrev Inv-loop : tie.InvT-loop
 Inv-loop fd name block₀ line₀ scratch₀ out₀ left₀ got₀ names seen₀ reader₀ block line scratch out left got seen reader =
@@ -38,212 +20,161 @@ abbrev μ-loop : tie.MeasureT-loop
 μ-loop fd name block₀ line₀ scratch₀ out₀ left₀ got₀ names seen₀ reader₀ block line scratch out left got seen reader =
     left
 
--- src/main.rt:80:21
 buffer-requires : tie.Need-buffer-requires Inv-loop μ-loop
 buffer-requires c κs = search needs
 
--- src/main.rt:81:20
 buffer-requires-2 : tie.Need-buffer-requires-2 Inv-loop μ-loop
 buffer-requires-2 c κs = search needs
 
--- src/main.rt:82:23
 scratch-buffer-requires : tie.Need-scratch-buffer-requires Inv-loop μ-loop
 scratch-buffer-requires c κs = search needs
 
--- src/main.rt:83:19
 output-buffer-requires : tie.Need-output-buffer-requires Inv-loop μ-loop
 output-buffer-requires c κs = search needs
 
--- src/main.rt:84:9
 limit-requires : tie.Need-limit-requires Inv-loop μ-loop
 limit-requires c κs = search needs
 
--- src/main.rt:85:34
 slice-aggregate-read-block : tie.Need-slice-aggregate-read-block Inv-loop μ-loop
 slice-aggregate-read-block c = search needs
 
--- src/main.rt:85:9
 read-block-requires : tie.Need-read-block-requires Inv-loop μ-loop
 read-block-requires c κs = search needs
 
--- src/main.rt:87:9
 complain-requires : tie.Need-complain-requires Inv-loop μ-loop
 complain-requires c κs = search needs
 
--- src/main.rt:88:9
 returns : tie.Need-returns Inv-loop μ-loop
 returns c = search needs
 
--- src/main.rt:90:42
 slice-aggregate-put-outcome-names : tie.Need-slice-aggregate-put-outcome-names Inv-loop μ-loop
 slice-aggregate-put-outcome-names c = search needs
 
--- src/main.rt:90:9
 put-outcome-names-requires : tie.Need-put-outcome-names-requires Inv-loop μ-loop
 put-outcome-names-requires c κs = search needs
 
--- src/main.rt:91:38
 array-share-prefix-out : tie.Need-array-share-prefix-out Inv-loop μ-loop
 array-share-prefix-out c = search needs
 
--- src/main.rt:91:38
 slice-aggregate-write-all : tie.Need-slice-aggregate-write-all Inv-loop μ-loop
 slice-aggregate-write-all c = prefix _ _ (c .before .before .put-outcome-names .ensures .room)
 
--- src/main.rt:91:9
 write-all-requires : tie.Need-write-all-requires Inv-loop μ-loop
 write-all-requires c κs = search needs
 
--- src/main.rt:92:9
 returns-2 : tie.Need-returns-2 Inv-loop μ-loop
 returns-2 c = search needs
 
--- src/main.rt:94:9
 begin-requires : tie.Need-begin-requires Inv-loop μ-loop
 begin-requires c κs = search needs
 
--- src/main.rt:95:9
 begin-requires-2 : tie.Need-begin-requires-2 Inv-loop μ-loop
 begin-requires-2 c κs = search needs
 
--- src/main.rt:96:5
 loop-holds : tie.Need-loop-holds Inv-loop μ-loop
 loop-holds c =
     (c .before .before .before .before .before .before .before .before .before .before .before .before .before .before .before .buffer2 .ensures, c .before .before .before .before .before .before .before .before .before .before .before .before .before .before .scratch-buffer .ensures, search needs, rw (c .begin2 .ensures .0) start-consistent, omega (arith, c .before .before .before .before .before .before .before .before .before .before .before .before .limit .ensures), c .before .before .before .before .before .before .before .before .before .before .read-block .ensures)
 
--- src/main.rt:98:9
 sub-left : tie.Need-sub-left Inv-loop μ-loop
 sub-left c = search needs
 
--- src/main.rt:99:46
 array-share-prefix-block : tie.Need-array-share-prefix-block Inv-loop μ-loop
 array-share-prefix-block c = search needs
 
--- src/main.rt:99:46
 slice-aggregate-take-block : tie.Need-slice-aggregate-take-block Inv-loop μ-loop
 slice-aggregate-take-block c = prefix _ _ (omega (arith, c .before .before .before .loop .inv .5 .fits, c .before .before .before .loop .inv .5 .size))
 
--- src/main.rt:99:63
 slice-aggregate-take-block-2 : tie.Need-slice-aggregate-take-block-2 Inv-loop μ-loop
 slice-aggregate-take-block-2 c = search needs
 
--- src/main.rt:99:74
 slice-aggregate-take-block-3 : tie.Need-slice-aggregate-take-block-3 Inv-loop μ-loop
 slice-aggregate-take-block-3 c = search needs
 
--- src/main.rt:99:88
 slice-aggregate-take-block-4 : tie.Need-slice-aggregate-take-block-4 Inv-loop μ-loop
 slice-aggregate-take-block-4 c = search needs
 
--- src/main.rt:99:9
 take-block-requires : tie.Need-take-block-requires Inv-loop μ-loop
 take-block-requires c κs =
     let inv = c .before .before .before .before .before .before .loop .inv in
     (inv .3, prefix-short _ _ (inv .5 .size) (inv .5 .fits), inv .0, inv .1, inv .2)
 
--- src/main.rt:100:42
 array-share-prefix-out-2 : tie.Need-array-share-prefix-out-2 Inv-loop μ-loop
 array-share-prefix-out-2 c = search needs
 
--- src/main.rt:100:42
 slice-aggregate-write-all-2 : tie.Need-slice-aggregate-write-all-2 Inv-loop μ-loop
 slice-aggregate-write-all-2 c = prefix _ _ (omega (arith, c .before .before .before .before .take-block .ensures .within, c .before .before .before .before .take-block .ensures .size))
 
--- src/main.rt:100:13
 write-all-requires-2 : tie.Need-write-all-requires-2 Inv-loop μ-loop
 write-all-requires-2 c κs = search needs
 
--- src/main.rt:101:13
 clear-requires : tie.Need-clear-requires Inv-loop μ-loop
 clear-requires c κs = search needs
 
--- src/main.rt:102:13
 returns-3 : tie.Need-returns-3 Inv-loop μ-loop
 returns-3 c = search needs
 
--- src/main.rt:106:34
 array-share-prefix-out-3 : tie.Need-array-share-prefix-out-3 Inv-loop μ-loop
 array-share-prefix-out-3 c = search needs
 
--- src/main.rt:106:34
 slice-aggregate-look : tie.Need-slice-aggregate-look Inv-loop μ-loop
 slice-aggregate-look c = prefix _ _ (omega (arith, c .before .before .before .before .before .before .before .take-block .ensures .within, c .before .before .before .before .before .before .before .take-block .ensures .size))
 
--- src/main.rt:106:9
 look-requires : tie.Need-look-requires Inv-loop μ-loop
 look-requires c κs = search needs
 
--- src/main.rt:107:30
 slice-aggregate-read-block-2 : tie.Need-slice-aggregate-read-block-2 Inv-loop μ-loop
 slice-aggregate-read-block-2 c = sym (c .before .before .before .before .before .before .before .before .before .before .before .before .before .before .before .before .loop .inv .5 .size)
 
--- src/main.rt:107:48
 has-ended-requires : tie.Need-has-ended-requires Inv-loop μ-loop
 has-ended-requires c κs = search needs
 
--- src/main.rt:107:9
 read-block-requires-2 : tie.Need-read-block-requires-2 Inv-loop μ-loop
 read-block-requires-2 c κs = c .before .before .before .before .before .before .before .before .before .before .before .before .before .before .before .before .before .loop .inv .5 .size
 
--- src/main.rt:109:13
 clear-requires-2 : tie.Need-clear-requires-2 Inv-loop μ-loop
 clear-requires-2 c κs = search needs
 
--- src/main.rt:110:13
 complain-requires-2 : tie.Need-complain-requires-2 Inv-loop μ-loop
 complain-requires-2 c κs = search needs
 
--- src/main.rt:111:13
 returns-4 : tie.Need-returns-4 Inv-loop μ-loop
 returns-4 c = search needs
 
--- src/main.rt:96:5
 loop-less : tie.Need-loop-less Inv-loop μ-loop
 loop-less c = omega (arith, c .before .before .before .before .before .before .before .before .before .before .before .before .before .before .before .before .before .before .if3 .taken, c .before .before .before .before .before .before .before .before .before .before .before .before .before .before .before .before .before .before .before .before .loop .inv .5 .allowed)
 
--- src/main.rt:96:5
 loop-again : tie.Need-loop-again Inv-loop μ-loop
 loop-again c =
     let taken = c .before .before .before .before .before .before .before .before .before .before .before .before .before .take-block .ensures in
     (taken .line, taken .room, taken .size, taken .figures, omega (arith, c .before .before .before .before .before .before .before .before .before .before .before .before .before .before .before .before .before .before .before .before .loop .inv .4), c .before .before .read-block2 .ensures)
 
--- src/main.rt:114:39
 slice-aggregate-finish : tie.Need-slice-aggregate-finish Inv-loop μ-loop
 slice-aggregate-finish c = sym (c .before .before .before .loop .inv .2)
 
--- src/main.rt:114:9
 finish-requires : tie.Need-finish-requires Inv-loop μ-loop
 finish-requires c κs = c .before .before .before .loop .inv .2
 
--- src/main.rt:115:37
 array-share-prefix-out-4 : tie.Need-array-share-prefix-out-4 Inv-loop μ-loop
 array-share-prefix-out-4 c = search needs
 
--- src/main.rt:115:37
 slice-aggregate-write-all-3 : tie.Need-slice-aggregate-write-all-3 Inv-loop μ-loop
 slice-aggregate-write-all-3 c = prefix _ _ (c .before .before .finish .ensures .within)
 
--- src/main.rt:115:8
 write-all-requires-3 : tie.Need-write-all-requires-3 Inv-loop μ-loop
 write-all-requires-3 c κs = search needs
 
--- src/main.rt:116:29
 array-share-prefix-out-5 : tie.Need-array-share-prefix-out-5 Inv-loop μ-loop
 array-share-prefix-out-5 c = search needs
 
--- src/main.rt:116:29
 slice-aggregate-finish-2 : tie.Need-slice-aggregate-finish-2 Inv-loop μ-loop
 slice-aggregate-finish-2 c = prefix _ _ (c .before .before .before .before .before .finish .ensures .within)
 
--- src/main.rt:116:9
 finish-requires-2 : tie.Need-finish-requires-2 Inv-loop μ-loop
 finish-requires-2 c κs = search needs
 
--- src/main.rt:79:1
 returns-5 : tie.Need-returns-5 Inv-loop μ-loop
 returns-5 c = search needs
 
--- src/main.rt:79:1
 returns-6 : tie.Need-returns-6 Inv-loop μ-loop
 returns-6 c = search needs
 

@@ -5,24 +5,16 @@ use Rattle.command.proofs.Texts.{put-numbered}
 use borrow.Author.Needs.{needs}
 use Rattle.command.proofs.shown.put_numbered.Statement.{statement}
 use Rattle.command.proofs.shown.put_numbered.Tie as tie
-use Rattle.command.proofs.shown.put_numbered.Reads as reads
-use Rattle.command.proofs.shown.put_numbered.Lts as lts
-use Rattle.lines.proofs.put_number.Reads as put-number-reads
-use Rattle.lines.proofs.put_text.Reads as put-text-reads
 
--- src/shown.rt:13:9
 put-number-requires : tie.Need-put-number-requires
 put-number-requires c κs = search needs
 
--- src/shown.rt:14:5
 put-text-requires : tie.Need-put-text-requires
 put-text-requires c κs = omega (arith, at-most-ten (c .before .before .before .before .before .before .before .args .value) (omega arith))
 
--- src/shown.rt:9:1
 same-length : tie.Need-same-length
 same-length c = search needs
 
--- src/shown.rt:9:1
 returns : tie.Need-returns
 returns c = put-numbered (c .before .before .before .before .before .before .before .before .before .before .args .value) (omega arith) (c .before .before .before .before .before .before .before .before .before .before .pre) (c .before .before .before .before .before .before .put-number .ensures) (c .before .before .put-text .ensures)
 

@@ -5,39 +5,28 @@ use Rattle.command.proofs.Texts.{numbered-length, put-summary}
 use borrow.Author.Needs.{needs}
 use Rattle.command.proofs.shown.put_summary.Statement.{statement}
 use Rattle.command.proofs.shown.put_summary.Tie as tie
-use Rattle.command.proofs.shown.put_summary.Reads as reads
-use Rattle.command.proofs.shown.put_summary.Lts as lts
-use Rattle.command.proofs.shown.put_numbered.Reads as put-numbered-reads
 
--- src/shown.rt:43:41
 slice-aggregate-put-numbered : tie.Need-slice-aggregate-put-numbered
 slice-aggregate-put-numbered c = search needs
 
--- src/shown.rt:43:9
 put-numbered-requires : tie.Need-put-numbered-requires
 put-numbered-requires c κs = search needs
 
--- src/shown.rt:44:41
 slice-aggregate-put-numbered-2 : tie.Need-slice-aggregate-put-numbered-2
 slice-aggregate-put-numbered-2 c = search needs
 
--- src/shown.rt:44:9
 put-numbered-requires-2 : tie.Need-put-numbered-requires-2
 put-numbered-requires-2 c κs = omega (arith, numbered-length (c .before .before .before .before .before .before .before .before .args .taken) (ascii " taken, ") (omega arith))
 
--- src/shown.rt:45:35
 slice-aggregate-put-numbered-3 : tie.Need-slice-aggregate-put-numbered-3
 slice-aggregate-put-numbered-3 c = search needs
 
--- src/shown.rt:45:5
 put-numbered-requires-3 : tie.Need-put-numbered-requires-3
 put-numbered-requires-3 c κs = omega (arith, numbered-length (c .before .before .before .before .before .before .before .before .before .before .before .before .before .args .taken) (ascii " taken, ") (omega arith), numbered-length (c .before .before .before .before .before .before .before .before .before .before .before .before .before .args .again) (ascii " again, ") (omega arith))
 
--- src/shown.rt:39:1
 same-length : tie.Need-same-length
 same-length c = search needs
 
--- src/shown.rt:39:1
 returns : tie.Need-returns
 returns c =
     let start = c .before .before .before .before .before .before .before .before .before .before .before .before .before .before .before .before in
