@@ -49,12 +49,12 @@ struct Got {
     failed: bool,
 }
 
-// Reads a block, unless the tally has ended; `left` is what the limit leaves.
-fn read_block(fd: i32, block: &mut [u8], left: usize, ended: bool) -> Got
+// Reads a block, unless there is a reason to stop; `left` is what the limit leaves.
+fn read_block(fd: i32, block: &mut [u8], left: usize, stop: bool) -> Got
     requires { ⌜ length (now block) ≡ 16384 ⌝ }
     ensures { λ r. ⌜ Block left (now (block .exit)) (r .count) ⌝ }
 {
-    if ended || left == 0 {
+    if stop || left == 0 {
         return Got {
             count: 0,
             failed: false,
@@ -75,8 +75,8 @@ fn read_block(fd: i32, block: &mut [u8], left: usize, ended: bool) -> Got
     }
 }
 
-// The first block is read before anything is written, so that an input that can't be read leaves no output. After a failed read or write there is no second table, so that it is not taken for the tally of the whole input.
-fn run(fd: i32, name: &[u8]) {
+// Answers whether the input could be read. The first block is read before anything is written, so that one that can't be leaves no output. After a failed read or write there is no second table, so that it is not taken for the tally of the whole input.
+fn run(fd: i32) -> bool {
     let mut block = buffer();
     let mut line = buffer();
     let mut scratch = scratch_buffer();
@@ -84,36 +84,38 @@ fn run(fd: i32, name: &[u8]) {
     let mut left = capture::limit();
     let mut got = read_block(fd, &mut block, left, false);
     if got.failed {
-        complain(name);
-        return;
+        return false;
     }
     let names = lines::put_outcome_names(&mut out, 0);
-    if !io::write_all(STDOUT_FILENO, &out[..names]) {
-        return;
-    }
+    let mut written = io::write_all(STDOUT_FILENO, &out[..names]);
     let mut seen = watch::begin();
     let mut reader = capture::begin();
-    while got.count > 0 {
+    while written && got.count > 0 {
         let count = got.count;
         left -= count;
         reader = capture::take_block(reader, &block[..count], &mut line, &mut scratch, &mut out);
-        if !io::write_all(STDOUT_FILENO, &out[..reader.at]) {
-            watch::clear(seen);
-            return;
-        }
+        let at = reader.at;
+        written = io::write_all(STDOUT_FILENO, &out[..at]);
         let pages = reader.tally.session.pages;
         let lowest = reader.tally.session.lowest;
-        seen = watch::look(seen, &out[..reader.at], left, pages, lowest);
-        got = read_block(fd, &mut block, left, capture::has_ended(reader));
-        if got.failed {
-            watch::clear(seen);
-            complain(name);
-            return;
-        }
+        seen = watch::look(seen, &out[..at], left, pages, lowest);
+        let stop = !written || capture::has_ended(reader);
+        got = read_block(fd, &mut block, left, stop);
+    }
+    if got.failed || !written {
+        watch::clear(seen);
+        return !got.failed;
     }
     let end = capture::finish(reader, &mut out);
     if io::write_all(STDOUT_FILENO, &out[..end]) {
         watch::finish(seen, &out[..end]);
+    }
+    true
+}
+
+fn run_named(fd: i32, name: &[u8]) {
+    if !run(fd) {
+        complain(name);
     }
 }
 
@@ -123,7 +125,7 @@ fn run_file(name: &[u8]) {
         complain(name);
         return;
     }
-    run(fd, name);
+    run_named(fd, name);
 }
 
 // The second argument is one too many.
@@ -143,7 +145,7 @@ fn main() {
     let whole = os::errno() == 0;
     let choice = command::choose(os::arg_count(), &space[..size]);
     match choice {
-        Choice::Standard => run(STDIN_FILENO, b"standard input"),
+        Choice::Standard => run_named(STDIN_FILENO, b"standard input"),
         Choice::File => {
             if whole {
                 run_file(&space[..size]);
