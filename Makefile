@@ -1,14 +1,14 @@
 # make: the program and the static library for C. make run: the tally of the sample capture. make test: the whole gate.
 PREFIX ?= /usr/local
 
-.PHONY: all run check test bench install clean
+.PHONY: all run check test bench install install-built uninstall clean
 
 all:
 	rt check tally host
 	rt staticlib host
 
 run: target/bin/tally
-	target/bin/tally < samples/capture.txt
+	target/bin/tally samples/capture.txt
 
 check:
 	rt check
@@ -27,10 +27,26 @@ target/bin/tally:
 target/staticlib/lib%.a:
 	rt staticlib $*
 
+# PREFIX is where the files will be used, DESTDIR a folder to lay them out in before that.
+place = $(DESTDIR)$(PREFIX)
+
 install: all
-	install -D -m 755 target/bin/tally $(PREFIX)/bin/tally
-	install -D -m 644 include/shaftglimmer.h $(PREFIX)/include/shaftglimmer.h
-	install -D -m 644 target/staticlib/libhost.a $(PREFIX)/lib/libshaftglimmer.a
+	$(MAKE) --no-print-directory install-built
+
+# What has been built already.
+install-built:
+	install -D -m 755 target/bin/tally $(place)/bin/tally
+	install -D -m 644 include/shaftglimmer.h $(place)/include/shaftglimmer.h
+	install -D -m 644 target/staticlib/libhost.a $(place)/lib/libshaftglimmer.a
+	install -D -m 644 docs/man/tally.1 $(place)/share/man/man1/tally.1
+	install -D -m 644 docs/man/shaftglimmer.3 $(place)/share/man/man3/shaftglimmer.3
+	install -d $(place)/lib/pkgconfig
+	sed 's|@PREFIX@|$(PREFIX)|' include/shaftglimmer.pc.in > $(place)/lib/pkgconfig/shaftglimmer.pc
+	chmod 644 $(place)/lib/pkgconfig/shaftglimmer.pc
+
+uninstall:
+	rm -f $(place)/bin/tally $(place)/include/shaftglimmer.h $(place)/lib/libshaftglimmer.a
+	rm -f $(place)/share/man/man1/tally.1 $(place)/share/man/man3/shaftglimmer.3 $(place)/lib/pkgconfig/shaftglimmer.pc
 
 clean:
 	rm -rf target tests/target

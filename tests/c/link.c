@@ -1,10 +1,10 @@
 /*
  * Links the host pair from C and calls it on the rules' values. From the repository's root:
  *
- * cc -std=c99 -Wall -Wextra tests/c/link.c target/staticlib/libhost.a -o tests/target/link
+ * cc -std=c99 -Wall -Wextra -Iinclude tests/c/link.c target/staticlib/libhost.a -o tests/target/link
  * tests/target/link
  */
-#include "../../include/shaftglimmer.h"
+#include <shaftglimmer.h>
 
 #include <inttypes.h>
 #include <stdio.h>

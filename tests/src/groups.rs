@@ -14,6 +14,7 @@ pub mod idle;
 pub mod looked;
 #[cfg(not(feature = "reference-only"))]
 pub mod pages;
+pub mod person;
 pub mod proposals;
 pub mod reference;
 #[cfg(not(feature = "reference-only"))]

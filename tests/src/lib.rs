@@ -16,3 +16,4 @@ pub mod reference;
 pub mod report;
 pub mod rivals;
 pub mod shrink;
+pub mod terminal;

@@ -6,8 +6,8 @@
 
 use shaftglimmer_tests::call::Call;
 use shaftglimmer_tests::groups::{
-    batches, coverage, double, energy, erasures, figures, idle, looked, proposals, reference, slopes, stream, text,
-    vectors, vote, ways,
+    batches, coverage, double, energy, erasures, figures, idle, looked, person, proposals, reference, slopes, stream,
+    text, vectors, vote, ways,
 };
 use shaftglimmer_tests::process::Program;
 use shaftglimmer_tests::report::Report;
@@ -84,6 +84,7 @@ fn program(report: &mut Report) {
         Some(program) => {
             report.run(text::group(&program));
             report.run(stream::group(&program));
+            report.run(person::group(&program));
         }
         None if may_skip => report.skip("program", "TALLY is not set"),
         None => report.fail("program", "TALLY is not set"),

@@ -1,9 +1,11 @@
 //! Running a tally program on an input.
 
+use crate::terminal::Terminal;
 use std::ffi::OsStr;
-use std::fs::{self, File};
+use std::fs::{self, File, Permissions};
 use std::io::Write;
-use std::path::PathBuf;
+use std::os::unix::fs::PermissionsExt;
+use std::path::{Path, PathBuf};
 use std::process::{Child, Command, Stdio};
 use std::sync::atomic::{AtomicUsize, Ordering};
 use std::time::Duration;
@@ -11,6 +13,12 @@ use std::{env, process, thread};
 
 #[derive(Clone)]
 pub struct Program(PathBuf);
+
+/// What a program wrote to standard output and to standard error.
+pub struct Written {
+    pub output: Vec<u8>,
+    pub error: Vec<u8>,
+}
 
 impl Program {
     pub fn new(path: impl AsRef<OsStr>) -> Program {
@@ -67,6 +75,88 @@ impl Program {
         }
     }
 
+    /// With arguments, and an input through a pipe: all that the program writes to its outputs. It must end well.
+    pub fn run_arguments(&self, arguments: &[&OsStr], input: &[u8]) -> Result<Written, String> {
+        self.run_command(arguments, input, |_| {})
+    }
+
+    /// The same, with a last word on how it is started.
+    pub fn run_command(
+        &self,
+        arguments: &[&OsStr],
+        input: &[u8],
+        prepare: impl FnOnce(&mut Command),
+    ) -> Result<Written, String> {
+        let mut command = Command::new(&self.0);
+        command.args(arguments).stdin(Stdio::piped()).stdout(Stdio::piped()).stderr(Stdio::piped());
+        prepare(&mut command);
+        let mut child = command.spawn().map_err(|error| format!("{}: {error}", self.0.display()))?;
+        let pipe = child.stdin.take();
+        thread::scope(|scope| {
+            // A program that is refused its arguments reads nothing.
+            scope.spawn(move || pipe.map(|mut pipe| pipe.write_all(input)));
+            let output = child.wait_with_output().map_err(|error| error.to_string())?;
+            match output.status.success() {
+                true => Ok(Written { output: output.stdout, error: output.stderr }),
+                false => Err(output.status.to_string()),
+            }
+        })
+    }
+
+    /// In pieces, to terminals: what standard output and standard error get. `output` says whether standard output is
+    /// a terminal, `error` whether standard error is; one that is none is a pipe.
+    pub fn run_watched<'a>(
+        &self,
+        pieces: impl Iterator<Item = &'a [u8]> + Send,
+        pause: Duration,
+        output: bool,
+        error: bool,
+    ) -> Result<Written, String> {
+        let mut command = Command::new(&self.0);
+        command.stdin(Stdio::piped()).stdout(Stdio::piped()).stderr(Stdio::piped());
+        let terminals = [output, error].map(|wanted| wanted.then(Terminal::open));
+        let [output, error] = terminals.map(Option::transpose);
+        let (output, error) = (output?, error?);
+        if let Some(terminal) = &output {
+            command.stdout(terminal.program_side()?);
+        }
+        if let Some(terminal) = &error {
+            command.stderr(terminal.program_side()?);
+        }
+        let mut child = command.spawn().map_err(|error| format!("{}: {error}", self.0.display()))?;
+        // It holds the program's sides open.
+        drop(command);
+        let mut pipe = child.stdin.take().ok_or("no pipe")?;
+        thread::scope(|scope| {
+            scope.spawn(move || {
+                for piece in pieces {
+                    if pipe.write_all(piece).is_err() {
+                        break;
+                    }
+                    thread::sleep(pause);
+                }
+            });
+            let output = output.map(|terminal| scope.spawn(move || terminal.read_all()));
+            let error = error.map(|terminal| scope.spawn(move || terminal.read_all()));
+            let written = child.wait_with_output().map_err(|error| error.to_string())?;
+            let shown = |reader: Option<thread::ScopedJoinHandle<Result<Vec<u8>, String>>>, piped: Vec<u8>| match reader
+            {
+                Some(reader) => reader.join().map_err(|_| "the terminal's reader panicked".to_string())?,
+                None => Ok(piped),
+            };
+            Ok(Written { output: shown(output, written.stdout)?, error: shown(error, written.stderr)? })
+        })
+    }
+
+    /// A copy that every user may start.
+    pub fn copied(&self) -> Result<(TemporaryFile, Program), String> {
+        let content = fs::read(&self.0).map_err(|error| format!("{}: {error}", self.0.display()))?;
+        let file = TemporaryFile::new(&content)?;
+        file.set_mode(0o755)?;
+        let program = Program(file.0.clone());
+        Ok((file, program))
+    }
+
     fn start(&self, input: Stdio) -> Result<Child, String> {
         let mut command = Command::new(&self.0);
         let started = command.stdin(input).stdout(Stdio::piped()).stderr(Stdio::piped()).spawn();
@@ -94,6 +184,15 @@ impl TemporaryFile {
         let path = env::temp_dir().join(format!("shaftglimmer-{}-{number}", process::id()));
         fs::write(&path, content).map_err(|error| format!("{}: {error}", path.display()))?;
         Ok(TemporaryFile(path))
+    }
+
+    pub fn path(&self) -> &Path {
+        &self.0
+    }
+
+    pub fn set_mode(&self, mode: u32) -> Result<(), String> {
+        let set = fs::set_permissions(&self.0, Permissions::from_mode(mode));
+        set.map_err(|error| format!("{}: {error}", self.0.display()))
     }
 
     pub fn open(&self) -> Result<File, String> {

@@ -144,7 +144,7 @@ fn put_digits(out: &mut [u8], at: usize, value: u32) -> usize
     put_byte(out, last, b'0' + (value % 10) as u8)
 }
 
-fn put_number(out: &mut [u8], at: usize, value: u32) -> usize
+pub fn put_number(out: &mut [u8], at: usize, value: u32) -> usize
     requires { ⌜ at + 10 ≤ length (now out) ⌝ }
     ensures { λ r. ⌜ Put (now (out .entry)) at (decimal value) (now (out .exit)) r ⌝ }
 {

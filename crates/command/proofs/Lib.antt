@@ -1,0 +1,4 @@
+pub mod Choices
+pub mod Counted
+pub mod Texts
+pub mod Lines
