@@ -1,0 +1,49 @@
+-- `capture::glance::glance_word` meets its contract: the values that are stored are looked at.
+use mathlib.Core.Logic.{⊎-elim}
+use Rattle.lines.proofs.Contents.{content-none}
+use Rattle.capture.proofs.Judges.{Cut, cut-few, cut-many}
+use Rattle.capture.proofs.Glances.{word-unread, word-glanced}
+use borrow.Author.Needs.{needs}
+use Rattle.capture.proofs.glance.glance_word.Statement.{statement}
+use Rattle.capture.proofs.glance.glance_word.Tie as tie
+
+parse-requires : tie.Need-parse-requires
+parse-requires c κs = search needs
+
+enum-known-count : tie.Need-enum-known-count
+enum-known-count c = search needs
+
+enum-told : tie.Need-enum-told
+enum-told c = search needs
+
+returns : tie.Need-returns
+returns c =
+    let parsed = c .before .before .parse .ensures in
+    word-unread (content-none _ (parsed .refused (c .enum-told .given .1))) (parsed .size) (c .before .before .before .before .before .before .pre .1)
+
+look-at-requires : tie.Need-look-at-requires
+look-at-requires c κs =
+    let cut : Cut _ _ = ⊎-elim (λ x. cut-few (x .0 .taken) (x .1)) (λ x. cut-many (x .0 .left) (x .1)) (c .before .before .if1 .came) in
+    (c .before .before .before .before .before .before .parse .ensures .size, cut .most, c .before .before .before .before .before .before .before .before .before .before .pre .1)
+
+same-length : tie.Need-same-length
+same-length c = search needs
+
+returns-2 : tie.Need-returns-2
+returns-2 c =
+    let parsed = c .before .before .before .before .before .before .before .before .before .parse .ensures in
+    let look = c .before .before .look-at .ensures in
+    let cut : Cut _ _ = ⊎-elim (λ x. cut-few (x .0 .taken) (x .1)) (λ x. cut-many (x .0 .left) (x .1)) (c .before .before .before .before .before .if1 .came) in
+    word-glanced (parsed .accepted _ (c .before .before .before .before .before .before .before .count .given .1)) (parsed .size) cut (look .0) (look .1) (look .2)
+
+pub glance-word-spec : {M : Type 1} → statement M
+glance-word-spec =
+    tie.close
+    (tie.spec
+    parse-requires
+    enum-known-count
+    enum-told
+    returns
+    look-at-requires
+    same-length
+    returns-2)
