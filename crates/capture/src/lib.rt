@@ -142,7 +142,7 @@ pub fn take_block(
         let seen = glance(
             phase,
             shape,
-            &session.taken,
+            &reader.tally.session.taken,
             line,
             reader.held,
             &mut values,
