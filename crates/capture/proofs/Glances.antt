@@ -23,7 +23,7 @@ use Rattle.correction.proofs.Errors.{mended-size}
 use Rattle.decoder.specs.Decode.{decodeOf, restored, errorAt, Decoding}
 use Rattle.page.specs.Page.{pageOf}
 use Rattle.decoder.proofs.Meaning.{corrected-not}
-use Rattle.lines.specs.Content.{Unreadable, contentOf}
+use Rattle.lines.specs.Content.{contentOf}
 use Rattle.lines.specs.Parse.{Stored}
 use Rattle.session.specs.declared.Session.{Session}
 use Rattle.session.specs.declared.Outcome.{Outcome}
@@ -104,14 +104,6 @@ opened-clean s word =
     (either (lawful s))
 
 -- ---- a word line
-pub word-unread : {s : Shape} {taken : List Bool} {line values′ symbols′ : List ℕ} → contentOf line ≡ Unreadable → length values′ ≡ 1024 → length symbols′ ≡ 900
-    → WordGlanced s taken line values′ symbols′ (Known (Refused Refusal.Syntax))
-word-unread h v y = record {
-  known = λ a is σ shape taken. let same : Refused Refusal.Syntax ≡ a = cc in rw h (ap (unmoved Words σ) same);
-  values = v;
-  symbols = y;
-}
-
 pub word-glanced : {s : Shape} {taken : List Bool} {line stored values′ symbols′ : List ℕ} {count size : ℕ} {r : Foreseen} → Stored line stored count → length stored ≡ 1024 → Cut count size
     → Seen taken (openWord s (restored s (take size stored)) (decodeOf s (take size stored))) r → length values′ ≡ 1024 → length symbols′ ≡ 900
     → WordGlanced s taken line values′ symbols′ r

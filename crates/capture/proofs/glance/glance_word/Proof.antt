@@ -2,7 +2,7 @@
 use mathlib.Core.Logic.{⊎-elim}
 use Rattle.lines.proofs.Contents.{content-none}
 use Rattle.capture.proofs.Judges.{Cut, cut-few, cut-many}
-use Rattle.capture.proofs.Glances.{word-unread, word-glanced}
+use Rattle.capture.proofs.Glances.{word-glanced}
 use borrow.Author.Needs.{needs}
 use Rattle.capture.proofs.glance.glance_word.Statement.{statement}
 use Rattle.capture.proofs.glance.glance_word.Tie as tie
@@ -19,7 +19,11 @@ enum-told c = search needs
 returns : tie.Need-returns
 returns c =
     let parsed = c .before .before .parse .ensures in
-    word-unread (content-none _ (parsed .refused (c .enum-told .given .1))) (parsed .size) (c .before .before .before .before .before .before .pre .1)
+    record {
+      known = λ a h σ shape taken. rw (content-none _ (parsed .refused (c .enum-told .given .1))) (cc);
+      values = parsed .size;
+      symbols = c .before .before .before .before .before .before .pre .1;
+    }
 
 look-at-requires : tie.Need-look-at-requires
 look-at-requires c κs =
