@@ -23,9 +23,7 @@ use Rattle.correction.proofs.Errors.{mended-size}
 use Rattle.decoder.specs.Decode.{decodeOf, restored, errorAt, Decoding}
 use Rattle.page.specs.Page.{pageOf}
 use Rattle.decoder.proofs.Meaning.{corrected-not}
-use Rattle.lines.specs.Content.{contentOf}
 use Rattle.lines.specs.Parse.{Stored}
-use Rattle.session.specs.declared.Session.{Session}
 use Rattle.session.specs.declared.Outcome.{Outcome}
 use Rattle.session.specs.declared.Outcome.the-variants.{Again, Refused}
 use Rattle.session.specs.Session.{Consistent}
@@ -39,9 +37,9 @@ use Rattle.capture.specs.declared.Reader.{Reader}
 use Rattle.capture.specs.declared.Foreseen.{Foreseen}
 use Rattle.capture.specs.declared.Foreseen.the-variants.{Known, Open}
 use Rattle.capture.specs.Output.{answerText}
-use Rattle.capture.specs.Judge.{broughtBy, arrived, worded, judgedOf}
-use Rattle.capture.specs.Steps.{Appended, LineSoFar, End, Seen, unmoved, WordGlanced, Glanced, LineEnded}
-use Rattle.capture.proofs.Judges.{Cut, says, brought-cut, judged-words}
+use Rattle.capture.specs.Judge.{broughtBy, arrived, judgedOf}
+use Rattle.capture.specs.Steps.{Appended, LineSoFar, End, Cut, Seen, unmoved, WordGlanced, Glanced, LineEnded}
+use Rattle.capture.proofs.Judges.{says, brought-cut, judged-words}
 use Rattle.capture.proofs.Frames.{end-few, judged-held}
 
 -- ---- what an arrival brings

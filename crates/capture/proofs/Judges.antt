@@ -36,7 +36,7 @@ use Rattle.capture.specs.declared.Tally.{Tally}
 use Rattle.capture.specs.declared.Answer.the-variants.{Line}
 use Rattle.capture.specs.declared.Judged.{Judged}
 use Rattle.capture.specs.Judge.{lineContent, passed, fault, named, begun, shaped, worded, broughtBy, arrived, judgedIn, judgedOf}
-use Rattle.capture.specs.Steps.{Room}
+use Rattle.capture.specs.Steps.{Cut, Room}
 
 -- ---- lines by length
 pub short-content : (line : List ℕ) → length line < 16384 → lineContent line ≡ contentOf line
@@ -135,18 +135,6 @@ opened-same s xs word scratch few many room =
     (either (leb (length xs) 1024)))
     (λ (f : lawful s ≡ false). opened-unlawful s word scratch f ∙ sym (opened-unlawful s xs zeros f))
     (either (lawful s))
-
--- the word that arrives is cut at 1024 values
-pub record Cut (count size : ℕ) : Type 0 where
-  pub few : count ≤ 1024 → size ≡ count
-  pub many : 1024 < count → size ≡ 1024
-  pub most : size ≤ 1024
-
-pub cut-few : {count size : ℕ} → count < 1024 → size ≡ count → Cut count size
-cut-few l e = record { few = λ _. e; many = λ m. absurd (omega arith); most = omega arith }
-
-pub cut-many : {count size : ℕ} → 1024 ≤ count → size ≡ 1024 → Cut count size
-cut-many l e = record { few = λ m. omega arith; many = λ _. e; most = omega arith }
 
 -- what is brought is what is opened of the word so cut, with any scratch of the right length
 pub brought-cut : (σ : Session) {line stored : List ℕ} {count size : ℕ} (h : Stored line stored count) → length stored ≡ 1024 → Cut count size

@@ -52,6 +52,12 @@ pub record End (held end : ℕ) : Type 0 where
   pub short : held < 16384 → end ≡ held
   pub long : 16384 ≤ held → end ≡ 0
 
+-- how many of a line's values arrive
+pub record Cut (count size : ℕ) : Type 0 where
+  pub few : count ≤ 1024 → size ≡ count
+  pub many : 1024 < count → size ≡ 1024
+  pub most : size ≤ 1024
+
 -- a look at what an arrival brings: an outcome that leaves every session with these page marks as it is
 pub record Seen (taken : List Bool) (o : Opened) (r : Foreseen) : Type 0 where
   pub known : (a : Outcome) → r ≡ Known a → (σ : Session) → σ .taken ≡ taken → (outcomeOf σ o ≡ a) × (sessionAfter σ o ≡ σ)

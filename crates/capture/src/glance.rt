@@ -17,13 +17,20 @@ ghost use Rattle.gtb.specs.Positions.{extractOf};
 ghost use Rattle.decoder.specs.Decode.{decodeOf, restored};
 ghost use Rattle.page.specs.Page.{pageOf};
 ghost use Rattle.session.specs.Arrival.{openPage, openWord};
-ghost use Rattle.capture.specs.Steps.{Seen, Looked, WordGlanced, Glanced, End};
+ghost use Rattle.capture.specs.Steps.{End, Cut, Seen, Looked, WordGlanced, Glanced};
 
 // How much of the line so far is judged: nothing of one too long.
 pub fn line_end(held: usize) -> usize
     ensures { λ r. ⌜ End held r ⌝ }
 {
     if held < 16384 { held } else { 0 }
+}
+
+// How many of a line's values arrive. No word has 1024 values, so that of a longer line the first 1024 stand for all.
+pub fn cut(count: usize) -> usize
+    ensures { λ r. ⌜ Cut count r ⌝ }
+{
+    if count < 1024 { count } else { 1024 }
 }
 
 // The page in a word that was read: refused, or marked.
@@ -69,7 +76,7 @@ fn look(
     }
 }
 
-// The first values of a line.
+// The word in the first values of a line.
 fn look_at(
     shape: Shape,
     taken: &[bool; Session::PAGES],
@@ -83,7 +90,7 @@ fn look_at(
     look(shape, taken, &mut values[..size], symbols)
 }
 
-// A word line. Of one with more than 1024 values the first 1024 stand for all.
+// A word line.
 fn glance_word(
     shape: Shape,
     taken: &[bool; Session::PAGES],
@@ -97,7 +104,7 @@ fn glance_word(
     let Parsed::Values(count) = lines::parse(line, values) else {
         return Foreseen::Known(Outcome::Refused(Refusal::Syntax));
     };
-    let size = if count < 1024 { count } else { 1024 };
+    let size = cut(count);
     look_at(shape, taken, values, size, symbols)
 }
 

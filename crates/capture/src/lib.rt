@@ -135,6 +135,7 @@ pub fn take_block(
         if to == block.len() {
             return reader;
         }
+        // Of these copies only the phase and the shape are read, so that none is made.
         let tally = reader.tally;
         let phase = tally.phase;
         let session = tally.session;

@@ -1,7 +1,5 @@
 -- `capture::glance::glance_word` meets its contract: the values that are stored are looked at.
-use mathlib.Core.Logic.{⊎-elim}
 use Rattle.lines.proofs.Contents.{content-none}
-use Rattle.capture.proofs.Judges.{Cut, cut-few, cut-many}
 use Rattle.capture.proofs.Glances.{word-glanced}
 use borrow.Author.Needs.{needs}
 use Rattle.capture.proofs.glance.glance_word.Statement.{statement}
@@ -25,9 +23,12 @@ returns c =
       symbols = c .before .before .before .before .before .before .pre .1;
     }
 
+cut-requires : tie.Need-cut-requires
+cut-requires c κs = search needs
+
 look-at-requires : tie.Need-look-at-requires
 look-at-requires c κs =
-    let cut : Cut _ _ = ⊎-elim (λ x. cut-few (x .0 .taken) (x .1)) (λ x. cut-many (x .0 .left) (x .1)) (c .before .before .if1 .came) in
+    let cut = c .before .before .cut .ensures in
     (c .before .before .before .before .before .before .parse .ensures .size, cut .most, c .before .before .before .before .before .before .before .before .before .before .pre .1)
 
 same-length : tie.Need-same-length
@@ -37,7 +38,7 @@ returns-2 : tie.Need-returns-2
 returns-2 c =
     let parsed = c .before .before .before .before .before .before .before .before .before .parse .ensures in
     let look = c .before .before .look-at .ensures in
-    let cut : Cut _ _ = ⊎-elim (λ x. cut-few (x .0 .taken) (x .1)) (λ x. cut-many (x .0 .left) (x .1)) (c .before .before .before .before .before .if1 .came) in
+    let cut = c .before .before .before .before .before .cut .ensures in
     word-glanced (parsed .accepted _ (c .before .before .before .before .before .before .before .count .given .1)) (parsed .size) cut (look .0) (look .1) (look .2)
 
 pub glance-word-spec : {M : Type 1} → statement M
@@ -48,6 +49,7 @@ glance-word-spec =
     enum-known-count
     enum-told
     returns
+    cut-requires
     look-at-requires
     same-length
     returns-2)
