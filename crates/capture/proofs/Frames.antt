@@ -19,7 +19,7 @@ use Rattle.capture.specs.declared.Reader.{Reader}
 use Rattle.capture.specs.Output.{answerText}
 use Rattle.capture.specs.Judge.{judgedOf}
 use Rattle.capture.specs.Feed.{Fed, after, feed}
-use Rattle.capture.specs.Steps.{Appended, LineSoFar, Extended, LineEnded, BlockTaken}
+use Rattle.capture.specs.Steps.{Appended, LineSoFar, Extended, End, LineEnded, BlockTaken}
 use Rattle.capture.proofs.Figures.{judged-consistent}
 use Rattle.capture.proofs.Texts.{put-appended}
 use Rattle.capture.proofs.Judges.{long-judged}
@@ -62,17 +62,11 @@ module _ {buffer : List ℕ} {held : ℕ} (bytes : List ℕ) (full : length buff
       }
 
 -- ---- the line is judged: all of it, or nothing where it is too long
-pub record End (held end : ℕ) : Type 0 where
-  pub short : held < 16384 → end ≡ held
-  pub long : 16384 ≤ held → end ≡ 0
+pub end-few : {held end : ℕ} → End held end → end < 16384
+end-few {held} {end} e =
+    ⊎-elim (λ (b : ltb held 16384 ≡ true). let l = ltb-true held 16384 b in omega (arith, e .short l)) (λ (b : ltb held 16384 ≡ false). omega (arith, e .long (ltb-false held 16384 b))) (either (ltb held 16384))
 
-pub end-short : {held end : ℕ} → held < 16384 → end ≡ held → End held end
-end-short l e = record { short = λ _. e; long = λ m. absurd (omega arith) }
-
-pub end-long : {held end : ℕ} → 16384 ≤ held → end ≡ 0 → End held end
-end-long l e = record { short = λ m. absurd (omega arith); long = λ _. e }
-
-judged-held : (t : Tally) {buffer line : List ℕ} {held end : ℕ} → End held end → LineSoFar buffer held line → judgedOf t (take end buffer) ≡ judgedOf t line
+pub judged-held : (t : Tally) {buffer line : List ℕ} {held end : ℕ} → End held end → LineSoFar buffer held line → judgedOf t (take end buffer) ≡ judgedOf t line
 judged-held t {buffer} {line} {held} {end} e h =
     ⊎-elim
     (λ (b : ltb held 16384 ≡ true).

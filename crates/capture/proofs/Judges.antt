@@ -36,7 +36,7 @@ use Rattle.capture.specs.declared.Tally.{Tally}
 use Rattle.capture.specs.declared.Answer.the-variants.{Line}
 use Rattle.capture.specs.declared.Judged.{Judged}
 use Rattle.capture.specs.Judge.{lineContent, passed, fault, named, begun, shaped, worded, broughtBy, arrived, judgedIn, judgedOf}
-use Rattle.capture.specs.Steps.{Room}
+use Rattle.capture.specs.Steps.{Cut, Room}
 
 -- ---- lines by length
 pub short-content : (line : List ℕ) → length line < 16384 → lineContent line ≡ contentOf line
@@ -84,7 +84,7 @@ pub shaped-none : (σ : Session) (c : Content) {r : Judged} → c ≡ Unreadable
 shaped-none σ c h e = rw h e
 
 module _ (σ : Session) {line stored : List ℕ} {count : ℕ} (h : Stored line stored count) where
-  says : contentOf line ≡ Spelled (h .values)
+  pub says : contentOf line ≡ Spelled (h .values)
   says = content-spelled line (h .values) (h .spelled)
 
   pub shaped-other : {r : Judged} → (count ≡ 3 → ⊥) → r ≡ fault σ Refusal.Syntax → r ≡ shaped σ (contentOf line)
@@ -118,7 +118,7 @@ opened-wrong : (s : Shape) (word scratch : List ℕ) → lawful s ≡ true → 9
 opened-wrong s word scratch t l =
     rw (opened-lawful s word scratch t, ne-eqb (length word) (wordLength s) (λ e. let z = sizes s t .word in absurd (omega arith)))
 
-pub opened-same : (s : Shape) (xs word scratch : List ℕ) → (length xs ≤ 1024 → word ≡ xs) → (1024 < length xs → length word ≡ 1024)
+opened-same : (s : Shape) (xs word scratch : List ℕ) → (length xs ≤ 1024 → word ≡ xs) → (1024 < length xs → length word ≡ 1024)
     → (lawful s ≡ true → length scratch ≡ scratchLength s)
     → opened theWays s 0 word scratch ≡ opened theWays s 0 xs (replicate {A = ℕ} (scratchLength s) 0)
 opened-same s xs word scratch few many room =
@@ -136,29 +136,20 @@ opened-same s xs word scratch few many room =
     (λ (f : lawful s ≡ false). opened-unlawful s word scratch f ∙ sym (opened-unlawful s xs zeros f))
     (either (lawful s))
 
--- the word that arrives is cut at 1024 values
-pub record Cut (count size : ℕ) : Type 0 where
-  pub few : count ≤ 1024 → size ≡ count
-  pub many : 1024 < count → size ≡ 1024
-  pub most : size ≤ 1024
-
-pub cut-few : {count size : ℕ} → count < 1024 → size ≡ count → Cut count size
-cut-few l e = record { few = λ _. e; many = λ m. absurd (omega arith); most = omega arith }
-
-pub cut-many : {count size : ℕ} → 1024 ≤ count → size ≡ 1024 → Cut count size
-cut-many l e = record { few = λ m. omega arith; many = λ _. e; most = omega arith }
+-- what is brought is what is opened of the word so cut, with any scratch of the right length
+pub brought-cut : (σ : Session) {line stored : List ℕ} {count size : ℕ} (h : Stored line stored count) → length stored ≡ 1024 → Cut count size
+    → (scratch : List ℕ) → (lawful (σ .shape) ≡ true → length scratch ≡ scratchLength (σ .shape)) → opened theWays (σ .shape) 0 (take size stored) scratch ≡ broughtBy σ (h .values)
+brought-cut σ {stored = stored} {size = size} h full cut scratch room =
+    opened-same (σ .shape) (h .values) (take size stored) scratch
+    (λ l. ap (λ (k : ℕ). take k stored) (cut .few (rw (h .counted) at l)) ∙ word-stored σ h full (rw (h .counted) at l))
+    (λ m. length-take-le size stored (omega (arith, cut .most)) ∙ cut .many (rw (h .counted) at m)) room
 
 pub worded-arrived : (σ : Session) {line stored : List ℕ} {count size room : ℕ} → Stored line stored count → length stored ≡ 1024 → Cut count size → Room (σ .shape) room
     → (scratch : List ℕ) → length scratch ≡ 7471 → {word′ scratch′ : List ℕ} {a : Arrived} → Stepping theWays σ 0 (take size stored) (take room scratch) word′ scratch′ a
     → record { tally = record { phase = Words; session = a .session }; answer = Line (a .outcome) } ≡ worded σ (contentOf line)
 unfolding arrived
 worded-arrived σ {line} {stored} {count} {size} {room} h full cut r scratch long arr =
-    let xs = h .values in
-    let brought : opened theWays (σ .shape) 0 (take size stored) (take room scratch) ≡ broughtBy σ xs =
-    opened-same (σ .shape) xs (take size stored) (take room scratch)
-    (λ l. ap (λ (k : ℕ). take k stored) (cut .few (rw (h .counted) at l)) ∙ word-stored σ h full (rw (h .counted) at l))
-    (λ m. length-take-le size stored (omega (arith, cut .most)) ∙ cut .many (rw (h .counted) at m))
-    (λ t. length-take-le room scratch (omega (arith, r .few)) ∙ r .exact t) in
+    let brought = brought-cut σ h full cut (take room scratch) (λ t. length-take-le room scratch (omega (arith, r .few)) ∙ r .exact t) in
     let after = arr .session ∙ ap (sessionAfter σ) brought in
     let answer = arr .outcome ∙ ap (outcomeOf σ) brought in
     rw (says σ h) (λ i. record { tally = record { phase = Words; session = after i }; answer = Line (answer i) })

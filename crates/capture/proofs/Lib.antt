@@ -3,6 +3,7 @@ pub mod Judges
 pub mod Feeds
 pub mod Figures
 pub mod Frames
+pub mod Glances
 pub mod Examples
 pub mod Whole
 pub mod Standards

@@ -7,11 +7,22 @@ use lib.Dec.{eqb}
 use lib.ListN.{length, take}
 use Rattle.gtb.specs.declared.Shape.{Shape}
 use Rattle.gtb.specs.Shape.{lawful, scratchLength}
+use Rattle.decoder.specs.Decode.{decodeOf, restored}
+use Rattle.lines.specs.Content.{contentOf}
+use Rattle.session.specs.declared.Session.{Session}
+use Rattle.session.specs.declared.Outcome.{Outcome}
 use Rattle.session.specs.Session.{Consistent}
+use Rattle.session.specs.Arrival.{Opened, openWord, outcomeOf, sessionAfter}
+use Rattle.capture.specs.declared.Phase.{Phase}
+use Rattle.capture.specs.declared.Phase.the-variants.{Words}
+use Rattle.capture.specs.declared.Answer.the-variants.{Line}
+use Rattle.capture.specs.declared.Judged.{Judged}
+use Rattle.capture.specs.declared.Foreseen.{Foreseen}
+use Rattle.capture.specs.declared.Foreseen.the-variants.{Known}
 use Rattle.capture.specs.declared.Tally.{Tally}
 use Rattle.capture.specs.declared.Reader.{Reader}
 use Rattle.capture.specs.Output.{answerText}
-use Rattle.capture.specs.Judge.{judgedOf}
+use Rattle.capture.specs.Judge.{worded, judgedOf}
 use Rattle.capture.specs.Feed.{Fed, feed, closing}
 
 -- the text has been written at the end of the first `at` bytes
@@ -35,6 +46,44 @@ pub record Extended (buffer : List ℕ) (held : ℕ) (bytes buffer′ : List ℕ
 pub record Room (s : Shape) (r : ℕ) : Type 0 where
   pub exact : lawful s ≡ true → r ≡ scratchLength s
   pub few : r ≤ 7471
+
+-- how much of the line so far is judged: all of it, or nothing where it is too long
+pub record End (held end : ℕ) : Type 0 where
+  pub short : held < 16384 → end ≡ held
+  pub long : 16384 ≤ held → end ≡ 0
+
+-- how many of a line's values arrive
+pub record Cut (count size : ℕ) : Type 0 where
+  pub few : count ≤ 1024 → size ≡ count
+  pub many : 1024 < count → size ≡ 1024
+  pub most : size ≤ 1024
+
+-- a look at what an arrival brings: an outcome that leaves every session with these page marks as it is
+pub record Seen (taken : List Bool) (o : Opened) (r : Foreseen) : Type 0 where
+  pub known : (a : Outcome) → r ≡ Known a → (σ : Session) → σ .taken ≡ taken → (outcomeOf σ o ≡ a) × (sessionAfter σ o ≡ σ)
+
+-- a look at a word, read the clean way
+pub record Looked (s : Shape) (taken : List Bool) (word word′ symbols′ : List ℕ) (r : Foreseen) : Type 0 where
+  pub seen : Seen taken (openWord s (restored s word) (decodeOf s word)) r
+  pub size : length word′ ≡ length word
+  pub symbols : length symbols′ ≡ 900
+
+-- a tally that a line answered so leaves as it is
+abbrev pub unmoved : Phase → Session → Outcome → Judged
+unmoved phase σ a = record { tally = record { phase = phase; session = σ }; answer = Line a }
+
+-- a look at a word line
+pub record WordGlanced (s : Shape) (taken : List Bool) (line values′ symbols′ : List ℕ) (r : Foreseen) : Type 0 where
+  pub known : (a : Outcome) → r ≡ Known a → (σ : Session) → σ .shape ≡ s → σ .taken ≡ taken → worded σ (contentOf line) ≡ unmoved Words σ a
+  pub values : length values′ ≡ 1024
+  pub symbols : length symbols′ ≡ 900
+
+-- a look at the line so far
+pub record Glanced (phase : Phase) (s : Shape) (taken : List Bool) (buffer : List ℕ) (held : ℕ) (values′ symbols′ : List ℕ) (r : Foreseen) : Type 0 where
+  pub known : (a : Outcome) → r ≡ Known a → (σ : Session) → σ .shape ≡ s → σ .taken ≡ taken
+      → (line : List ℕ) → LineSoFar buffer held line → judgedOf (record { phase = phase; session = σ }) line ≡ unmoved phase σ a
+  pub values : length values′ ≡ 1024
+  pub symbols : length symbols′ ≡ 900
 
 -- the line so far is judged, and the answer written
 pub record LineEnded (reader : Reader) (buffer out scratch′ out′ : List ℕ) (r : Reader) : Type 0 where

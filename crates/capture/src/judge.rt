@@ -3,6 +3,7 @@ use crate::Answer;
 use crate::Judged;
 use crate::Phase;
 use crate::Tally;
+use crate::glance::cut;
 use gtb::Refusal;
 use gtb::Shape;
 use gtb::Status;
@@ -93,7 +94,7 @@ fn room_for(shape: Shape) -> usize
     0
 }
 
-// A word line, read the clean way. No word has 1024 values, so that of a longer line the first 1024 stand for all. The session's figures are right, so that no word pays for their test.
+// A word line, read the clean way. The session's figures are right, so that no word pays for their test.
 fn take_word(session: Session, line: &[u8], scratch: &mut [u32]) -> Judged
     requires { ⌜ Consistent session × (length (now scratch) ≡ 7471) ⌝ }
     ensures { λ r. ⌜ (r ≡ worded session (contentOf (now (line .entry)))) × (length (now (scratch .exit)) ≡ 7471) ⌝ }
@@ -108,7 +109,7 @@ fn take_word(session: Session, line: &[u8], scratch: &mut [u32]) -> Judged
             answer: Answer::Line(Outcome::Refused(Refusal::Syntax)),
         };
     };
-    let size = if count < 1024 { count } else { 1024 };
+    let size = cut(count);
     let shape = session.shape;
     let room = room_for(shape);
     let arrived = session.step(Session::CLEAN, &mut values[..size], &mut scratch[..room]);

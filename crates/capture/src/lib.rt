@@ -1,7 +1,10 @@
 // The tally program without its input and output: a capture comes in blocks of bytes, and text goes out.
+mod glance;
 mod judge;
 mod output;
 
+use crate::glance::glance;
+use crate::glance::line_end;
 use crate::judge::judge;
 use crate::output::put_answer;
 use crate::output::put_closing;
@@ -38,6 +41,12 @@ pub enum Answer {
 pub struct Judged {
     pub tally: Tally,
     pub answer: Answer,
+}
+
+// What a look at a line tells: its outcome, if it is known to leave the tally as it is.
+pub enum Foreseen {
+    Known(Outcome),
+    Open,
 }
 
 // The tally, the length of the line so far, and the length of the output that waits. A line too long counts as 16,384.
@@ -95,8 +104,7 @@ fn end_line(reader: Reader, line: &[u8], scratch: &mut [u32], out: &mut [u8]) ->
     requires { ⌜ Consistent (reader .tally .session) × (length (now line) ≡ 16384) × (length (now scratch) ≡ 7471) × (reader .at + 40 ≤ length (now out)) ⌝ }
     ensures { λ r. ⌜ LineEnded reader (now (line .entry)) (now (out .entry)) (now (scratch .exit)) (now (out .exit)) r ⌝ }
 {
-    let held = reader.held;
-    let end = if held < 16384 { held } else { 0 };
+    let end = line_end(reader.held);
     let before = reader.tally;
     let judged = judge(before, &line[..end], scratch);
     let tally = judged.tally;
@@ -118,6 +126,8 @@ pub fn take_block(
 {
     let mut reader = reader;
     reader.at = 0;
+    let mut values = [0u32; 1024];
+    let mut symbols = [0u32; 900];
     let mut from = 0;
     loop {
         let to = lines::find_newline(block, from, block.len());
@@ -125,8 +135,27 @@ pub fn take_block(
         if to == block.len() {
             return reader;
         }
-        reader = end_line(reader, line, scratch, out);
+        // Of these copies only the phase and the shape are read, so that none is made.
+        let tally = reader.tally;
+        let phase = tally.phase;
+        let session = tally.session;
+        let shape = session.shape;
+        let seen = glance(
+            phase,
+            shape,
+            &reader.tally.session.taken,
+            line,
+            reader.held,
+            &mut values,
+            &mut symbols,
+        );
         from = to + 1;
+        if let Foreseen::Known(outcome) = seen {
+            reader.held = 0;
+            reader.at = put_answer(out, reader.at, Answer::Line(outcome));
+            continue;
+        }
+        reader = end_line(reader, line, scratch, out);
     }
 }
 

@@ -1,10 +1,9 @@
 -- `capture::judge::take_word` meets its contract: the values that are stored arrive.
 use mathlib.Core.Path.{sym}
-use mathlib.Core.Logic.{⊎-elim}
 use native.Mathlib.Omega.{arith}
 use lib.Seq.{length-take-le}
 use Rattle.lines.proofs.Contents.{content-none}
-use Rattle.capture.proofs.Judges.{Cut, cut-few, cut-many, worded-none, worded-arrived, scratch-kept}
+use Rattle.capture.proofs.Judges.{worded-none, worded-arrived, scratch-kept}
 use borrow.Author.Needs.{needs}
 use Rattle.capture.proofs.judge.take_word.Statement.{statement}
 use Rattle.capture.proofs.judge.take_word.Tie as tie
@@ -21,17 +20,20 @@ enum-told c = search needs
 returns : tie.Need-returns
 returns c = (worded-none _ _ (content-none _ (c .before .before .parse .ensures .refused (c .enum-told .given .1))), c .before .before .before .before .before .before .pre .1)
 
+cut-requires : tie.Need-cut-requires
+cut-requires c κs = search needs
+
 room-for-requires : tie.Need-room-for-requires
 room-for-requires c κs = search needs
 
 array-borrow-prefix-values : tie.Need-array-borrow-prefix-values
 array-borrow-prefix-values c =
-    let cut : Cut _ _ = ⊎-elim (λ x. cut-few (x .0 .taken) (x .1)) (λ x. cut-many (x .0 .left) (x .1)) (c .before .before .if1 .came) in
+    let cut = c .before .before .cut .ensures in
     omega (arith, c .before .before .before .before .before .before .parse .ensures .size, cut .most)
 
 slice-aggregate-step : tie.Need-slice-aggregate-step
 slice-aggregate-step c =
-    let cut : Cut _ _ = ⊎-elim (λ x. cut-few (x .0 .taken) (x .1)) (λ x. cut-many (x .0 .left) (x .1)) (c .before .before .before .if1 .came) in
+    let cut = c .before .before .before .cut .ensures in
     sym (length-take-le _ _ (omega (arith, c .before .before .before .before .before .before .before .parse .ensures .size, cut .most)))
 
 slice-relend-prefix-step : tie.Need-slice-relend-prefix-step
@@ -52,7 +54,7 @@ returns-2 c =
     let room = c .before .before .before .before .before .before .before .room-for .ensures in
     let arrival = c .before .before .before .before .step .ensures in
     let scratch = c .before .before .before .before .before .before .before .before .before .before .before .before .before .before .before .before .before .args .scratch .now in
-    let cut : Cut _ _ = ⊎-elim (λ x. cut-few (x .0 .taken) (x .1)) (λ x. cut-many (x .0 .left) (x .1)) (c .before .before .before .before .before .before .before .before .before .if1 .came) in (
+    let cut = c .before .before .before .before .before .before .before .before .before .cut .ensures in (
       worded-arrived _ (parsed .accepted _ (c .before .before .before .before .before .before .before .before .before .before .before .count .given .1)) (parsed .size) cut room scratch (c .before .before .before .before .before .before .before .before .before .before .before .before .before .before .before .before .before .pre .1) arrival,
       scratch-kept scratch _ (c .before .before .before .before .before .before .before .before .before .before .before .before .before .before .before .before .before .pre .1) (room .few) arrival,
     )
@@ -65,6 +67,7 @@ take-word-spec =
     enum-known-count
     enum-told
     returns
+    cut-requires
     room-for-requires
     array-borrow-prefix-values
     slice-aggregate-step
