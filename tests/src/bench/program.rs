@@ -12,10 +12,8 @@ const TEXT: usize = 32_000_000;
 
 const RUNS: usize = 7;
 
-/// The shape whose rows have a target: so many megabytes a second, or so many times the Rust program's time.
-const TARGET: Shape = Shape::new(17, 4, 32);
-const SPEED: f64 = 150.0;
-const RATIO: f64 = 1.5;
+/// Of the Rust program's time, every row.
+const TARGET: f64 = 1.0;
 
 /// Prints the table; gives the rows that miss their target.
 pub fn table() -> Vec<String> {
@@ -30,7 +28,7 @@ pub fn table() -> Vec<String> {
     println!("| shape | text | our MB/s | Rust MB/s | time, ours / Rust |");
     println!("|---|---|---:|---:|---:|");
     let mut missed = vec![];
-    for shape in [TARGET, Shape::new(3, 2, 8), Shape::new(31, 8, 32)] {
+    for shape in [Shape::new(17, 4, 32), Shape::new(3, 2, 8), Shape::new(31, 8, 32)] {
         let mut random = Random::new(1, "program");
         missed.extend(row(&ours, &rust, shape, "pages, half of them damaged", &pages(shape, &mut random)));
         missed.extend(row(&ours, &rust, shape, "random symbols", &noise(shape, &mut random)));
@@ -66,8 +64,7 @@ fn row(ours: &Program, rust: &Program, shape: Shape, name: &str, text: &str) -> 
     let Shape { q, n, b, .. } = shape;
     let row = format!("| ({q}, {n}, {b}) | {name} | {ours:.1} | {rust:.1} | {ratio:.2} |");
     println!("{row}");
-    let met = shape != TARGET || ours >= SPEED || ratio <= RATIO;
-    (!met).then_some(row)
+    (ratio > TARGET).then_some(row)
 }
 
 /// The processor time of one run.

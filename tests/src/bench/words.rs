@@ -65,7 +65,11 @@ fn refused_error(shape: Shape, word: &[u32], random: &mut Random) -> Vec<(usize,
     }
 }
 
-/// Prints the table; gives the reader's rows that miss their target.
+/// Of the tuned counterpart's time, every row; of the straightforward reader's, every row of reading.
+const TUNED: f64 = 1.0;
+const STRAIGHTFORWARD: f64 = 0.5;
+
+/// Prints the table; gives the rows that miss their target.
 pub fn table() -> Vec<String> {
     println!("| shape | work | ns a word | ours / straightforward | ours / tuned |");
     println!("|---|---|---:|---:|---:|");
@@ -73,12 +77,12 @@ pub fn table() -> Vec<String> {
     for shape in SHAPES {
         for kind in Kind::ALL {
             let row = Row { shape, work: format!("read, {}", kind.name()), times: reading(shape, kind) };
-            row.print();
-            missed.extend((!row.meets_target()).then(|| row.text()));
+            missed.extend(row.judged(STRAIGHTFORWARD));
         }
-        Row { shape, work: "write".into(), times: writing(shape) }.print();
+        missed.extend(Row { shape, work: "write".into(), times: writing(shape) }.judged(f64::INFINITY));
         for kind in Kind::ALL {
-            Row { shape, work: format!("arrival, {}", kind.name()), times: arriving(shape, kind) }.print();
+            let row = Row { shape, work: format!("arrival, {}", kind.name()), times: arriving(shape, kind) };
+            missed.extend(row.judged(f64::INFINITY));
         }
     }
     missed
@@ -97,12 +101,11 @@ impl Row {
         format!("| ({q}, {n}, {b}) | {} | {ours:.0} | {to_straightforward:.2} | {to_tuned:.2} |", self.work)
     }
 
-    fn print(&self) {
+    /// Prints it; gives it if it takes more than this part of the straightforward way, or more than the tuned one.
+    fn judged(&self, straightforward: f64) -> Option<String> {
         println!("{}", self.text());
-    }
-
-    fn meets_target(&self) -> bool {
-        self.times.to_others[0] <= 0.5 && self.times.to_others[1] <= 1.2
+        let met = self.times.to_others[0] <= straightforward && self.times.to_others[1] <= TUNED;
+        (!met).then(|| self.text())
     }
 }
 
