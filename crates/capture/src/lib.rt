@@ -126,7 +126,7 @@ pub fn take_block(
 {
     let mut reader = reader;
     reader.at = 0;
-    let mut values = [0u32; 1024];
+    let mut word = [0u32; 1024];
     let mut symbols = [0u32; 900];
     let mut from = 0;
     loop {
@@ -135,18 +135,14 @@ pub fn take_block(
         if to == block.len() {
             return reader;
         }
-        // Of these copies only the phase and the shape are read, so that none is made.
         let tally = reader.tally;
-        let phase = tally.phase;
-        let session = tally.session;
-        let shape = session.shape;
+        let held = reader.held;
         let seen = glance(
-            phase,
-            shape,
+            tally,
             &reader.tally.session.taken,
             line,
-            reader.held,
-            &mut values,
+            held,
+            &mut word,
             &mut symbols,
         );
         from = to + 1;
