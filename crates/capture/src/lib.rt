@@ -126,7 +126,7 @@ pub fn take_block(
 {
     let mut reader = reader;
     reader.at = 0;
-    let mut word = [0u32; 1024];
+    let mut values = [0u32; 1024];
     let mut symbols = [0u32; 900];
     let mut from = 0;
     loop {
@@ -136,15 +136,8 @@ pub fn take_block(
             return reader;
         }
         let tally = reader.tally;
-        let held = reader.held;
-        let seen = glance(
-            tally,
-            &reader.tally.session.taken,
-            line,
-            held,
-            &mut word,
-            &mut symbols,
-        );
+        let taken = &reader.tally.session.taken;
+        let seen = glance(tally, taken, line, reader.held, &mut values, &mut symbols);
         from = to + 1;
         if let Foreseen::Known(outcome) = seen {
             reader.held = 0;

@@ -11,11 +11,11 @@ use Rattle.capture.proofs.take_block.Statement.{statement}
 use Rattle.capture.proofs.take_block.Tie as tie
 
 abbrev Inv-loop : tie.InvT-loop
-Inv-loop block line₀ scratch₀ out₀ reader₀ word₀ symbols₀ from₀ line scratch out reader word symbols from =
-    Reading reader₀ line₀ block line scratch out reader from × (length word ≡ 1024) × (length symbols ≡ 900)
+Inv-loop block line₀ scratch₀ out₀ reader₀ values₀ symbols₀ from₀ line scratch out reader values symbols from =
+    Reading reader₀ line₀ block line scratch out reader from × (length values ≡ 1024) × (length symbols ≡ 900)
 
 abbrev μ-loop : tie.MeasureT-loop
-μ-loop block line₀ scratch₀ out₀ reader₀ word₀ symbols₀ from₀ line scratch out reader word symbols from = length block - from
+μ-loop block line₀ scratch₀ out₀ reader₀ values₀ symbols₀ from₀ line scratch out reader values symbols from = length block - from
 
 loop-holds : tie.Need-loop-holds Inv-loop μ-loop
 loop-holds c =
