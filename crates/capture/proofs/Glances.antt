@@ -32,6 +32,7 @@ use Rattle.session.proofs.Settle.{settle-again}
 use Rattle.capture.specs.declared.Phase.{Phase}
 use Rattle.capture.specs.declared.Phase.the-variants.{Words}
 use Rattle.capture.specs.declared.Answer.the-variants.{Line}
+use Rattle.capture.specs.declared.Tally.{Tally}
 use Rattle.capture.specs.declared.Judged.{Judged}
 use Rattle.capture.specs.declared.Reader.{Reader}
 use Rattle.capture.specs.declared.Foreseen.{Foreseen}
@@ -121,29 +122,29 @@ word-glanced {s} {stored = stored} {size = size} h full cut seen v y = record {
 }
 
 -- ---- the line so far
-module _ {phase : Phase} {s : Shape} {taken : List Bool} {buffer : List ℕ} {held : ℕ} {values′ symbols′ : List ℕ} where
-  pub glanced-open : length values′ ≡ 1024 → length symbols′ ≡ 900 → Glanced phase s taken buffer held values′ symbols′ Open
+module _ {t : Tally} {taken : List Bool} {buffer : List ℕ} {held : ℕ} {values′ symbols′ : List ℕ} where
+  pub glanced-open : length values′ ≡ 1024 → length symbols′ ≡ 900 → Glanced t taken buffer held values′ symbols′ Open
   glanced-open v y = record { known = λ a h. absurd (open-tells a h); values = v; symbols = y }
 
-  pub glanced-word : {end : ℕ} {r : Foreseen} → phase ≡ Words → End held end → length buffer ≡ 16384 → WordGlanced s taken (take end buffer) values′ symbols′ r
-      → Glanced phase s taken buffer held values′ symbols′ r
+  pub glanced-word : {end : ℕ} {r : Foreseen} → t .phase ≡ Words → End held end → length buffer ≡ 16384 → WordGlanced (t .session .shape) taken (take end buffer) values′ symbols′ r
+      → Glanced t taken buffer held values′ symbols′ r
   glanced-word {end} is e full w = record {
-    known = λ a h σ shape marks line so.
+    known = λ a h marks line so.
         let few : length (take end buffer) < 16384 = rw (length-take-le end buffer (omega (arith, end-few e))) (end-few e) in
-        let answer = sym (judged-words (record { phase = phase; session = σ }) (take end buffer) is few (sym (w .known a h σ shape marks))) in
-        sym (judged-held (record { phase = phase; session = σ }) e so) ∙ answer ∙ ap (λ (p : Phase). unmoved p σ a) (sym is);
+        let answer = sym (judged-words t (take end buffer) is few (sym (w .known a h (t .session) refl marks))) in
+        sym (judged-held t e so) ∙ answer ∙ ap (λ (p : Phase). unmoved p (t .session) a) (sym is);
     values = w .values;
     symbols = w .symbols;
   }
 
 -- the line is answered, and the tally stays
 pub line-known : (reader : Reader) {buffer out scratch out′ values′ symbols′ : List ℕ} {r : Foreseen} {a : Outcome} {at : ℕ} → Consistent (reader .tally .session)
-    → Glanced (reader .tally .phase) (reader .tally .session .shape) (reader .tally .session .taken) buffer (reader .held) values′ symbols′ r → r ≡ Known a
+    → Glanced (reader .tally) (reader .tally .session .taken) buffer (reader .held) values′ symbols′ r → r ≡ Known a
     → length scratch ≡ 7471 → Appended out (reader .at) (answerText (Line a)) out′ at → at ≤ reader .at + 30
     → LineEnded reader buffer out scratch out′ (record { tally = reader .tally; held = 0; at = at })
 line-known reader {buffer} {out} {out′ = out′} {a = a} {at = at} right g is room put few =
     let judged : (line : List ℕ) → LineSoFar buffer (reader .held) line → judgedOf (reader .tally) line ≡ unmoved (reader .tally .phase) (reader .tally .session) a =
-    λ line h. g .known a is (reader .tally .session) refl refl line h in
+    λ line h. g .known a is refl line h in
     record {
       tally = λ line h. sym (ap (λ (x : Judged). x .tally) (judged line h));
       output = λ line h. subst (λ (x : Judged). Appended out (reader .at) (answerText (x .answer)) out′ at) (sym (judged line h)) put;

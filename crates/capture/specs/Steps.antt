@@ -78,10 +78,10 @@ pub record WordGlanced (s : Shape) (taken : List Bool) (line values′ symbols�
   pub values : length values′ ≡ 1024
   pub symbols : length symbols′ ≡ 900
 
--- a look at the line so far
-pub record Glanced (phase : Phase) (s : Shape) (taken : List Bool) (buffer : List ℕ) (held : ℕ) (values′ symbols′ : List ℕ) (r : Foreseen) : Type 0 where
-  pub known : (a : Outcome) → r ≡ Known a → (σ : Session) → σ .shape ≡ s → σ .taken ≡ taken
-      → (line : List ℕ) → LineSoFar buffer held line → judgedOf (record { phase = phase; session = σ }) line ≡ unmoved phase σ a
+-- a look at the line so far, where these are the tally's page marks
+pub record Glanced (t : Tally) (taken : List Bool) (buffer : List ℕ) (held : ℕ) (values′ symbols′ : List ℕ) (r : Foreseen) : Type 0 where
+  pub known : (a : Outcome) → r ≡ Known a → t .session .taken ≡ taken
+      → (line : List ℕ) → LineSoFar buffer held line → judgedOf t line ≡ unmoved (t .phase) (t .session) a
   pub values : length values′ ≡ 1024
   pub symbols : length symbols′ ≡ 900
 

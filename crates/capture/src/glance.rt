@@ -1,6 +1,7 @@
 // A look at a line without moving the session. Most word lines leave it as it is: a page is taken once, so that at most 1024 of them do not.
 use crate::Foreseen;
 use crate::Phase;
+use crate::Tally;
 use correction::Decoded;
 use gtb::Refusal;
 use gtb::Shape;
@@ -108,10 +109,9 @@ fn glance_word(
     look_at(shape, taken, values, size, symbols)
 }
 
-// The line so far, in a tally of this phase, shape and page marks.
+// The line so far. The page marks are lent beside the tally: of that only the phase and the shape are read, so that it is not copied.
 pub fn glance(
-    phase: Phase,
-    shape: Shape,
+    tally: Tally,
     taken: &[bool; Session::PAGES],
     line: &[u8],
     held: usize,
@@ -119,8 +119,11 @@ pub fn glance(
     symbols: &mut [u32],
 ) -> Foreseen
     requires { ⌜ (length (now line) ≡ 16384) × (length (now values) ≡ 1024) × (length (now symbols) ≡ 900) ⌝ }
-    ensures { λ r. ⌜ Glanced phase shape (now (taken .entry)) (now (line .entry)) held (now (values .exit)) (now (symbols .exit)) r ⌝ }
+    ensures { λ r. ⌜ Glanced tally (now (taken .entry)) (now (line .entry)) held (now (values .exit)) (now (symbols .exit)) r ⌝ }
 {
+    let phase = tally.phase;
+    let session = tally.session;
+    let shape = session.shape;
     let end = line_end(held);
     match phase {
         Phase::ShapeNames => Foreseen::Open,

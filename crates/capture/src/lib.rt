@@ -135,20 +135,9 @@ pub fn take_block(
         if to == block.len() {
             return reader;
         }
-        // Of these copies only the phase and the shape are read, so that none is made.
         let tally = reader.tally;
-        let phase = tally.phase;
-        let session = tally.session;
-        let shape = session.shape;
-        let seen = glance(
-            phase,
-            shape,
-            &reader.tally.session.taken,
-            line,
-            reader.held,
-            &mut values,
-            &mut symbols,
-        );
+        let taken = &reader.tally.session.taken;
+        let seen = glance(tally, taken, line, reader.held, &mut values, &mut symbols);
         from = to + 1;
         if let Foreseen::Known(outcome) = seen {
             reader.held = 0;

@@ -24,7 +24,7 @@ enum-told-4 : tie.Need-enum-told-4
 enum-told-4 c = search needs
 
 slice-aggregate-glance-word : tie.Need-slice-aggregate-glance-word
-slice-aggregate-glance-word c = sym (length-take-le _ _ (omega (arith, end-few (c .before .before .before .line-end .ensures), c .before .before .before .before .before .before .pre .0)))
+slice-aggregate-glance-word c = sym (length-take-le _ _ (omega (arith, end-few (c .before .before .before .line-end .ensures), c .before .before .before .before .before .before .before .before .pre .0)))
 
 glance-word-requires : tie.Need-glance-word-requires
 glance-word-requires c κs = search needs
@@ -33,22 +33,22 @@ enum-told-5 : tie.Need-enum-told-5
 enum-told-5 c = search needs
 
 returns : tie.Need-returns
-returns c = glanced-open (c .before .before .before .before .before .pre .1) (c .before .before .before .before .before .pre .2)
+returns c = glanced-open (c .before .before .before .before .before .before .before .pre .1) (c .before .before .before .before .before .before .before .pre .2)
 
 returns-2 : tie.Need-returns-2
-returns-2 c = glanced-open (c .before .before .before .before .before .pre .1) (c .before .before .before .before .before .pre .2)
+returns-2 c = glanced-open (c .before .before .before .before .before .before .before .pre .1) (c .before .before .before .before .before .before .before .pre .2)
 
 returns-3 : tie.Need-returns-3
-returns-3 c = glanced-open (c .before .before .before .before .before .pre .1) (c .before .before .before .before .before .pre .2)
+returns-3 c = glanced-open (c .before .before .before .before .before .before .before .pre .1) (c .before .before .before .before .before .before .before .pre .2)
 
 same-length : tie.Need-same-length
 same-length c = search needs
 
 returns-4 : tie.Need-returns-4
-returns-4 c = glanced-word (c .before .before .before .before .before .before .enum-told4 .given .1) (c .before .before .before .before .before .before .before .before .line-end .ensures) (c .before .before .before .before .before .before .before .before .before .before .before .pre .0) (c .before .before .glance-word .ensures)
+returns-4 c = glanced-word (c .before .before .before .before .before .before .enum-told4 .given .1) (c .before .before .before .before .before .before .before .before .line-end .ensures) (c .before .before .before .before .before .before .before .before .before .before .before .before .before .pre .0) (c .before .before .glance-word .ensures)
 
 returns-5 : tie.Need-returns-5
-returns-5 c = glanced-open (c .before .before .before .before .before .pre .1) (c .before .before .before .before .before .pre .2)
+returns-5 c = glanced-open (c .before .before .before .before .before .before .before .pre .1) (c .before .before .before .before .before .before .before .pre .2)
 
 pub glance-spec : {M : Type 1} → statement M
 glance-spec =
