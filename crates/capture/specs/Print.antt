@@ -71,7 +71,7 @@ answerLines (r ∷ answers) = outcomeLine r ++ answerLines answers
 abbrev pub cutLine : List ℕ → List ℕ
 cutLine cut = cond (eqb (length cut) 0) [] (refusedLine Refusal.Syntax)
 
--- the recording's own counts as the second table: functions with marks only, rising
+-- the recording's own counts as the second table: functions from 1 on that have marks, rising
 unfoldable pub ownTable : List Sheet → List ℕ
 ownTable pages = callsText (tabulate 256 (tally pages (λ p. true)))
 
