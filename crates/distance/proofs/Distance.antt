@@ -6,36 +6,36 @@ use mathlib.Core.Logic.{⊎-elim, Dec·not-not}
 use Prim.Native.Nat.{ℕ, _<_}
 use native.Mathlib.Decide.{ℕ-discrete}
 use native.Mathlib.Omega.{arith}
-use lib.Dec.{ltb}
 use lib.Seq.{ext-getD}
-use borrow.Author.Tests.{ltb-false, eqb-false, not-true}
+use borrow.Author.Tests.{ne-eqb, eqb-false, not-true}
+use Rattle.parity.specs.Xor.{_⊕_}
 use Rattle.parity.specs.Count.{count}
-use Rattle.parity.proofs.Tests.{either}
+use Rattle.parity.proofs.Xors.{self, eq-of-zero}
+use Rattle.parity.proofs.Tests.{either, not-of-false}
 use Rattle.parity.proofs.Sums.{count-le}
 use Rattle.gtb.specs.declared.Shape.{Shape}
 use Rattle.gtb.specs.Shape.{Lawful, wordLength}
 use Rattle.gtb.specs.Square.{at}
-use Rattle.gtb.proofs.Crossing.{codeword-distance}
 use Rattle.distance.specs.Distance.{differences, apart, Distance, Sure}
-use Rattle.distance.proofs.Differences.{differs, four, six}
-use Rattle.distance.proofs.Eight.{eight}
+use Rattle.distance.proofs.Bits.{bit-inside}
+use Rattle.distance.proofs.Twice.{twice}
+use Rattle.distance.proofs.Differences.{differs, difference-silent, some-differs}
 
--- the four cases of `apart`, each by the bound that is best there
+-- the places with one bit of the difference are an even set
 pub distance : (s : Shape) → Lawful s → Distance s
 unfolding apart differences
 distance s law = record {
   least = λ v w hv hw ne.
-      ⊎-elim (λ (two : ltb (s .n) 3 ≡ true). rw two (omega (arith, four s law v w hv hw ne)))
-      (λ (more : ltb (s .n) 3 ≡ false).
-      rw more
-      (⊎-elim (λ (three : ltb (s .n) 4 ≡ true). rw three (omega (arith, six s law (ltb-false (s .n) 3 more) v w hv hw ne)))
-      (λ (many : ltb (s .n) 4 ≡ false).
-      rw many
-      (⊎-elim (λ (few : ltb (s .n) 8 ≡ true). rw few (omega (arith, eight s law (ltb-false (s .n) 4 many) v w hv hw ne)))
-      (λ (all : ltb (s .n) 8 ≡ false). rw all (omega (arith, codeword-distance s law v w hv hw ne)))
-      (either (ltb (s .n) 8))))
-      (either (ltb (s .n) 4))))
-      (either (ltb (s .n) 3));
+      let (j, l, h) = some-differs s law v w hv hw ne in
+      let d =
+      bit-inside s j (λ j. at v j ⊕ at w j) (difference-silent s v w hv hw)
+      (λ z. eqb-false _ _ (not-true _ h) (eq-of-zero (at v j) (at w j) z)) in
+      omega (
+        arith,
+        twice s law (d .chosen) (d .even) j l (d .holds),
+        count-le (wordLength s) (d .chosen) (differs v w)
+            (λ i l c. not-of-false (ne-eqb (at v i) (at w i) (λ e. d .inside i c (ap (λ (x : ℕ). x ⊕ at w i) e ∙ self (at w i))))),
+      );
 }
 
 -- fewer erasures than the distance

@@ -1,9 +1,9 @@
 -- How far codewords are apart, and how many erasures that allows.
 use mathlib.Core.Path.{_≡_}
-use mathlib.Core.Bool.{Bool, false, not, cond}
+use mathlib.Core.Bool.{Bool, false, not}
 use mathlib.Core.List.{List}
 use Prim.Native.Nat.{ℕ, _+_, _<_, _≤_}
-use lib.Dec.{eqb, ltb}
+use lib.Dec.{eqb}
 use Rattle.parity.specs.Count.{count}
 use Rattle.gtb.specs.declared.Shape.{Shape}
 use Rattle.gtb.specs.Shape.{wordLength}
@@ -13,9 +13,9 @@ use Rattle.gtb.specs.Square.{at, Word, Codeword}
 unfoldable pub differences : Shape → List ℕ → List ℕ → ℕ
 differences s v w = count (wordLength s) (λ j. not (eqb (at v j) (at w j)))
 
--- so far apart are different codewords at least: n + 1, and four for two directions, six for three, eight for more
+-- so far apart are different codewords at least: twice the number of directions
 unfoldable pub apart : ℕ → ℕ
-apart n = cond (ltb n 3) 4 (cond (ltb n 4) 6 (cond (ltb n 8) 8 (n + 1)))
+apart n = n + n
 
 -- different codewords of a shape are that far apart
 pub record Distance (s : Shape) : Type 0 where

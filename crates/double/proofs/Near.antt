@@ -6,8 +6,8 @@ use mathlib.Core.Logic.{⊎-elim, Dec·not-not}
 use Prim.Native.Nat.{ℕ, _+_, _^_, _<_, _≤_}
 use native.Mathlib.Decide.{ℕ-discrete}
 use native.Mathlib.Omega.{arith}
-use lib.Dec.{eqb, ltb}
-use borrow.Author.Tests.{eq-eqb, ne-eqb, le-ltb, ltb-false, eqb-true, not-false}
+use lib.Dec.{eqb}
+use borrow.Author.Tests.{eq-eqb, ne-eqb, eqb-true, not-false}
 use Rattle.parity.specs.Xor.{_⊕_, when}
 use Rattle.parity.specs.Count.{bit, count, any, all}
 use Rattle.parity.proofs.Xors.{xors, comm, zero-r, when-zero}
@@ -44,14 +44,7 @@ count-or n p r = omega (arith, sum-le n (λ i. bit (p i || r i)) (λ i. bit (p i
 
 six-apart : (n : ℕ) → 3 ≤ n → 6 ≤ apart n
 unfolding apart
-six-apart n h =
-    rw (le-ltb n 3 h)
-    (⊎-elim (λ (three : ltb n 4 ≡ true). rw three (omega arith))
-    (λ (more : ltb n 4 ≡ false).
-    rw more
-    (⊎-elim (λ (few : ltb n 8 ≡ true). rw few (omega arith)) (λ (many : ltb n 8 ≡ false). let l = ltb-false n 8 many in rw many (omega arith))
-    (either (ltb n 8))))
-    (either (ltb n 4)))
+six-apart n h = omega arith
 
 -- two within two symbols of a word are within four of each other
 pub near-unique : (s : Shape) → Lawful s → 3 ≤ s .n → (w v v′ : List ℕ) (k k′ : ℕ) → Near s 2 w v k → Near s 2 w v′ k′ → (v ≡ v′) × (k ≡ k′)

@@ -1,16 +1,16 @@
 -- Filling in leaves one answer and one word; with few places it never leaves a choice; with none it tells whether the word is a codeword.
 use mathlib.Core.Path.{_≡_, refl, sym, ap, _∙_, subst}
-use mathlib.Core.Bool.{true, false, not, _&&_}
+use mathlib.Core.Bool.{true, not, _&&_}
 use mathlib.Core.List.{List, []}
 use mathlib.Core.Logic.{_⊎_, inl, inr, ⊎-elim}
 use Prim.Native.Nat.{ℕ, _<_, _≤_}
 use native.Mathlib.Omega.{arith}
-use lib.Dec.{eqb, ltb, lit<}
+use lib.Dec.{eqb, lit<}
 use lib.ListN.{length}
 use lib.Seq.{ext-getD}
-use borrow.Author.Tests.{eqb-true, eq-eqb, ltb-true}
+use borrow.Author.Tests.{eqb-true, eq-eqb}
 use Rattle.parity.specs.Count.{any}
-use Rattle.parity.proofs.Tests.{either, and-left}
+use Rattle.parity.proofs.Tests.{and-left}
 use Rattle.parity.proofs.Sums.{count-none}
 use Rattle.gtb.specs.declared.Shape.{Shape}
 use Rattle.gtb.specs.declared.Refusal.{Refusal}
@@ -117,7 +117,7 @@ no-choice {s} {places = places} law few h (inr (inr a)) e =
     (few-sure s law (isListed places) (omega (arith, listed-count h)) .one (a .one) (a .another) (a .agrees .codeword) (a .agreesToo .codeword)
     (λ j l n. a .agrees .same j l n ∙ sym (a .agreesToo .same j l n)))
 
--- with fewer places than codewords are apart the answer is never 14: three if n = 2, five if n = 3, seven if n is 4 to 7, eight if n = 8
+-- with fewer places than codewords are apart the answer is never 14: up to 2 n - 1 places
 pub never-several : {s : Shape} {word places scratch word′ scratch′ : List ℕ} {r : Decoded} → Lawful s → length places < apart (s .n)
     → Filling s word places scratch word′ scratch′ r → r ≡ Refused Refusal.Ambiguous → ⊥
 never-several {s} {word} {places} {scratch} {r = r} law few f e =
@@ -129,17 +129,9 @@ never-several {s} {word} {places} {scratch} {r = r} law few f e =
     (status-cases (fillStatus s word places scratch))
 
 -- that takes in N2's limit: n places are always few
-pub n-few : (n : ℕ) → n < apart n
+pub n-few : (n : ℕ) → 2 ≤ n → n < apart n
 unfolding apart
-n-few n =
-    ⊎-elim (λ (t : ltb n 3 ≡ true). rw t (omega (arith, ltb-true n 3 t)))
-    (λ (f : ltb n 3 ≡ false).
-    rw f
-    (⊎-elim (λ (t : ltb n 4 ≡ true). rw t (omega (arith, ltb-true n 4 t)))
-    (λ (g : ltb n 4 ≡ false).
-    rw g (⊎-elim (λ (t : ltb n 8 ≡ true). rw t (omega (arith, ltb-true n 8 t))) (λ (h : ltb n 8 ≡ false). rw h (omega arith)) (either (ltb n 8))))
-    (either (ltb n 4))))
-    (either (ltb n 3))
+n-few n h = omega arith
 
 -- ---- no places
 -- what agrees with the word is the word

@@ -6,10 +6,10 @@ use Prim.Native.Nat.{ℕ, zero, suc, _+_, _<_, _≤_}
 use native.Mathlib.Nat.{not-suc-le-zero, le-step, lt-suc-self}
 use native.Mathlib.Omega.{arith}
 use lib.Dec.{eqb}
-use borrow.Author.Tests.{eq-eqb, ne-eqb}
+use borrow.Author.Tests.{eq-eqb, ne-eqb, not-false}
 use Rattle.parity.specs.Count.{bit, sum, count, any}
 use Rattle.parity.proofs.Tests.{either, and-left, and-both, and-no-right, any-elim, any-no}
-use Rattle.parity.proofs.Sums.{sum-cong, sum-add, sum-only, sum-term, bit-le, bit-true, bit-false, count-none, count-le}
+use Rattle.parity.proofs.Sums.{sum-cong, sum-add, sum-only, sum-term, bit-le, bit-true, bit-false, count-none, count-le, count-not}
 
 -- the count is below the size: some number fails
 pub some-fails : (n : ℕ) (p : ℕ → Bool) → count n p < n → (i : ℕ) × (i < n) × (p i ≡ false)
@@ -22,6 +22,12 @@ some-fails (suc n) p l =
     (i, le-step li, f))
     (λ (f : p n ≡ false). (n, lt-suc-self n, f))
     (either (p n))
+
+-- the count is not 0: some number passes
+pub some-passes : (n : ℕ) (p : ℕ → Bool) → 0 < count n p → (i : ℕ) × (i < n) × (p i ≡ true)
+some-passes n p h =
+    let (i, l, e) = some-fails n (λ i. not (p i)) (omega (arith, count-not n p)) in
+    (i, l, not-false (p i) e)
 
 -- whether some pass is at most how many
 pub any-count : (n : ℕ) (p : ℕ → Bool) → bit (any n p) ≤ count n p
