@@ -64,10 +64,10 @@ fn of_each_width(
     Ok(tried)
 }
 
-/// From none to n + 3 and a few more than the limit; up to the limit it is the sent word.
+/// From none to a few more than the limit; up to the limit it is the sent word.
 fn few_places(make: Make, shape: Shape, random: &mut Random) -> Verdict {
     let mut tried = 0;
-    for count in 0..=shape.word_len().min(limit(shape).max(shape.n as usize) + 3) {
+    for count in 0..=shape.word_len().min(limit(shape) + 3) {
         for places in some_places(shape, count, random) {
             let sent = random_codeword(shape, random);
             let call = fill(shape, &places, &lost(shape, &sent, &places, random), random);
@@ -86,7 +86,7 @@ fn few_places(make: Make, shape: Shape, random: &mut Random) -> Verdict {
 /// alone; within the limit there is none.
 fn damage_elsewhere(make: Make, shape: Shape, random: &mut Random) -> Verdict {
     let mut tried = 0;
-    for count in 0..=shape.n as usize + 3 {
+    for count in 0..=shape.word_len().min(limit(shape) + 1) {
         for places in some_places(shape, count, random) {
             let sent = random_codeword(shape, random);
             let weight = 1 + random.below(3);

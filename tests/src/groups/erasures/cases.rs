@@ -17,14 +17,9 @@ pub(super) const PLACES: usize = 0;
 pub(super) const WORD: usize = 1;
 pub(super) const SCRATCH: usize = 2;
 
-/// With so many places 14 never comes: any two codewords differ in more.
+/// With so many places 14 never comes: any two codewords differ in more, at 2n places or above.
 pub(super) fn limit(shape: Shape) -> usize {
-    match shape.n {
-        2 => 3,
-        3 => 5,
-        4..=7 => 7,
-        _ => 8,
-    }
+    2 * shape.n as usize - 1
 }
 
 /// The scratch is full of old numbers.
