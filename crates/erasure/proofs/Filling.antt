@@ -1,4 +1,4 @@
--- Filling in leaves one answer and one word; with few places it never leaves a choice; with none it tells whether the word is a codeword.
+-- Filling in leaves one answer and one word; with few places it never leaves a choice, and undoes damage on them alone; with none it tells whether the word is a codeword.
 use mathlib.Core.Path.{_≡_, refl, sym, ap, _∙_, subst}
 use mathlib.Core.Bool.{true, not, _&&_}
 use mathlib.Core.List.{List, []}
@@ -23,6 +23,7 @@ use Rattle.distance.specs.Distance.{differences, apart}
 use Rattle.distance.proofs.Distance.{few-sure}
 use Rattle.correction.specs.declared.Decoded.{Decoded}
 use Rattle.correction.specs.declared.Decoded.the-variants.{Corrected, Refused}
+use Rattle.correction.specs.Answer.{decodedNumber}
 use Rattle.erasure.specs.Fill.{isListed, rising, fillStatus, Agrees, FilledIn, NoWord, SeveralWords, Filling}
 use Rattle.erasure.specs.Steps.{Places, Decision}
 use Rattle.erasure.proofs.Lists.{rising-places, listed-count}
@@ -90,6 +91,7 @@ tests-never s word places scratch =
 
 -- what the tests let pass
 record Passed (s : Shape) (word places : List ℕ) : Type 0 where
+  pub law : Lawful s
   pub size : length word ≡ wordLength s
   pub rises : rising (wordLength s) places ≡ true
 
@@ -100,7 +102,7 @@ passed s word places scratch h =
     let (fits, h₂) = unless-done (eqb (length word) (wordLength s) && eqb (length scratch) (scratchLength s)) _ _ h₁ in
     let (wide, h₃) = unless-done (narrow (s .b) word) _ _ h₂ in
     let (up, h₄) = unless-done (rising (wordLength s) places) _ _ h₃ in
-    record { size = eqb-true _ _ (and-left _ _ fits); rises = up }
+    record { law = law; size = eqb-true _ _ (and-left _ _ fits); rises = up }
 
 never-both : (k : ℕ) (e : Refusal) (r : Decoded) → r ≡ Corrected k → r ≡ Refused e → ⊥
 never-both k e r a b = let z : _≡_ {A = ℕ} 0 1 = cc in omega arith
@@ -132,6 +134,22 @@ never-several {s} {word} {places} {scratch} {r = r} law few f e =
 pub n-few : (n : ℕ) → 2 ≤ n → n < apart n
 unfolding apart
 n-few n h = omega arith
+
+-- ---- damage on few listed places alone is undone
+decision-right : {s : Shape} {word places word′ v : List ℕ} {r : Decoded} → Lawful s → length places < apart (s .n) → Places (wordLength s) places
+    → Agrees s word places v → Decision s word places word′ r
+    → (r ≡ Corrected (differences s v word)) × (word′ ≡ v) × (decodedNumber r ≡ differences s v word)
+decision-right {v = v} law few h stored (inl a) = rw (a .only v stored) (a .answer, refl, a .number)
+decision-right {v = v} law few h stored (inr (inl a)) = absurd (a .none v stored)
+decision-right law few h stored (inr (inr a)) = absurd (no-choice law few h (inr (inr a)) (a .answer))
+
+-- the word that agrees off the list comes back, with how many symbols changed
+pub fill-right : {s : Shape} {word places scratch word′ scratch′ v : List ℕ} {r : Decoded} → fillStatus s word places scratch ≡ status.Done
+    → length places < apart (s .n) → Agrees s word places v → Filling s word places scratch word′ scratch′ r
+    → (r ≡ Corrected (differences s v word)) × (word′ ≡ v) × (decodedNumber r ≡ differences s v word)
+fill-right {s} {word} {places} {scratch} tests few stored f =
+    let p = passed s word places scratch tests in
+    decision-right (p .law) few (rising-places (p .rises)) stored (f .decided tests .0)
 
 -- ---- no places
 -- what agrees with the word is the word
