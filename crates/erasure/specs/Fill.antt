@@ -71,3 +71,13 @@ pub record Filling (s : Shape) (word places scratch word′ scratch′ : List �
       → (r ≡ Refused e) × (decodedNumber r ≡ 2 ^ 31 + refusalNumber e) × (word′ ≡ word) × (scratch′ ≡ scratchAfter e scratch)
   pub decided : fillStatus s word places scratch ≡ status.Done
       → (FilledIn s word places word′ r ⊎ (NoWord s word places word′ r ⊎ SeveralWords s word places word′ r)) × (scratch′ ≡ replicate (length scratch) 0)
+
+-- a codeword with one symbol changed, at a position that is not listed, which filling in answers with 13
+pub record Spoiled (s : Shape) (places : List ℕ) : Type 0 where
+  pub word : List ℕ
+  pub stored : List ℕ
+  pub codeword : Codeword s stored
+  pub changed : differences s stored word ≡ 1
+  pub passes : (scratch : List ℕ) → length scratch ≡ scratchLength s → fillStatus s word places scratch ≡ status.Done
+  pub gets : (scratch word′ scratch′ : List ℕ) (r : Decoded) → length scratch ≡ scratchLength s → Filling s word places scratch word′ scratch′ r
+      → r ≡ Refused Refusal.Unfillable
