@@ -11,7 +11,7 @@ use Rattle.parity.specs.Count.{sum, count}
 use Rattle.parity.specs.Cyclic.{Order}
 use Rattle.parity.proofs.Tests.{and-left, and-right}
 use Rattle.parity.proofs.Pigeon.{some-passes, count-others}
-use Rattle.distance.proofs.Residues.{rest, level}
+use Rattle.parity.proofs.Residues.{rest, level}
 
 -- for every a, (f x - f a) / (x - a) is a form of one degree less with the same value at the rows
 unfoldable pub Form : ℕ → (ℕ → ℕ) → ℕ → Type 0

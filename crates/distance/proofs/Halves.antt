@@ -4,13 +4,13 @@ use mathlib.Core.Bool.{Bool, true, false, _&&_}
 use mathlib.Core.Logic.{⊎-elim}
 use mathlib.Core.List.{List, [], _∷_}
 use Prim.Native.Nat.{ℕ, zero, suc, _+_, _-_, _*_, _/_, _%_, _<_}
-use native.Mathlib.Nat.{zero-mul, one-mul}
 use native.Mathlib.Omega.{arith}
 use lib.Dec.{eqb}
-use borrow.Author.Tests.{eq-eqb, ne-eqb, eqb-true}
+use borrow.Author.Tests.{eq-eqb, eqb-true}
 use Rattle.parity.specs.Count.{bit, sum, count}
-use Rattle.parity.proofs.Tests.{either, and-both, and-no-left}
-use Rattle.parity.proofs.Sums.{sum-cong, sum-add, sum-only, sum-exchange, sum-term, count-sum, bit-true, bit-false}
+use Rattle.parity.proofs.Tests.{either, and-both}
+use Rattle.parity.proofs.Sums.{sum-cong, sum-add, sum-pick, sum-term, count-sum, bit-true, bit-false}
+use Rattle.parity.proofs.Only.{sum-by-value}
 use Rattle.distance.proofs.Series.{sumOf}
 
 -- x put m times before a list
@@ -31,28 +31,10 @@ spread (suc n) m =
     let (ys, e) = spread n m in
     (times (m n) n ys, λ f. omega (arith, e f, sum-times (m n) n ys f))
 
-pub sum-mul : (n : ℕ) (f : ℕ → ℕ) (k : ℕ) → sum n (λ i. f i * k) ≡ sum n f * k
-unfolding sum
-sum-mul zero f k = sym (zero-mul k)
-sum-mul (suc n) f k = omega (arith, sum-mul n f k)
-
 module _ (N q : ℕ) (A : ℕ → Bool) (w : ℕ → ℕ) (below : (i : ℕ) → i < N → w i < q) where
   -- how many members have the value L
   has : ℕ → ℕ
   has L = count N (λ i. eqb (w i) L && A i)
-
-  by-value : (f : ℕ → ℕ) → sum N (λ i. bit (A i) * f (w i)) ≡ sum q (λ L. has L * f L)
-  unfolding has
-  by-value f =
-      sum-cong N _ (λ i. sum q (λ L. bit (eqb (w i) L && A i) * f L)) each ∙ sum-exchange N q _
-      ∙ sum-cong q _ _ (λ L l. sum-mul N _ (f L) ∙ ap (λ (k : ℕ). k * f L) (sym (count-sum N _)))
-    where
-      each : (i : ℕ) → i < N → bit (A i) * f (w i) ≡ sum q (λ L. bit (eqb (w i) L && A i) * f L)
-      each i l =
-          sym
-          (sum-only q (w i) (λ L. bit (eqb (w i) L && A i) * f L) (below i l)
-          (λ L lL ne. ap (λ (k : ℕ). k * f L) (bit-false (and-no-left (A i) (ne-eqb (w i) L (λ e. ne (sym e))))) ∙ zero-mul (f L))
-          ∙ ap (λ (b : Bool). bit (b && A i) * f (w i)) (eq-eqb (w i) (w i) refl))
 
   -- a member's value and others, each for two members
   pub halves : ((L : ℕ) → L < q → count N (λ i. eqb (w i) L && A i) % 2 ≡ 0) → (j : ℕ) → j < N → A j ≡ true
@@ -60,7 +42,7 @@ module _ (N q : ℕ) (A : ℕ → Bool) (w : ℕ → ℕ) (below : (i : ℕ) →
   unfolding has
   halves even j l h =
       let (ys, e) = spread q left in
-      (ys, λ f. by-value f ∙ sum-cong q _ _ (λ L lL. each f L lL) ∙ sum-add q _ _ ∙ omega (arith, sum-add q (λ L. bit (eqb L (w j)) * f L) (λ L. left L * f L), one f, e f))
+      (ys, λ f. sum-by-value N q A w below f ∙ sum-cong q _ _ (λ L lL. each f L lL) ∙ sum-add q _ _ ∙ omega (arith, sum-add q (λ L. bit (eqb L (w j)) * f L) (λ L. left L * f L), sum-pick q (w j) f (below j l), e f))
     where
       left : ℕ → ℕ
       left L = has L / 2 - bit (eqb L (w j))
@@ -75,9 +57,3 @@ module _ (N q : ℕ) (A : ℕ → Bool) (w : ℕ → ℕ) (below : (i : ℕ) →
 
       each : (f : ℕ → ℕ) (L : ℕ) → L < q → has L * f L ≡ (bit (eqb L (w j)) * f L + left L * f L) + (bit (eqb L (w j)) * f L + left L * f L)
       each f L lL = omega (arith, ap (λ (k : ℕ). k * f L) (twice L lL))
-
-      one : (f : ℕ → ℕ) → sum q (λ L. bit (eqb L (w j)) * f L) ≡ f (w j)
-      one f =
-          sum-only q (w j) (λ L. bit (eqb L (w j)) * f L) (below j l)
-          (λ L lL ne. ap (λ (k : ℕ). k * f L) (bit-false (ne-eqb L (w j) ne)) ∙ zero-mul (f L))
-          ∙ ap (λ (k : ℕ). k * f (w j)) (bit-true (eq-eqb (w j) (w j) refl)) ∙ one-mul (f (w j))

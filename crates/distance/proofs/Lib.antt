@@ -1,4 +1,3 @@
-pub mod Residues
 pub mod Series
 pub mod Forms
 pub mod Roots

@@ -12,7 +12,7 @@ use Rattle.parity.specs.Cyclic.{Order}
 use Rattle.parity.proofs.Tests.{and-left, and-right}
 use Rattle.parity.proofs.Sums.{count-not}
 use Rattle.parity.proofs.Pigeon.{some-passes, count-others, count-one}
-use Rattle.distance.proofs.Residues.{level}
+use Rattle.parity.proofs.Residues.{level}
 use Rattle.distance.proofs.Series.{over, over-apart}
 use Rattle.distance.proofs.Forms.{Form, form-add, form-linear, vanishes}
 

@@ -5,7 +5,7 @@ use Prim.Native.Nat.{ℕ, zero, suc, _+_, _*_, _<_, _≤_, _∣_}
 use native.Mathlib.Nat.{add-comm, dvd-add, dvd-mul-left-of-dvd, le-of-dvd, not-suc-le-zero}
 use native.Mathlib.Omega.{arith}
 use Rattle.parity.specs.Cyclic.{Order}
-use Rattle.distance.proofs.Residues.{rest, factor}
+use Rattle.parity.proofs.Residues.{rest, factor}
 
 -- the sequence a divided by 1 - x T; its entry n is the value at x of a 0 X^n + .. + a n
 unfoldable pub over : ℕ → (ℕ → ℕ) → ℕ → ℕ

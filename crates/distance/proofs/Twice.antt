@@ -1,68 +1,30 @@
 -- A set of places that every check meets in an even number has twice as many members as there are directions.
-use mathlib.Core.Path.{_≡_, refl, sym, ap, ap₂, _∙_, subst}
+use mathlib.Core.Path.{_≡_, refl, sym, ap, _∙_, subst}
 use mathlib.Core.Bool.{Bool, true}
 use mathlib.Core.Logic.{inl, Dec·not-not}
 use Prim.Native.Nat.{ℕ, suc, _+_, _-_, _*_, _/_, _%_, _<_, _≤_, _∣_}
-use native.Mathlib.Nat.{mod-mod, mod-eq-of-lt, mod-add-div', div-add-mod', div-lt-iff-lt-mul, dvd-mul-left, dvd-of-mod-eq-zero, mod-eq-zero-of-dvd, le-of-dvd}
-use native.Mathlib.Decide.{decDvd, decLe}
+use native.Mathlib.Nat.{mod-mod, mod-eq-of-lt, dvd-of-mod-eq-zero, mod-eq-zero-of-dvd, le-of-dvd}
+use native.Mathlib.Decide.{decLe}
 use native.Mathlib.Omega.{arith}
 use Rattle.parity.specs.Count.{bit, count}
 use Rattle.parity.specs.Cyclic.{Order}
-use Rattle.parity.proofs.Orders.{order-pos}
-use Rattle.parity.proofs.Modular.{cancel-add, cross}
-use Rattle.parity.proofs.Sums.{count-sum, count-all}
+use Rattle.parity.proofs.Residues.{factor, negated}
+use Rattle.parity.proofs.Sums.{sum-mul, count-sum, count-all}
 use Rattle.gtb.specs.declared.Shape.{Shape}
 use Rattle.gtb.specs.Shape.{Lawful, wordLength, slopeOf}
 use Rattle.gtb.specs.Square.{lineOf}
-use Rattle.gtb.proofs.Bounds.{bounds, positive}
+use Rattle.gtb.proofs.Bounds.{bounds}
 use Rattle.gtb.proofs.Slopes.{slope-lt, slope-apart}
-use Rattle.gtb.proofs.Lines.{line-zero, line-suc, line-lt}
+use Rattle.gtb.proofs.Lines.{along, line-zero, line-suc, line-lt, share-slopes}
 use Rattle.distance.proofs.Bits.{Even}
-use Rattle.distance.proofs.Residues.{factor}
 use Rattle.distance.proofs.Series.{sumOf}
-use Rattle.distance.proofs.Halves.{sum-mul, halves}
+use Rattle.distance.proofs.Halves.{halves}
 use Rattle.distance.proofs.Forms.{vanishes}
 use Rattle.distance.proofs.Values.{value, root, value-over, value-mods, value-form, root-form, even-zero}
 use Rattle.distance.proofs.Roots.{no-roots}
 
--- minus the inverse of d
-negated : (q : ℕ) → Order q → (d : ℕ) → (e : ℕ) × ((q ∣ d → ⊥) → q ∣ d * e + 1)
-negated q o d = go (decDvd q d)
-  where
-    go : Dec (q ∣ d) → (e : ℕ) × ((q ∣ d → ⊥) → q ∣ d * e + 1)
-    go (yes h) = (0, λ ne. absurd (ne h))
-    go (no ne) =
-        let (e, one) = o .inverse d (λ z. ne (dvd-of-mod-eq-zero q z)) in
-        let whole : d * e ≡ 1 + d * e / q * q = sym (mod-add-div' (d * e) q) ∙ ap (λ (k : ℕ). k + d * e / q * q) one in (
-          e * (q - 1),
-          λ _. subst (λ (k : ℕ). q ∣ k) (omega (arith, order-pos q o, ap (λ (k : ℕ). k * (q - 1)) whole)) (dvd-mul-left q (1 + d * e / q * (q - 1))),
-        )
-
 module _ (s : Shape) (law : Lawful s) where
-  -- two places share a line in one slope at most
-  once : (i j : ℕ) → i < wordLength s → j < wordLength s → (i ≡ j → ⊥) → (x y : ℕ) → x < s .q → y < s .q → (x ≡ y → ⊥)
-      → (i % s .q + x * (i / s .q)) % s .q ≡ (j % s .q + x * (j / s .q)) % s .q
-      → (i % s .q + y * (i / s .q)) % s .q ≡ (j % s .q + y * (j / s .q)) % s .q → ⊥
-  once i j li lj ne x y lx ly xy ex ey = ne (sym (div-add-mod' i (s .q)) ∙ ap₂ (λ (r c : ℕ). r * s .q + c) row column ∙ div-add-mod' j (s .q))
-    where
-      low : (j : ℕ) → j < wordLength s → j / s .q % s .q ≡ j / s .q
-      low j l = mod-eq-of-lt (div-lt-iff-lt-mul (positive s law) .1 l)
-
-      row : i / s .q ≡ j / s .q
-      row = sym (low i li) ∙ cross (s .q) (bounds s law .order) x y lx ly xy (i % s .q) (i / s .q) (j % s .q) (j / s .q) ex ey ∙ low j lj
-
-      column : i % s .q ≡ j % s .q
-      column =
-          sym (mod-mod i (s .q))
-          ∙ cancel-add (s .q) (i % s .q) (j % s .q) (x * (i / s .q)) (positive s law)
-          (ex ∙ ap (λ (r : ℕ). (j % s .q + x * r) % s .q) (sym row))
-          ∙ mod-mod j (s .q)
-
   module _ (A : ℕ → Bool) (ev : Even s A) where
-    -- the value of a place in the direction of slope x
-    abbrev along : ℕ → ℕ → ℕ
-    along x i = i % s .q + x * (i / s .q)
-
     -- 2 k members with k below n are none
     few : (k : ℕ) → k < s .n → count (wordLength s) A ≡ 2 * k → k < count (wordLength s) A → ⊥
     unfolding root
@@ -71,8 +33,8 @@ module _ (s : Shape) (law : Lawful s) where
           arith,
           bounds s law .q3,
           le-of-dvd {m = s .q} {n = 1} (omega arith)
-              (no-roots (s .q) o (wordLength s) (λ i. i % s .q) (λ i. i / s .q) once k kq (λ x. root N A c (along x)) _ (root-form N A c (λ i. i % s .q) (λ i. i / s .q)) A many
-              (λ i l h x. subst (λ (v : ℕ). s .q ∣ v) (value-over N A c (along x) k i) (everywhere i l h x))),
+              (no-roots (s .q) o (wordLength s) (λ i. i % s .q) (λ i. i / s .q) (λ i j li lj ne x y lx ly xy ex ey. ne (share-slopes s law x y i j lx ly xy li lj ex ey)) k kq (λ x. root N A c (along s x)) _ (root-form N A c (λ i. i % s .q) (λ i. i / s .q)) A many
+              (λ i l h x. subst (λ (v : ℕ). s .q ∣ v) (value-over N A c (along s x) k i) (everywhere i l h x))),
         )
       where
         N : ℕ
@@ -104,7 +66,7 @@ module _ (s : Shape) (law : Lawful s) where
             (even-zero N A c (s .q) k o kq inverse odd size (lineOf s t) (λ i l. line-lt s law t i lt l) (λ L lL. ev .even t L lt lL) i l h))
 
         -- so in all
-        everywhere : (i : ℕ) → i < N → A i ≡ true → (x : ℕ) → s .q ∣ value N A c (along x) k i
+        everywhere : (i : ℕ) → i < N → A i ≡ true → (x : ℕ) → s .q ∣ value N A c (along s x) k i
         everywhere i l h =
             vanishes (s .q) o k _ _ (value-form N A c (λ i. i % s .q) (λ i. i / s .q) k i) (s .n - 1) (λ t. slopeOf s (suc t)) (λ t. true)
             (λ t u lt lu tu e.

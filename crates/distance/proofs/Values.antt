@@ -8,10 +8,10 @@ use native.Mathlib.Omega.{arith}
 use lib.Dec.{eqb}
 use Rattle.parity.specs.Count.{bit, sum, count}
 use Rattle.parity.specs.Cyclic.{Order}
-use Rattle.parity.proofs.Sums.{sum-cong, count-sum}
-use Rattle.distance.proofs.Residues.{factor, add-mods, mul-mods, sum-mods}
+use Rattle.parity.proofs.Sums.{sum-cong, sum-mul, count-sum}
+use Rattle.parity.proofs.Residues.{factor, add-mods, mul-mods, sum-mods}
 use Rattle.distance.proofs.Series.{over, sumOf, Newton, newton-step, low}
-use Rattle.distance.proofs.Halves.{sum-mul, halves}
+use Rattle.distance.proofs.Halves.{halves}
 use Rattle.distance.proofs.Forms.{Form, form-number, form-add, form-scale, form-linear, form-sum}
 
 module _ (N : ℕ) (A : ℕ → Bool) (c : ℕ → ℕ) where

@@ -27,7 +27,7 @@ unfolding lineOf
 line-suc s t j = refl
 
 -- the lines of the position in row r, column c
-line-row : (s : Shape) (r c : ℕ) → c < s .q → lineOf s 0 (r * s .q + c) ≡ r
+pub line-row : (s : Shape) (r c : ℕ) → c < s .q → lineOf s 0 (r * s .q + c) ≡ r
 line-row s r c l = line-zero s (r * s .q + c) ∙ digits-div r l
 
 pub line-at : (s : Shape) (t r c : ℕ) → c < s .q → lineOf s (suc t) (r * s .q + c) ≡ (c + slopeOf s (suc t) * r) % s .q
@@ -84,28 +84,27 @@ check-size s h (suc t) L lt lL =
     count-sum _ _ ∙ sum-rows _ _ _
     ∙ each-once _ _ (λ r c. eqb (lineOf s (suc t) (r * s .q + c)) L) (λ r lr. only-count _ _ _ (row-only s h t r L lt lL))
 
--- two positions of a row are on different lines of direction t + 1
-same-row : (s : Shape) → Lawful s → (t i j : ℕ) → i / s .q ≡ j / s .q → lineOf s (suc t) i ≡ lineOf s (suc t) j → i ≡ j
-same-row s h t i j row line =
+-- ---- lines of any slope x, also of one that no direction has: on the line of a position, this has one value modulo q
+abbrev pub along : Shape → ℕ → ℕ → ℕ
+along s x j = j % s .q + x * (j / s .q)
+
+-- two positions of a row are on different lines of a slope
+pub same-row : (s : Shape) → Lawful s → (x i j : ℕ) → i / s .q ≡ j / s .q → along s x i % s .q ≡ along s x j % s .q → i ≡ j
+same-row s h x i j row line =
     sym (div-add-mod' i (s .q)) ∙ ap₂ (λ (r c : ℕ). r * s .q + c) row column ∙ div-add-mod' j (s .q)
   where
     column : i % s .q ≡ j % s .q
     column =
         sym (mod-mod i (s .q))
-        ∙ cancel-add (s .q) (i % s .q) (j % s .q) (slopeOf s (suc t) * (i / s .q)) (positive s h)
-        (sym (line-suc s t i) ∙ line ∙ line-suc s t j ∙ ap (λ (r : ℕ). (j % s .q + slopeOf s (suc t) * r) % s .q) (sym row))
+        ∙ cancel-add (s .q) (i % s .q) (j % s .q) (x * (i / s .q)) (positive s h) (line ∙ ap (λ (r : ℕ). (j % s .q + x * r) % s .q) (sym row))
         ∙ mod-mod j (s .q)
 
--- two positions that share lines of two directions from 1 on are in one row
-row-shared : (s : Shape) → Lawful s → (t u i j : ℕ) → suc t < s .n → suc u < s .n → (suc t ≡ suc u → ⊥) → i < wordLength s → j < wordLength s
-    → lineOf s (suc t) i ≡ lineOf s (suc t) j → lineOf s (suc u) i ≡ lineOf s (suc u) j → i / s .q ≡ j / s .q
-row-shared s h t u i j lt lu ne li lj et eu =
-    sym (low i li)
-    ∙ cross (s .q) (bounds s h .order) (slopeOf s (suc t)) (slopeOf s (suc u))
-    (slope-lt s h (suc t) (omega arith) lt) (slope-lt s h (suc u) (omega arith) lu)
-    (slope-apart s h (suc t) (suc u) (omega arith) lt (omega arith) lu ne) (i % s .q) (i / s .q) (j % s .q) (j / s .q)
-    (sym (line-suc s t i) ∙ et ∙ line-suc s t j) (sym (line-suc s u i) ∙ eu ∙ line-suc s u j)
-    ∙ low j lj
+-- two positions that share lines of two slopes are the same
+pub share-slopes : (s : Shape) → Lawful s → (x y i j : ℕ) → x < s .q → y < s .q → (x ≡ y → ⊥) → i < wordLength s → j < wordLength s
+    → along s x i % s .q ≡ along s x j % s .q → along s y i % s .q ≡ along s y j % s .q → i ≡ j
+share-slopes s h x y i j lx ly ne li lj ex ey =
+    same-row s h x i j
+    (sym (low i li) ∙ cross (s .q) (bounds s h .order) x y lx ly ne (i % s .q) (i / s .q) (j % s .q) (j / s .q) ex ey ∙ low j lj) ex
   where
     low : (j : ℕ) → j < wordLength s → j / s .q % s .q ≡ j / s .q
     low j l = mod-eq-of-lt (div-lt-iff-lt-mul (positive s h) .1 l)
@@ -115,8 +114,11 @@ pub share-one : (s : Shape) → Lawful s → (i j : ℕ) → i < wordLength s �
     → lineOf s t i ≡ lineOf s t j → lineOf s u i ≡ lineOf s u j → ⊥
 share-one s h i j li lj ne zero zero lt lu tu et eu = tu refl
 share-one s h i j li lj ne zero (suc u) lt lu tu et eu =
-    ne (same-row s h u i j (sym (line-zero s i) ∙ et ∙ line-zero s j) eu)
+    ne (same-row s h _ i j (sym (line-zero s i) ∙ et ∙ line-zero s j) (sym (line-suc s u i) ∙ eu ∙ line-suc s u j))
 share-one s h i j li lj ne (suc t) zero lt lu tu et eu =
-    ne (same-row s h t i j (sym (line-zero s i) ∙ eu ∙ line-zero s j) et)
+    ne (same-row s h _ i j (sym (line-zero s i) ∙ eu ∙ line-zero s j) (sym (line-suc s t i) ∙ et ∙ line-suc s t j))
 share-one s h i j li lj ne (suc t) (suc u) lt lu tu et eu =
-    ne (same-row s h t i j (row-shared s h t u i j lt lu tu li lj et eu) et)
+    ne
+    (share-slopes s h _ _ i j (slope-lt s h (suc t) (omega arith) lt) (slope-lt s h (suc u) (omega arith) lu)
+    (slope-apart s h (suc t) (suc u) (omega arith) lt (omega arith) lu tu) li lj
+    (sym (line-suc s t i) ∙ et ∙ line-suc s t j) (sym (line-suc s u i) ∙ eu ∙ line-suc s u j))

@@ -7,6 +7,7 @@ pub mod Sums
 pub mod Lists
 pub mod Orders
 pub mod Modular
+pub mod Residues
 pub mod Only
 pub mod Pigeon
 pub mod Cycles

@@ -1,15 +1,15 @@
 -- Counts against the size of the range: who passes, who fails, and one member set apart.
-use mathlib.Core.Path.{_≡_, refl}
+use mathlib.Core.Path.{_≡_, refl, sym, _∙_}
 use mathlib.Core.Bool.{Bool, true, false, not, _&&_}
 use mathlib.Core.Logic.{⊎-elim}
-use Prim.Native.Nat.{ℕ, zero, suc, _+_, _<_, _≤_}
+use Prim.Native.Nat.{ℕ, zero, suc, _+_, _-_, _<_, _≤_}
 use native.Mathlib.Nat.{not-suc-le-zero, le-step, lt-suc-self}
 use native.Mathlib.Omega.{arith}
 use lib.Dec.{eqb}
-use borrow.Author.Tests.{eq-eqb, ne-eqb, not-false}
+use borrow.Author.Tests.{eq-eqb, ne-eqb, eqb-true, eqb-false, not-false}
 use Rattle.parity.specs.Count.{bit, sum, count, any}
 use Rattle.parity.proofs.Tests.{either, and-left, and-both, and-no-right, any-elim, any-no}
-use Rattle.parity.proofs.Sums.{sum-cong, sum-add, sum-only, sum-term, bit-le, bit-true, bit-false, count-none, count-le, count-not}
+use Rattle.parity.proofs.Sums.{sum-cong, sum-add, sum-le, sum-exchange, sum-only, sum-term, sum-const, bit-le, bit-true, bit-false, count-none, count-le, count-not}
 
 -- the count is below the size: some number fails
 pub some-fails : (n : ℕ) (p : ℕ → Bool) → count n p < n → (i : ℕ) × (i < n) × (p i ≡ false)
@@ -56,6 +56,37 @@ count-one n p h =
     ))
     (λ (f : any n p ≡ false). omega (arith, count-none n p (any-no n p f)))
     (either (any n p))
+
+-- n values leave out some number of more than n
+pub left-out : (n m : ℕ) (f : ℕ → ℕ) → n < m → (x : ℕ) × (x < m) × ((i : ℕ) → i < n → f i ≡ x → ⊥)
+unfolding count
+left-out n m f l =
+    let (x, lx, out) =
+    some-fails m (λ x. any n (taken x))
+    (omega (
+      arith,
+      sum-le m (λ x. bit (any n (taken x))) (λ x. count n (taken x)) (λ x lx. any-count n (taken x)),
+      sum-exchange m n (λ x i. bit (taken x i)),
+      sum-le n (λ i. count m (λ x. taken x i)) (λ i. 1)
+          (λ i li. count-one m (λ x. taken x i) (λ x y lx ly ne a b. ne (sym (eqb-true (f i) x a) ∙ eqb-true (f i) y b))),
+      sum-const n 1,
+    )) in
+    (x, lx, λ i li. eqb-false (f i) x (any-no n (taken x) out i li))
+  where
+    taken : ℕ → ℕ → Bool
+    taken x i = eqb (f i) x
+
+-- n terms of at most 1 that add up to n
+pub all-ones : (n : ℕ) (f : ℕ → ℕ) → ((i : ℕ) → i < n → f i ≤ 1) → sum n f ≡ n → (i : ℕ) → i < n → f i ≡ 1
+all-ones n f small full i l =
+    omega (
+      arith,
+      small i l,
+      sum-term n (λ i. 1 - f i) i l,
+      sum-add n (λ i. 1 - f i) f,
+      sum-cong n (λ i. 1 - f i + f i) (λ i. 1) (λ i l. omega (arith, small i l)),
+      sum-const n 1,
+    )
 
 -- a is so with b or without
 bit-apart : (a b : Bool) → bit a ≡ bit (a && not b) + bit (a && b)

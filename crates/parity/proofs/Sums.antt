@@ -1,11 +1,13 @@
 -- Laws of sums and counts over a range.
 use mathlib.Core.Path.{_≡_, refl, sym, ap, ap₂, _∙_, subst}
-use mathlib.Core.Bool.{Bool, true, false, not}
+use mathlib.Core.Bool.{Bool, true, false, not, _&&_, _||_}
 use mathlib.Core.Logic.{⊎-elim}
 use Prim.Native.Nat.{ℕ, zero, suc, _+_, _*_, _<_, _≤_}
-use native.Mathlib.Nat.{not-suc-le-zero, le-of-suc-le-suc, eq-or-lt-of-le, le-step, lt-suc-self, add-zero, add-suc, add-le-add, zero-mul, suc-mul, le-refl}
+use native.Mathlib.Nat.{not-suc-le-zero, le-of-suc-le-suc, eq-or-lt-of-le, le-step, lt-suc-self, add-zero, add-suc, add-le-add, zero-mul, one-mul, suc-mul, le-refl}
 use native.Mathlib.Numerals.{add-one}
 use native.Mathlib.Omega.{arith}
+use lib.Dec.{eqb, ltb}
+use borrow.Author.Tests.{lt-ltb, le-ltb, eq-eqb, ne-eqb}
 use Rattle.parity.specs.Count.{bit, sum, count}
 
 pub sum-zero : (f : ℕ → ℕ) → sum 0 f ≡ 0
@@ -79,6 +81,12 @@ sum-rows (suc n) q f =
     ap (λ (k : ℕ). sum k f) (suc-mul n q) ∙ sum-split (n * q) q f ∙ ap (λ (x : ℕ). x + sum q (λ c. f (n * q + c))) (sum-rows n q f)
     ∙ sym (sum-suc n (λ r. sum q (λ c. f (r * q + c))))
 
+-- a common factor
+pub sum-mul : (n : ℕ) (f : ℕ → ℕ) (k : ℕ) → sum n (λ i. f i * k) ≡ sum n f * k
+unfolding sum
+sum-mul zero f k = sym (zero-mul k)
+sum-mul (suc n) f k = omega (arith, sum-mul n f k)
+
 pub sum-const : (n k : ℕ) → sum n (λ i. k) ≡ n * k
 unfolding sum
 sum-const zero k = sym (zero-mul k)
@@ -98,6 +106,16 @@ pub bit-false : {b : Bool} → b ≡ false → bit b ≡ 0
 unfolding bit
 bit-false h = ap bit h
 
+pub bit-and : (a b : Bool) → bit (a && b) ≡ bit a * bit b
+unfolding bit
+bit-and true b = sym (one-mul (bit b))
+bit-and false b = sym (zero-mul (bit b))
+
+bit-or : (a b : Bool) → bit (a || b) ≤ bit a + bit b
+unfolding bit
+bit-or true b = omega arith
+bit-or false b = omega arith
+
 pub count-sum : (n : ℕ) (p : ℕ → Bool) → count n p ≡ sum n (λ i. bit (p i))
 unfolding count
 count-sum n p = refl
@@ -115,6 +133,12 @@ pub count-cong : (n : ℕ) (p r : ℕ → Bool) → ((i : ℕ) → i < n → p i
 unfolding count
 count-cong n p r h = sum-cong n (λ i. bit (p i)) (λ i. bit (r i)) (λ i l. ap bit (h i l))
 
+-- the term at k alone
+pub sum-pick : (n k : ℕ) (f : ℕ → ℕ) → k < n → sum n (λ i. bit (eqb i k) * f i) ≡ f k
+sum-pick n k f l =
+    sum-only n k (λ i. bit (eqb i k) * f i) l (λ i li ne. ap (λ (x : ℕ). x * f i) (bit-false (ne-eqb i k ne)) ∙ zero-mul (f i))
+    ∙ ap (λ (x : ℕ). x * f k) (bit-true (eq-eqb k k refl)) ∙ one-mul (f k)
+
 pub count-none : (n : ℕ) (p : ℕ → Bool) → ((i : ℕ) → i < n → p i ≡ false) → count n p ≡ 0
 unfolding count
 count-none n p h = sum-none n (λ i. bit (p i)) (λ i l. bit-false (h i l))
@@ -128,6 +152,10 @@ bit-mono false b h = omega arith
 pub count-le : (n : ℕ) (p r : ℕ → Bool) → ((i : ℕ) → i < n → p i ≡ true → r i ≡ true) → count n p ≤ count n r
 unfolding count
 count-le n p r h = sum-le n (λ i. bit (p i)) (λ i. bit (r i)) (λ i l. bit-mono (p i) (r i) (h i l))
+
+pub count-or : (n : ℕ) (p r : ℕ → Bool) → count n (λ i. p i || r i) ≤ count n p + count n r
+unfolding count
+count-or n p r = omega (arith, sum-le n (λ i. bit (p i || r i)) (λ i. bit (p i) + bit (r i)) (λ i l. bit-or (p i) (r i)), sum-add n (λ i. bit (p i)) (λ i. bit (r i)))
 
 pub count-bound : (n : ℕ) (p : ℕ → Bool) → count n p ≤ n
 unfolding count sum
@@ -148,3 +176,14 @@ count-not (suc n) p = let ih = count-not n p in let h = bit-not (p n) in omega a
 -- all pass
 pub count-all : (n : ℕ) (p : ℕ → Bool) → ((i : ℕ) → i < n → p i ≡ true) → count n p ≡ n
 count-all n p h = omega (arith, count-not n p, count-none n (λ i. not (p i)) (λ i l. ap not (h i l)))
+
+-- the numbers below k
+pub count-below : (k m : ℕ) → count (k + m) (λ i. ltb i k) ≡ k
+unfolding count
+count-below k m =
+    omega (
+      arith,
+      sum-split k m (λ i. bit (ltb i k)),
+      count-all k (λ i. ltb i k) (λ i l. lt-ltb i k l),
+      sum-none m (λ i. bit (ltb (k + i) k)) (λ i l. bit-false (le-ltb (k + i) k (omega arith))),
+    )

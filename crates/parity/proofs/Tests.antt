@@ -122,6 +122,10 @@ or-right false b h = h
 or-none : {a b : Bool} → a ≡ false → b ≡ false → (a || b) ≡ false
 or-none ha hb = ap₂ (λ (x y : Bool). x || y) ha hb
 
+pub or-no : (a b : Bool) → (a || b) ≡ false → (a ≡ false) × (b ≡ false)
+or-no true b h = (h, absurd (clash refl h))
+or-no false b h = (refl, h)
+
 pub any-elim : (n : ℕ) (p : ℕ → Bool) → any n p ≡ true → (i : ℕ) × (i < n) × (p i ≡ true)
 unfolding any
 any-elim zero p h = absurd (clash h refl)

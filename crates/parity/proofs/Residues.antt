@@ -1,12 +1,13 @@
 -- Multiples of q, and numbers that are equal modulo q.
 use mathlib.Core.Path.{_≡_, refl, sym, ap, ap₂, _∙_, subst}
-use Prim.Native.Nat.{ℕ, zero, suc, _+_, _-_, _*_, _%_, _∣_}
-use native.Mathlib.Nat.{mul-zero, mul-suc, mul-comm, zero-mod, add-mod, dvd-add, dvd-add-iff-right, dvd-mul-left, dvd-of-mod-eq-zero, mod-eq-zero-of-dvd}
+use Prim.Native.Nat.{ℕ, zero, suc, _+_, _-_, _*_, _/_, _%_, _∣_}
+use native.Mathlib.Nat.{mul-zero, mul-suc, mul-comm, zero-mod, add-mod, mod-add-div', dvd-add, dvd-add-iff-right, dvd-mul-left, dvd-of-mod-eq-zero, mod-eq-zero-of-dvd}
+use native.Mathlib.Decide.{decDvd}
 use native.Mathlib.Omega.{arith}
 use Rattle.parity.specs.Count.{sum}
 use Rattle.parity.specs.Cyclic.{Order}
-use Rattle.parity.proofs.Orders.{mod-mul-mod}
+use Rattle.parity.proofs.Orders.{mod-mul-mod, order-pos}
 use Rattle.parity.proofs.Modular.{cancel-mul, no-step}
 
 -- what is left of a multiple when a multiple is taken off
 pub rest : (q : ℕ) {x y : ℕ} → q ∣ x + y → q ∣ x → q ∣ y
@@ -17,6 +18,19 @@ pub factor : (q : ℕ) → Order q → (d x : ℕ) → (q ∣ d → ⊥) → q �
 factor q o d x ne h =
     dvd-of-mod-eq-zero q
     (cancel-mul q o d x 0 (λ z. ne (dvd-of-mod-eq-zero q z)) (mod-eq-zero-of-dvd q h ∙ sym (ap (λ (k : ℕ). k % q) (mul-zero d) ∙ zero-mod q)) ∙ zero-mod q)
+
+-- minus the inverse of d
+pub negated : (q : ℕ) → Order q → (d : ℕ) → (e : ℕ) × ((q ∣ d → ⊥) → q ∣ d * e + 1)
+negated q o d = go (decDvd q d)
+  where
+    go : Dec (q ∣ d) → (e : ℕ) × ((q ∣ d → ⊥) → q ∣ d * e + 1)
+    go (yes h) = (0, λ ne. absurd (ne h))
+    go (no ne) =
+        let (e, one) = o .inverse d (λ z. ne (dvd-of-mod-eq-zero q z)) in
+        let whole : d * e ≡ 1 + d * e / q * q = sym (mod-add-div' (d * e) q) ∙ ap (λ (k : ℕ). k + d * e / q * q) one in (
+          e * (q - 1),
+          λ _. subst (λ (k : ℕ). q ∣ k) (omega (arith, order-pos q o, ap (λ (k : ℕ). k * (q - 1)) whole)) (dvd-mul-left q (1 + d * e / q * (q - 1))),
+        )
 
 -- the same w times different a and b: if only multiples are added, w is a multiple
 pub level : (q : ℕ) → Order q → (a b u v w : ℕ) → (a % q ≡ b % q → ⊥) → u + a * w ≡ v + b * w → q ∣ u → q ∣ v → q ∣ w
