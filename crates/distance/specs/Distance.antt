@@ -2,7 +2,7 @@
 use mathlib.Core.Path.{_≡_}
 use mathlib.Core.Bool.{Bool, false, not}
 use mathlib.Core.List.{List}
-use Prim.Native.Nat.{ℕ, _+_, _<_, _≤_}
+use Prim.Native.Nat.{ℕ, _*_, _<_, _≤_}
 use lib.Dec.{eqb}
 use Rattle.parity.specs.Count.{count}
 use Rattle.gtb.specs.declared.Shape.{Shape}
@@ -15,11 +15,19 @@ differences s v w = count (wordLength s) (λ j. not (eqb (at v j) (at w j)))
 
 -- so far apart are different codewords at least: twice the number of directions
 unfoldable pub apart : ℕ → ℕ
-apart n = n + n
+apart n = 2 * n
 
 -- different codewords of a shape are that far apart
 pub record Distance (s : Shape) : Type 0 where
   pub least : (v w : List ℕ) → Codeword s v → Codeword s w → (v ≡ w → ⊥) → apart (s .n) ≤ differences s v w
+
+-- two codewords of the shape that differ at exactly k places
+pub record Attained (s : Shape) (k : ℕ) : Type 0 where
+  pub one : List ℕ
+  pub other : List ℕ
+  pub codeword : Codeword s one
+  pub codewordToo : Codeword s other
+  pub differ : differences s one other ≡ k
 
 -- the places of a list leave no choice: two codewords that are the same off the marked places are the same
 pub record Sure (s : Shape) (marked : ℕ → Bool) : Type 0 where
