@@ -10,9 +10,10 @@ use lib.Dec.{eqb}
 use borrow.Author.Tests.{eqb-true, eqb-false}
 use Rattle.parity.specs.Xor.{_⊕_, xorSum, when}
 use Rattle.parity.specs.Count.{bit, sum, count}
+use Rattle.parity.proofs.Xors.{when-lt}
 use Rattle.parity.proofs.Tests.{either}
-use Rattle.parity.proofs.Sums.{bit-true, bit-false, count-cong}
-use Rattle.parity.proofs.XorSums.{cong}
+use Rattle.parity.proofs.Sums.{bit-le, bit-true, bit-false, count-cong}
+use Rattle.parity.proofs.XorSums.{cong, bound}
 use Rattle.gtb.specs.declared.Shape.{Shape}
 use Rattle.gtb.specs.Shape.{wordLength}
 use Rattle.gtb.specs.Square.{lineOf, syndrome, Silent}
@@ -35,10 +36,10 @@ unfolding xorSum
 halves zero g = refl
 halves (suc n) g = ap (λ (x : ℕ). x ⊕ g n / 2) (halves n g) ∙ sym (half (xorSum n g) (g n))
 
-abbrev odd : ℕ → Bool
+abbrev pub odd : ℕ → Bool
 odd x = eqb (x % 2) 1
 
-bit-odd : (x : ℕ) → bit (odd x) ≡ x % 2
+pub bit-odd : (x : ℕ) → bit (odd x) ≡ x % 2
 bit-odd x =
     ⊎-elim (λ (t : odd x ≡ true). bit-true t ∙ sym (eqb-true (x % 2) 1 t))
     (λ (f : odd x ≡ false). let ne = eqb-false (x % 2) 1 f in bit-false f ∙ omega arith) (either (odd x))
@@ -72,6 +73,27 @@ silent-even s f quiet = record {
   even = λ t L lt l.
       ap (λ (x : ℕ). x % 2) (count-cong _ _ _ (λ j lj. when-odd (eqb (lineOf s t j) L) (f j))) ∙ odds _ _
       ∙ ap (λ (x : ℕ). x % 2) (quiet .silent t L lt l);
+}
+
+-- and back: the word with 1 at the members of an even set is silent
+odd-bit : (b a : Bool) → odd (when b (bit a)) ≡ (b && a)
+unfolding bit when
+odd-bit true true = refl
+odd-bit true false = refl
+odd-bit false a = refl
+
+pub even-silent : (s : Shape) (A : ℕ → Bool) → Even s A → Silent s (λ j. bit (A j))
+unfolding syndrome
+even-silent s A ev = record {
+  silent = λ t L lt l.
+      let f : ℕ → ℕ = λ j. when (eqb (lineOf s t j) L) (bit (A j)) in
+      omega (
+        arith,
+        ev .even t L lt l,
+        count-cong (wordLength s) (λ j. odd (f j)) (λ j. eqb (lineOf s t j) L && A j) (λ j lj. odd-bit (eqb (lineOf s t j) L) (A j)),
+        odds (wordLength s) f,
+        bound 1 (wordLength s) f (λ j lj. when-lt 1 (eqb (lineOf s t j) L) (bit (A j)) (omega (arith, bit-le (A j)))),
+      );
 }
 
 -- an even set with j, where no symbol is 0

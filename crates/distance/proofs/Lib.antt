@@ -5,6 +5,8 @@ pub mod Halves
 pub mod Values
 pub mod Bits
 pub mod Twice
+pub mod Attained
+pub mod Sharp
 pub mod Differences
 pub mod Distance
 pub mod Examples
