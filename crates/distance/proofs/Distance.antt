@@ -1,22 +1,23 @@
 -- The distance of codewords, and the erasures that leave no choice.
 use mathlib.Core.Path.{_≡_, sym, ap, _∙_}
-use mathlib.Core.Bool.{Bool, true, false}
+use mathlib.Core.Bool.{Bool, true, false, _||_}
 use mathlib.Core.List.{List}
 use mathlib.Core.Logic.{⊎-elim, Dec·not-not}
-use Prim.Native.Nat.{ℕ, _<_}
+use Prim.Native.Nat.{ℕ, _*_, _<_, _≤_}
 use native.Mathlib.Decide.{ℕ-discrete}
 use native.Mathlib.Omega.{arith}
 use lib.Seq.{ext-getD}
-use borrow.Author.Tests.{ne-eqb, eqb-false, not-true}
+use borrow.Author.Tests.{ne-eqb, eqb-true, eqb-false, not-true, not-false}
 use Rattle.parity.specs.Xor.{_⊕_}
 use Rattle.parity.specs.Count.{count}
 use Rattle.parity.proofs.Xors.{self, eq-of-zero}
-use Rattle.parity.proofs.Tests.{either, not-of-false}
-use Rattle.parity.proofs.Sums.{count-le}
+use Rattle.parity.proofs.Tests.{either, or-no, not-of-false}
+use Rattle.parity.proofs.Sums.{count-le, count-or}
 use Rattle.gtb.specs.declared.Shape.{Shape}
 use Rattle.gtb.specs.Shape.{Lawful, wordLength}
-use Rattle.gtb.specs.Square.{at}
-use Rattle.distance.specs.Distance.{differences, apart, Distance, Sure}
+use Rattle.gtb.specs.Square.{at, Codeword}
+use Rattle.gtb.proofs.Bounds.{bounds}
+use Rattle.distance.specs.Distance.{differences, apart, Distance, Sure, Near}
 use Rattle.distance.proofs.Bits.{bit-inside}
 use Rattle.distance.proofs.Twice.{twice}
 use Rattle.distance.proofs.Differences.{differs, difference-silent, some-differs}
@@ -38,6 +39,15 @@ distance s law = record {
       );
 }
 
+-- (N14) four with two directions, six with three or more
+pub four-apart : (s : Shape) → Lawful s → (v w : List ℕ) → Codeword s v → Codeword s w → (v ≡ w → ⊥) → 4 ≤ differences s v w
+unfolding apart
+four-apart s law v w hv hw ne = omega (arith, bounds s law .n2, distance s law .least v w hv hw ne)
+
+pub six-apart : (s : Shape) → Lawful s → 3 ≤ s .n → (v w : List ℕ) → Codeword s v → Codeword s w → (v ≡ w → ⊥) → 6 ≤ differences s v w
+unfolding apart
+six-apart s law n3 v w hv hw ne = omega (arith, distance s law .least v w hv hw ne)
+
 -- fewer erasures than the distance
 pub few-sure : (s : Shape) → Lawful s → (marked : ℕ → Bool) → count (wordLength s) marked < apart (s .n) → Sure s marked
 unfolding differences
@@ -56,3 +66,15 @@ few-sure s law marked few = record {
             (either (marked i))),
       )));
 }
+
+-- at most one codeword is within less than half the distance of a word, and it has one number
+pub within-unique : (s : Shape) → Lawful s → (limit : ℕ) → 2 * limit < apart (s .n) → (w v v′ : List ℕ) (k k′ : ℕ)
+    → Near s limit w v k → Near s limit w v′ k′ → (v ≡ v′) × (k ≡ k′)
+unfolding differences
+within-unique s law limit half w v v′ k k′ x y = (same, sym (x .changed) ∙ ap (λ (u : List ℕ). differences s u w) same ∙ y .changed)
+  where
+    same : v ≡ v′
+    same =
+        few-sure s law (λ j. differs v w j || differs v′ w j)
+        (omega (arith, count-or (wordLength s) (differs v w) (differs v′ w), x .changed, y .changed, x .few, y .few)) .one v v′ (x .codeword) (y .codeword)
+        (λ j l h. let (a, b) = or-no (differs v w j) (differs v′ w j) h in eqb-true _ _ (not-false _ a) ∙ sym (eqb-true _ _ (not-false _ b)))

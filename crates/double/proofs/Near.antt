@@ -1,19 +1,19 @@
 -- A codeword near a word: there is one at most, and the word differs from it by an error that shows in its syndromes.
-use mathlib.Core.Path.{_≡_, refl, sym, ap, _∙_}
-use mathlib.Core.Bool.{Bool, true, false, not, _&&_, _||_}
+use mathlib.Core.Path.{_≡_, sym, ap, _∙_}
+use mathlib.Core.Bool.{Bool, true, false, not, _&&_}
 use mathlib.Core.List.{List}
 use mathlib.Core.Logic.{⊎-elim, Dec·not-not}
-use Prim.Native.Nat.{ℕ, _+_, _^_, _<_, _≤_}
+use Prim.Native.Nat.{ℕ, _^_, _<_, _≤_}
 use native.Mathlib.Decide.{ℕ-discrete}
 use native.Mathlib.Omega.{arith}
 use lib.Dec.{eqb}
-use borrow.Author.Tests.{eq-eqb, ne-eqb, eqb-true, not-false}
+use borrow.Author.Tests.{eq-eqb, ne-eqb, eqb-true}
 use Rattle.parity.specs.Xor.{_⊕_, when}
-use Rattle.parity.specs.Count.{bit, count, any, all}
+use Rattle.parity.specs.Count.{count, any, all}
 use Rattle.parity.proofs.Xors.{xors, comm, zero-r, when-zero}
 use Rattle.parity.proofs.XorSums.{only}
 use Rattle.parity.proofs.Tests.{either, clash, and-both, not-of-false, all-intro, all-cong, any-elim, any-intro, any-no}
-use Rattle.parity.proofs.Sums.{sum-le, sum-add, bit-true, count-cong}
+use Rattle.parity.proofs.Sums.{bit-true, count-cong}
 use Rattle.parity.proofs.Pigeon.{any-count, count-others}
 use Rattle.gtb.specs.declared.Shape.{Shape}
 use Rattle.gtb.specs.Shape.{Lawful, wordLength}
@@ -23,39 +23,15 @@ use Rattle.gtb.proofs.Words.{test-silent}
 use Rattle.gtb.proofs.Crossing.{eqb-xor}
 use Rattle.distance.specs.Distance.{differences, apart, Near}
 use Rattle.distance.proofs.Differences.{differs}
-use Rattle.distance.proofs.Distance.{few-sure}
+use Rattle.distance.proofs.Distance.{within-unique}
 use Rattle.correction.specs.Error.{onCheck, mended}
 use Rattle.correction.proofs.Errors.{mended-at, mended-word}
 use Rattle.double.proofs.Pairs.{when-here}
 
--- ---- one at most
-no-part : (a b : Bool) → (a || b) ≡ false → (a ≡ false) × (b ≡ false)
-no-part true b h = (h, absurd (clash refl h))
-no-part false b h = (refl, h)
-
-bit-or : (a b : Bool) → bit (a || b) ≤ bit a + bit b
-unfolding bit
-bit-or true b = omega arith
-bit-or false b = omega arith
-
-count-or : (n : ℕ) (p r : ℕ → Bool) → count n (λ i. p i || r i) ≤ count n p + count n r
-unfolding count
-count-or n p r = omega (arith, sum-le n (λ i. bit (p i || r i)) (λ i. bit (p i) + bit (r i)) (λ i l. bit-or (p i) (r i)), sum-add n (λ i. bit (p i)) (λ i. bit (r i)))
-
-six-apart : (n : ℕ) → 3 ≤ n → 6 ≤ apart n
-unfolding apart
-six-apart n h = omega arith
-
 -- two within two symbols of a word are within four of each other
 pub near-unique : (s : Shape) → Lawful s → 3 ≤ s .n → (w v v′ : List ℕ) (k k′ : ℕ) → Near s 2 w v k → Near s 2 w v′ k′ → (v ≡ v′) × (k ≡ k′)
-unfolding differences
-near-unique s law n3 w v v′ k k′ x y = (same, sym (x .changed) ∙ ap (λ (u : List ℕ). count (wordLength s) (differs u w)) same ∙ y .changed)
-  where
-    same : v ≡ v′
-    same =
-        few-sure s law (λ j. differs v w j || differs v′ w j)
-        (omega (arith, six-apart (s .n) n3, count-or (wordLength s) (differs v w) (differs v′ w), x .changed, y .changed, x .few, y .few)) .one v v′ (x .codeword) (y .codeword)
-        (λ j l h. let (a, b) = no-part (differs v w j) (differs v′ w j) h in eqb-true _ _ (not-false _ a) ∙ sym (eqb-true _ _ (not-false _ b)))
+unfolding apart
+near-unique s law n3 = within-unique s law 2 (omega arith)
 
 -- ---- one member at most: it is here, or there is none
 pub lone : (n : ℕ) (p : ℕ → Bool) → 0 < n → count n p ≤ 1 → (i : ℕ) × (i < n) × ((m : ℕ) → m < n → p m ≡ true → m ≡ i)
