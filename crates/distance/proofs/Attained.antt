@@ -1,4 +1,4 @@
--- An even set of m places gives two codewords that differ at m places; so does a list of 2 n places, if each line has an even number of them.
+-- Codewords from places: an even set is where two codewords differ, and so are 2 n places of which each line has an even number.
 use mathlib.Core.Path.{_≡_, refl, ap, ap₂, _∙_, subst}
 use mathlib.Core.Bool.{Bool, true, false, not, _&&_}
 use mathlib.Core.List.{List, [], _∷_}
@@ -19,13 +19,12 @@ use Rattle.gtb.specs.Square.{lineOf, Codeword}
 use Rattle.gtb.proofs.Bounds.{bounds}
 use Rattle.gtb.proofs.Rows.{syndrome-cong}
 use Rattle.gtb.proofs.Words.{tabulate-word}
-use Rattle.distance.specs.Distance.{differences, apart, Attained}
-use Rattle.distance.proofs.Bits.{Even, odd, bit-odd, even-silent}
-use Rattle.distance.proofs.Series.{sumOf}
+use Rattle.distance.specs.Distance.{differences, Attained}
+use Rattle.distance.proofs.Even.{Even, odd, bit-odd, even-silent}
+use Rattle.distance.proofs.Polynomials.{sumOf}
 use Rattle.distance.proofs.Twice.{twice}
 
--- ---- the members of an even set are the places where two codewords differ
--- 1 at the members, 0 elsewhere
+-- ---- an even set: 1 at its members, 0 elsewhere, and the zero word
 abbrev marks : Shape → (ℕ → Bool) → List ℕ
 marks s A = tabulate (wordLength s) (λ j. bit (A j))
 
@@ -56,8 +55,7 @@ attained s law A ev = record {
       ap₂ (λ (x y : ℕ). not (eqb x y)) (at-tabulate _ (λ j. bit (A j)) j l) (at-tabulate _ (λ j. bit false) j l) ∙ differ-bits (A j));
 }
 
--- ---- a list of places
--- how often j is in it
+-- ---- a list of places: how often j is in it
 unfoldable pub often : List ℕ → ℕ → ℕ
 often [] j = 0
 often (y ∷ ys) j = bit (eqb j y) + often ys j
@@ -72,6 +70,7 @@ often-sum n f none = sum-none n _ (λ j l. zero-mul (f j))
 often-sum n f (more {y} {ys} l h) =
     sum-cong n _ _ (λ j lj. add-mul (bit (eqb j y)) (often ys j) (f j)) ∙ sum-add n _ _ ∙ ap₂ (λ (a b : ℕ). a + b) (sum-pick n y f l) (often-sum n f h)
 
+-- to count 1 for an odd number and 0 for an even one keeps a sum's parity
 odd-part : (b : Bool) (x : ℕ) → bit (b && odd x) % 2 ≡ x * bit b % 2
 unfolding bit
 odd-part true x = omega (arith, bit-odd x)
@@ -79,7 +78,7 @@ odd-part false x = omega arith
 
 module _ (s : Shape) (law : Lawful s) (ys : List ℕ) (within : Within (wordLength s) ys)
     (even : (t L : ℕ) → t < s .n → L < s .q → sumOf ys (λ y. bit (eqb (lineOf s t y) L)) % 2 ≡ 0) where
-  -- the places that are in it an odd number of times
+  -- the places that are in the list an odd number of times
   abbrev members : ℕ → Bool
   members j = odd (often ys j)
 
@@ -90,9 +89,8 @@ module _ (s : Shape) (law : Lawful s) (ys : List ℕ) (within : Within (wordLeng
         ∙ ap (λ (k : ℕ). k % 2) (often-sum (wordLength s) _ within) ∙ even t L lt l;
   }
 
-  -- 2 n places at most: fewer would not be even, so there are 2 n different ones
-  pub list-attained : sumOf ys (λ y. 1) ≤ apart (s .n) → (j : ℕ) → j < wordLength s → members j ≡ true → Attained s (apart (s .n))
-  unfolding apart
+  -- if the list has at most 2 n places, they are 2 n different ones: fewer members are no even set
+  pub list-attained : sumOf ys (λ y. 1) ≤ 2 * s .n → (j : ℕ) → j < wordLength s → members j ≡ true → Attained s (2 * s .n)
   list-attained few j l h =
       subst (Attained s)
       (omega (

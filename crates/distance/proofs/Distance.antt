@@ -1,4 +1,4 @@
--- The distance of codewords, and the erasures that leave no choice.
+-- The distance of codewords, the marked places that leave no choice, and the one codeword near a word.
 use mathlib.Core.Path.{_≡_, sym, ap, _∙_}
 use mathlib.Core.Bool.{Bool, true, false, _||_}
 use mathlib.Core.List.{List}
@@ -18,11 +18,11 @@ use Rattle.gtb.specs.Shape.{Lawful, wordLength}
 use Rattle.gtb.specs.Square.{at, Codeword}
 use Rattle.gtb.proofs.Bounds.{bounds}
 use Rattle.distance.specs.Distance.{differences, apart, Distance, Sure, Near}
-use Rattle.distance.proofs.Bits.{bit-inside}
+use Rattle.distance.proofs.Even.{bit-inside}
 use Rattle.distance.proofs.Twice.{twice}
 use Rattle.distance.proofs.Differences.{differs, difference-silent, some-differs}
 
--- the places with one bit of the difference are an even set
+-- the places where one bit of the difference is set are an even set
 pub distance : (s : Shape) → Lawful s → Distance s
 unfolding apart differences
 distance s law = record {
@@ -48,7 +48,7 @@ pub six-apart : (s : Shape) → Lawful s → 3 ≤ s .n → (v w : List ℕ) →
 unfolding apart
 six-apart s law n3 v w hv hw ne = omega (arith, distance s law .least v w hv hw ne)
 
--- fewer erasures than the distance
+-- fewer marked places than the distance leave no choice
 pub few-sure : (s : Shape) → Lawful s → (marked : ℕ → Bool) → count (wordLength s) marked < apart (s .n) → Sure s marked
 unfolding differences
 few-sure s law marked few = record {

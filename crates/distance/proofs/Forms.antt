@@ -1,19 +1,19 @@
--- Forms of degree m in a direction: f x is the value at the slope x, c the value at the rows.
+-- Forms in a direction, homogeneous of degree m in (u, v): f x is the value at the slope x, (x, 1), and c the value at the rows, (1, 0).
 use mathlib.Core.Path.{_≡_, refl, sym, ap, ap₂, _∙_, subst}
 use mathlib.Core.Bool.{Bool, true, not, _&&_}
 use mathlib.Core.Logic.{_⊎_, inl, inr, ⊎-elim}
-use Prim.Native.Nat.{ℕ, zero, suc, _+_, _*_, _%_, _<_, _≤_, _∣_}
+use Prim.Native.Nat.{ℕ, zero, suc, _+_, _*_, _<_, _≤_, _∣_}
 use native.Mathlib.Nat.{add-zero, add-comm, dvd-add, dvd-mul-left-of-dvd}
 use native.Mathlib.Omega.{arith}
 use lib.Dec.{eqb}
 use borrow.Author.Tests.{eqb-false, not-true}
 use Rattle.parity.specs.Count.{sum, count}
-use Rattle.parity.specs.Cyclic.{Order}
+use Rattle.parity.specs.Cyclic.{Order, Apart}
 use Rattle.parity.proofs.Tests.{and-left, and-right}
 use Rattle.parity.proofs.Pigeon.{some-passes, count-others}
 use Rattle.parity.proofs.Residues.{rest, level}
 
--- for every a, (f x - f a) / (x - a) is a form of one degree less with the same value at the rows
+-- f is a number in degree 0; else, for every a, (f x - f a) / (x - a) is a form of one degree less with the same value at the rows
 unfoldable pub Form : ℕ → (ℕ → ℕ) → ℕ → Type 0
 Form zero f c = (x : ℕ) → f x ≡ c
 Form (suc m) f c = (a : ℕ) → (g : ℕ → ℕ) × Form m g c × ((x : ℕ) → f x + a * g x ≡ f a + x * g x)
@@ -64,21 +64,21 @@ unfolding sum
 form-sum m zero f c h = form-zero m
 form-sum m (suc n) f c h = form-add m _ _ _ _ (form-sum m n f c h) (h n)
 
--- a form vanishes with its value at the rows and at m slopes, or at m + 1 slopes; z t is a slope where it vanishes, for the t below n with p t
+-- a form that vanishes at the rows and m slopes, or at m + 1 slopes, is zero; z t is a slope where it vanishes, for the t below n with p t
 pub vanishes : (q : ℕ) → Order q → (m : ℕ) (f : ℕ → ℕ) (c : ℕ) → Form m f c → (n : ℕ) (z : ℕ → ℕ) (p : ℕ → Bool)
-    → ((t u : ℕ) → t < n → u < n → (t ≡ u → ⊥) → z t % q ≡ z u % q → ⊥) → ((t : ℕ) → t < n → p t ≡ true → q ∣ f (z t))
+    → Apart q n z → ((t : ℕ) → t < n → p t ≡ true → q ∣ f (z t))
     → m ≤ count n p → (q ∣ c) ⊎ (m < count n p) → (x : ℕ) → q ∣ f x
 unfolding Form
-vanishes q o zero f c form n z p apart zeros few last x =
+vanishes q o zero f c form n z p far zeros few last x =
     subst (λ (k : ℕ). q ∣ k) (sym (form x))
     (⊎-elim (λ h. h) (λ (l : 0 < count n p). let (t, lt, h) = some-passes n p l in subst (λ (k : ℕ). q ∣ k) (form (z t)) (zeros t lt h)) last)
-vanishes q o (suc m) f c form n z p apart zeros few last x =
+vanishes q o (suc m) f c form n z p far zeros few last x =
     let (t, lt, h) = some-passes n p (omega arith) in
     let (g, less, e) = form (z t) in
     let fewer = count-others n p t lt h in
     let ih : (x : ℕ) → q ∣ g x =
-    vanishes q o m g c less n z (λ u. p u && not (eqb u t)) apart
-    (λ u lu hu. level q o (z t) (z u) (f (z u)) (f (z t)) (g (z u)) (apart t u lt lu (λ e. eqb-false u t (not-true _ (and-right (p u) _ hu)) (sym e))) (e (z u))
+    vanishes q o m g c less n z (λ u. p u && not (eqb u t)) far
+    (λ u lu hu. level q o (z t) (z u) (f (z u)) (f (z t)) (g (z u)) (far .apart t u lt lu (λ e. eqb-false u t (not-true _ (and-right (p u) _ hu)) (sym e))) (e (z u))
     (zeros u lu (and-left (p u) _ hu)) (zeros t lt h))
     (omega arith) (⊎-elim (λ d. inl d) (λ l. inr (omega arith)) last) in
     rest q (subst (λ (k : ℕ). q ∣ k) (sym (e x) ∙ add-comm _ _) (dvd-add q (zeros t lt h) (dvd-mul-left-of-dvd q (ih x) x))) (dvd-mul-left-of-dvd q (ih x) (z t))

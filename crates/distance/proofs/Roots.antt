@@ -1,4 +1,4 @@
--- A sequence of forms has at most k common roots: Horner's rule divides off one after another.
+-- A polynomial of degree k whose coefficients are forms, coefficient n of degree n, has at most k roots that are linear forms: one after another is divided off.
 use mathlib.Core.Path.{_≡_, sym, _∙_}
 use mathlib.Core.Bool.{Bool, true, not, _&&_}
 use mathlib.Core.Logic.{inr}
@@ -13,26 +13,27 @@ use Rattle.parity.proofs.Tests.{and-left, and-right}
 use Rattle.parity.proofs.Sums.{count-not}
 use Rattle.parity.proofs.Pigeon.{some-passes, count-others, count-one}
 use Rattle.parity.proofs.Residues.{level}
-use Rattle.distance.proofs.Series.{over, over-apart}
+use Rattle.distance.proofs.Polynomials.{over, over-apart}
 use Rattle.distance.proofs.Forms.{Form, form-add, form-linear, vanishes}
 
+-- a root divided off: coefficient n stays a form of degree n
 over-form : (u r : ℕ) (b : ℕ → ℕ → ℕ) (c : ℕ → ℕ) → ((n : ℕ) → Form n (λ x. b x n) (c n))
     → (n : ℕ) → Form n (λ x. over (u + x * r) (b x) n) (over r c n)
 unfolding over
 over-form u r b c h zero = h 0
 over-form u r b c h (suc n) = form-add (suc n) _ _ _ _ (form-linear n u r _ _ (over-form u r b c h n)) (h (suc n))
 
--- linear forms u i + x × r i, of which two are equal modulo q at one x at most
+-- linear forms u i + x × r i, of which no two are equal modulo q at two slopes x
 module _ (q : ℕ) (o : Order q) (N : ℕ) (u r : ℕ → ℕ)
-    (once : (i j : ℕ) → i < N → j < N → (i ≡ j → ⊥) → (x y : ℕ) → x < q → y < q → (x ≡ y → ⊥)
-    → (u i + x * r i) % q ≡ (u j + x * r j) % q → (u i + y * r i) % q ≡ (u j + y * r j) % q → ⊥) where
-  -- what is left after one root vanishes at the others
+    (once : (x y i j : ℕ) → x < q → y < q → (x ≡ y → ⊥) → i < N → j < N
+    → (u i + x * r i) % q ≡ (u j + x * r j) % q → (u i + y * r i) % q ≡ (u j + y * r j) % q → i ≡ j) where
+  -- the quotient by one root vanishes at any other: at all slopes but the one where the two may be equal, so at that one too
   divided : (k : ℕ) → suc k < q → (b : ℕ → ℕ → ℕ) (c : ℕ → ℕ) → ((n : ℕ) → Form n (λ x. b x n) (c n)) → (i j : ℕ) → i < N → j < N → (i ≡ j → ⊥)
       → ((x : ℕ) → q ∣ over (u i + x * r i) (b x) (suc k)) → ((x : ℕ) → q ∣ over (u j + x * r j) (b x) (suc k))
       → (x : ℕ) → q ∣ over (u j + x * r j) (over (u i + x * r i) (b x)) k
   divided k lk b c h i j li lj ne zi zj =
       vanishes q o k _ _ (over-form (u j) (r j) _ _ (over-form (u i) (r i) b c h) k) q (λ x. x) (λ x. not (meet x))
-      (λ t v lt lv tv e. tv (sym (mod-eq-of-lt lt) ∙ e ∙ mod-eq-of-lt lv))
+      (record { apart = λ t v lt lv tv e. tv (sym (mod-eq-of-lt lt) ∙ e ∙ mod-eq-of-lt lv) })
       (λ x lx p. level q o (u i + x * r i) (u j + x * r j) _ _ _ (eqb-false _ _ (not-true _ p)) (over-apart _ _ (b x) k) (zj x) (zi x))
       (omega (arith, many)) (inr (omega (arith, many)))
     where
@@ -44,10 +45,10 @@ module _ (q : ℕ) (o : Order q) (N : ℕ) (u r : ℕ → ℕ)
           omega (
             arith,
             count-not q meet,
-            count-one q meet (λ x y lx ly xy ex ey. once i j li lj ne x y lx ly xy (eqb-true _ _ ex) (eqb-true _ _ ey)),
+            count-one q meet (λ x y lx ly xy ex ey. ne (once x y i j lx ly xy li lj (eqb-true _ _ ex) (eqb-true _ _ ey))),
           )
 
-  -- more than k roots: the first entry vanishes
+  -- with more than k roots the leading coefficient is 0
   pub no-roots : (k : ℕ) → k < q → (b : ℕ → ℕ → ℕ) (c : ℕ → ℕ) → ((n : ℕ) → Form n (λ x. b x n) (c n)) → (B : ℕ → Bool) → k < count N B
       → ((i : ℕ) → i < N → B i ≡ true → (x : ℕ) → q ∣ over (u i + x * r i) (b x) k) → q ∣ b 0 0
   unfolding over

@@ -1,4 +1,4 @@
--- The square root of the product of 1 - w T over the members, up to entry k, and its value at each member.
+-- The polynomial g whose square has the same highest coefficients as the product of X - w j over the members j, and its value at each member.
 use mathlib.Core.Path.{_≡_, refl, sym, ap, subst}
 use mathlib.Core.Bool.{Bool, true, _&&_}
 use mathlib.Core.List.{List, _∷_}
@@ -10,23 +10,24 @@ use Rattle.parity.specs.Count.{bit, sum, count}
 use Rattle.parity.specs.Cyclic.{Order}
 use Rattle.parity.proofs.Sums.{sum-cong, sum-mul, count-sum}
 use Rattle.parity.proofs.Residues.{factor, add-mods, mul-mods, sum-mods}
-use Rattle.distance.proofs.Series.{over, sumOf, Newton, newton-step, low}
+use Rattle.distance.proofs.Polynomials.{over, sumOf, Newton, newton-step, past-roots}
 use Rattle.distance.proofs.Halves.{halves}
 use Rattle.distance.proofs.Forms.{Form, form-number, form-add, form-scale, form-linear, form-sum}
 
 module _ (N : ℕ) (A : ℕ → Bool) (c : ℕ → ℕ) where
-  -- what the members with the values w add at entry n + 1, where f is what they have at entry n
-  abbrev pub gain : (ℕ → ℕ) → (ℕ → ℕ) → ℕ → ℕ
-  gain w f n = c n * sum N (λ j. bit (A j) * (w j * f j))
+  -- coefficient n + 1 of g by Newton's rule, where f j is the value at member j of the coefficients up to n; c n is -1 / (2 n + 2)
+  abbrev next : (ℕ → ℕ) → (ℕ → ℕ) → ℕ → ℕ
+  next w f n = c n * sum N (λ j. bit (A j) * (w j * f j))
 
-  -- the root, by Newton's rule (c n is -1 / (2 n + 2)), and its value at member i, by Horner's; each needs the other's last entry
+  -- the value at w i of the coefficients up to n, by Horner's rule
   unfoldable pub value : (ℕ → ℕ) → ℕ → ℕ → ℕ
   value w zero i = 1
-  value w (suc n) i = w i * value w n i + gain w (value w n) n
+  value w (suc n) i = w i * value w n i + next w (value w n) n
 
+  -- coefficient n of g
   unfoldable pub root : (ℕ → ℕ) → ℕ → ℕ
   root w zero = 1
-  root w (suc n) = gain w (value w n) n
+  root w (suc n) = next w (value w n) n
 
   pub value-over : (w : ℕ → ℕ) (n i : ℕ) → value w n i ≡ over (w i) (root w) n
   unfolding value root over
@@ -42,28 +43,28 @@ module _ (N : ℕ) (A : ℕ → Bool) (c : ℕ → ℕ) where
       (mul-mods q (c n) _ (c n) _ refl
       (sum-mods q N _ _ (λ j. mul-mods q (bit (A j)) _ (bit (A j)) _ refl (mul-mods q _ _ _ _ (h j) (value-mods q v w h n j)))))
 
-  -- the value of a member of column u i and row r i in the direction of slope x, and in the rows
+  -- in the direction of slope x the place in column u i and row r i has the value u i + x × r i, in the rows r i: coefficient and value are forms of degree n
   module _ (u r : ℕ → ℕ) where
     abbrev along : ℕ → ℕ → ℕ
     along x i = u i + x * r i
 
-    gain-form : (n : ℕ) → ((i : ℕ) → Form n (λ x. value (along x) n i) (value r n i))
-        → Form (suc n) (λ x. gain (along x) (value (along x) n) n) (gain r (value r n) n)
-    gain-form n h =
+    next-form : (n : ℕ) → ((i : ℕ) → Form n (λ x. value (along x) n i) (value r n i))
+        → Form (suc n) (λ x. next (along x) (value (along x) n) n) (next r (value r n) n)
+    next-form n h =
         form-scale (suc n) (c n) _ _
         (form-sum (suc n) N _ _ (λ j. form-scale (suc n) (bit (A j)) _ _ (form-linear n (u j) (r j) _ _ (h j))))
 
     pub value-form : (n i : ℕ) → Form n (λ x. value (along x) n i) (value r n i)
     unfolding value
     value-form zero i = form-number 1
-    value-form (suc n) i = form-add (suc n) _ _ _ _ (form-linear n (u i) (r i) _ _ (value-form n i)) (gain-form n (value-form n))
+    value-form (suc n) i = form-add (suc n) _ _ _ _ (form-linear n (u i) (r i) _ _ (value-form n i)) (next-form n (value-form n))
 
     pub root-form : (n : ℕ) → Form n (λ x. root (along x) n) (root r n)
     unfolding root
     root-form zero = form-number 1
-    root-form (suc n) = gain-form n (value-form n)
+    root-form (suc n) = next-form n (value-form n)
 
-  -- where each value occurs an even number of times, the root is a product, and it vanishes at each member
+  -- where each value occurs an even number of times, g is the product over half of them, of degree k, and it vanishes at each member
   pub even-zero : (q k : ℕ) → Order q → k < q → ((n : ℕ) → n < k → q ∣ 2 * suc n * c n + 1) → (q ∣ 2 → ⊥) → count N A ≡ 2 * k
       → (w : ℕ → ℕ) → ((i : ℕ) → i < N → w i < q) → ((L : ℕ) → L < q → count N (λ i. eqb (w i) L && A i) % 2 ≡ 0)
       → (i : ℕ) → i < N → A i ≡ true → q ∣ value w k i
@@ -71,7 +72,7 @@ module _ (N : ℕ) (A : ℕ → Bool) (c : ℕ → ℕ) where
   even-zero q k o kq inv odd size w below even i l h =
       let (ys, e) = halves N q A w below even i l h in
       subst (λ (x : ℕ). q ∣ x) (sym (value-over w k i))
-      (low q k o kq ys (over (w i) (root w)) (newton-step q k (w i) ys (root w) (newton ys e)) k (omega (arith, e (λ y. 1), sum-mul N (λ j. bit (A j)) 1, count-sum N A)) (omega arith))
+      (past-roots q k o kq ys (over (w i) (root w)) (newton-step q k (w i) ys (root w) (newton ys e)) k (omega (arith, e (λ y. 1), sum-mul N (λ j. bit (A j)) 1, count-sum N A)) (omega arith))
     where
       newton : (ys : List ℕ) → ((f : ℕ → ℕ) → sum N (λ j. bit (A j) * f (w j)) ≡ 2 * (f (w i) + sumOf ys f)) → Newton q k (w i ∷ ys) (root w)
       newton ys e = record {

@@ -2,7 +2,7 @@
 use mathlib.Core.Path.{_≡_, refl, sym, ap, ap₂, _∙_, subst}
 use mathlib.Core.Bool.{Bool, true, false, not, _&&_, _||_}
 use mathlib.Core.Logic.{⊎-elim}
-use Prim.Native.Nat.{ℕ, zero, suc, _+_, _*_, _<_, _≤_}
+use Prim.Native.Nat.{ℕ, zero, suc, _+_, _-_, _*_, _<_, _≤_}
 use native.Mathlib.Nat.{not-suc-le-zero, le-of-suc-le-suc, eq-or-lt-of-le, le-step, lt-suc-self, add-zero, add-suc, add-le-add, zero-mul, one-mul, suc-mul, le-refl}
 use native.Mathlib.Numerals.{add-one}
 use native.Mathlib.Omega.{arith}
@@ -178,12 +178,13 @@ pub count-all : (n : ℕ) (p : ℕ → Bool) → ((i : ℕ) → i < n → p i �
 count-all n p h = omega (arith, count-not n p, count-none n (λ i. not (p i)) (λ i l. ap not (h i l)))
 
 -- the numbers below k
-pub count-below : (k m : ℕ) → count (k + m) (λ i. ltb i k) ≡ k
+pub count-below : (n k : ℕ) → k ≤ n → count n (λ i. ltb i k) ≡ k
 unfolding count
-count-below k m =
-    omega (
+count-below n k le =
+    ap (λ (m : ℕ). count m (λ i. ltb i k)) {x = n} {y = k + (n - k)} (omega arith)
+    ∙ omega (
       arith,
-      sum-split k m (λ i. bit (ltb i k)),
+      sum-split k (n - k) (λ i. bit (ltb i k)),
       count-all k (λ i. ltb i k) (λ i l. lt-ltb i k l),
-      sum-none m (λ i. bit (ltb (k + i) k)) (λ i l. bit-false (le-ltb (k + i) k (omega arith))),
+      sum-none (n - k) (λ i. bit (ltb (k + i) k)) (λ i l. bit-false (le-ltb (k + i) k (omega arith))),
     )

@@ -1,4 +1,4 @@
--- One bit of a silent word: every line has an even number of positions where it is set.
+-- Even sets of places: every line has an even number of members. Such are the places where one bit of a silent word is set.
 use mathlib.Core.Path.{_≡_, refl, sym, ap, _∙_}
 use mathlib.Core.Bool.{Bool, true, false, _&&_}
 use mathlib.Core.Logic.{⊎-elim}
@@ -22,7 +22,7 @@ use Rattle.gtb.specs.Square.{lineOf, syndrome, Silent}
 pub record Even (s : Shape) (A : ℕ → Bool) : Type 0 where
   pub even : (t L : ℕ) → t < s .n → L < s .q → count (wordLength s) (λ j. eqb (lineOf s t j) L && A j) % 2 ≡ 0
 
--- the halves and the low bits of a XOR
+-- the half and the low bit of a XOR
 half : (a b : ℕ) → (a ⊕ b) / 2 ≡ a / 2 ⊕ b / 2
 unfolding _⊕_
 half a b = xor-shr a b 1
@@ -31,11 +31,12 @@ low : (a b : ℕ) → (a ⊕ b) % 2 ≡ (a % 2 + b % 2) % 2
 unfolding _⊕_
 low a b = omega (arith, xor-add-and a b)
 
-halves : (n : ℕ) (g : ℕ → ℕ) → xorSum n (λ i. g i / 2) ≡ xorSum n g / 2
+xor-halves : (n : ℕ) (g : ℕ → ℕ) → xorSum n (λ i. g i / 2) ≡ xorSum n g / 2
 unfolding xorSum
-halves zero g = refl
-halves (suc n) g = ap (λ (x : ℕ). x ⊕ g n / 2) (halves n g) ∙ sym (half (xorSum n g) (g n))
+xor-halves zero g = refl
+xor-halves (suc n) g = ap (λ (x : ℕ). x ⊕ g n / 2) (xor-halves n g) ∙ sym (half (xorSum n g) (g n))
 
+-- how many values are odd is an odd number exactly if their XOR is
 abbrev pub odd : ℕ → Bool
 odd x = eqb (x % 2) 1
 
@@ -49,7 +50,7 @@ unfolding xorSum count sum
 odds zero g = refl
 odds (suc n) g = omega (arith, odds n g, bit-odd (g n), low (xorSum n g) (g n))
 
--- a symbol off the line counts as 0
+-- ---- a silent word halved is silent, and its odd symbols are an even set; a symbol off the line counts as 0
 when-half : (b : Bool) (x : ℕ) → when b (x / 2) ≡ when b x / 2
 unfolding when
 when-half true x = refl
@@ -64,7 +65,7 @@ silent-halves : (s : Shape) (f : ℕ → ℕ) → Silent s f → Silent s (λ j.
 unfolding syndrome
 silent-halves s f quiet = record {
   silent = λ t L lt l.
-      cong _ _ _ (λ j lj. when-half (eqb (lineOf s t j) L) (f j)) ∙ halves _ _ ∙ ap (λ (x : ℕ). x / 2) (quiet .silent t L lt l);
+      cong _ _ _ (λ j lj. when-half (eqb (lineOf s t j) L) (f j)) ∙ xor-halves _ _ ∙ ap (λ (x : ℕ). x / 2) (quiet .silent t L lt l);
 }
 
 silent-even : (s : Shape) (f : ℕ → ℕ) → Silent s f → Even s (λ j. odd (f j))
@@ -75,7 +76,7 @@ silent-even s f quiet = record {
       ∙ ap (λ (x : ℕ). x % 2) (quiet .silent t L lt l);
 }
 
--- and back: the word with 1 at the members of an even set is silent
+-- and back: 1 at the members of an even set, 0 elsewhere, is silent
 odd-bit : (b a : Bool) → odd (when b (bit a)) ≡ (b && a)
 unfolding bit when
 odd-bit true true = refl
@@ -96,7 +97,7 @@ even-silent s A ev = record {
       );
 }
 
--- an even set with j, where no symbol is 0
+-- ---- an even set with j, where no symbol is 0
 pub record Inside (s : Shape) (f : ℕ → ℕ) (j : ℕ) : Type 0 where
   pub chosen : ℕ → Bool
   pub even : Even s chosen
