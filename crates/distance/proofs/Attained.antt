@@ -21,7 +21,7 @@ use Rattle.gtb.proofs.Rows.{syndrome-cong}
 use Rattle.gtb.proofs.Words.{tabulate-word}
 use Rattle.distance.specs.Distance.{differences, Attained}
 use Rattle.distance.proofs.Even.{Even, odd, bit-odd, even-silent}
-use Rattle.distance.proofs.Polynomials.{sumOf}
+use Rattle.parity.proofs.Polynomials.{sumOf}
 use Rattle.distance.proofs.Twice.{twice}
 
 -- ---- an even set: 1 at its members, 0 elsewhere, and the zero word

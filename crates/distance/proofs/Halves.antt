@@ -11,7 +11,7 @@ use Rattle.parity.specs.Count.{bit, sum, count}
 use Rattle.parity.proofs.Tests.{either, and-both}
 use Rattle.parity.proofs.Sums.{sum-cong, sum-add, sum-pick, sum-term, count-sum, bit-true, bit-false}
 use Rattle.parity.proofs.Only.{sum-by-value}
-use Rattle.distance.proofs.Polynomials.{sumOf}
+use Rattle.parity.proofs.Polynomials.{sumOf}
 
 -- x put m times before a list
 times : ℕ → ℕ → List ℕ → List ℕ

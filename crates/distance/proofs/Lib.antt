@@ -1,9 +1,6 @@
 pub mod Even
-pub mod Polynomials
 pub mod Halves
-pub mod Forms
 pub mod Values
-pub mod Roots
 pub mod Twice
 pub mod Differences
 pub mod Distance

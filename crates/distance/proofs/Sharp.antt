@@ -21,7 +21,7 @@ use Rattle.gtb.proofs.Slopes.{slope-lt}
 use Rattle.gtb.proofs.Lines.{along, line-zero, line-suc, line-row, line-at, line-lt, check-size, same-row, share-slopes}
 use Rattle.distance.specs.Distance.{apart, Attained}
 use Rattle.distance.proofs.Even.{odd}
-use Rattle.distance.proofs.Polynomials.{sumOf}
+use Rattle.parity.proofs.Polynomials.{sumOf}
 use Rattle.distance.proofs.Attained.{attained, often, Within, none, more, list-attained}
 
 -- ---- two parallel lines of a slope x that no direction has

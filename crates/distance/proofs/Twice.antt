@@ -25,11 +25,11 @@ use Rattle.gtb.proofs.Bounds.{bounds}
 use Rattle.gtb.proofs.Slopes.{slope-lt, slope-apart}
 use Rattle.gtb.proofs.Lines.{along, line-zero, line-suc, line-lt, share-slopes}
 use Rattle.distance.proofs.Even.{Even}
-use Rattle.distance.proofs.Polynomials.{sumOf}
+use Rattle.parity.proofs.Polynomials.{sumOf}
 use Rattle.distance.proofs.Halves.{halves}
-use Rattle.distance.proofs.Forms.{vanishes}
+use Rattle.parity.proofs.Forms.{vanishes}
 use Rattle.distance.proofs.Values.{value, root, value-over, value-mods, value-form, root-form, even-zero}
-use Rattle.distance.proofs.Roots.{no-roots}
+use Rattle.parity.proofs.Roots.{no-roots}
 
 module _ (s : Shape) (law : Lawful s) (A : ℕ → Bool) (ev : Even s A) (k : ℕ) (lk : k < s .n) (size : count (wordLength s) A ≡ 2 * k) where
   o : Order (s .q)

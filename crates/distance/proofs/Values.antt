@@ -10,9 +10,9 @@ use Rattle.parity.specs.Count.{bit, sum, count}
 use Rattle.parity.specs.Cyclic.{Order}
 use Rattle.parity.proofs.Sums.{sum-cong, sum-mul, count-sum}
 use Rattle.parity.proofs.Residues.{factor, add-mods, mul-mods, sum-mods}
-use Rattle.distance.proofs.Polynomials.{over, sumOf, Newton, newton-step, past-roots}
+use Rattle.parity.proofs.Polynomials.{over, sumOf, Newton, newton-step, past-roots}
 use Rattle.distance.proofs.Halves.{halves}
-use Rattle.distance.proofs.Forms.{Form, form-number, form-add, form-scale, form-linear, form-sum}
+use Rattle.parity.proofs.Forms.{Form, form-number, form-add, form-scale, form-linear, form-sum}
 
 module _ (N : ℕ) (A : ℕ → Bool) (c : ℕ → ℕ) where
   -- coefficient n + 1 of g by Newton's rule, where f j is the value at member j of the coefficients up to n; c n is -1 / (2 n + 2)

@@ -15,7 +15,7 @@ use Rattle.parity.specs.Count.{bit, sum, count}
 use Rattle.parity.specs.Lists.{tabulate}
 use Rattle.parity.proofs.Xors.{when-zero}
 use Rattle.parity.proofs.XorSums.{none}
-use Rattle.parity.proofs.Tests.{either, clash, and-left, and-right, and-both, and-no-right}
+use Rattle.parity.proofs.Tests.{either, clash, or-no, and-left, and-right, and-both, and-no-right}
 use Rattle.parity.proofs.Sums.{sum-cong, sum-add, sum-only, bit-le, bit-true, bit-false, count-cong, count-le}
 use Rattle.parity.proofs.Pigeon.{some-fails}
 use Rattle.parity.proofs.Only.{only-count}
@@ -29,7 +29,7 @@ use Rattle.gtb.proofs.Bounds.{bounds}
 use Rattle.gtb.proofs.Words.{tabulate-word, word-narrow}
 use Rattle.gtb.proofs.Lines.{line-lt, share-one}
 use Rattle.distance.specs.Distance.{differences, apart}
-use Rattle.distance.proofs.Bits.{bit-inside}
+use Rattle.distance.proofs.Even.{bit-inside}
 use Rattle.distance.proofs.Twice.{twice}
 use Rattle.correction.specs.declared.Decoded.{Decoded}
 use Rattle.correction.specs.declared.Decoded.the-variants.{Refused}
@@ -207,10 +207,6 @@ parted s law i j li lj ne =
     (λ (e : eqb (lineOf s 0 i) (lineOf s 0 j) ≡ false). (0, omega arith, e))
     (either (eqb (lineOf s 0 i) (lineOf s 0 j)))
 
-neither : (a b : Bool) → (a || b) ≡ false → (a ≡ false) × (b ≡ false)
-neither true b h = absurd (clash refl h)
-neither false b h = (refl, h)
-
 -- there are two such positions, since the places are fewer than two rows
 pub spoiled : (s : Shape) → Lawful s → (places : List ℕ) → rising (wordLength s) places ≡ true → length places < apart (s .n) → Spoiled s places
 unfolding apart bit
@@ -221,6 +217,6 @@ spoiled s law places up few =
     let (j, lj, fj) = some-fails (wordLength s) (isListed places) (omega arith) in
     let (k, lk, other) =
     some-fails (wordLength s) (joined places j) (omega (arith, count-and-one (wordLength s) (λ i. true) (isListed places) j lj fj)) in
-    let (fk, ne) = neither (isListed places k) (eqb k j) other in
+    let (fk, ne) = or-no (isListed places k) (eqb k j) other in
     let (t, lt, off) = parted s law k j lk lj (eqb-false k j ne) in
     one-of-two s law places up few j k t lj lk fj fk lt off

@@ -15,3 +15,6 @@ pub mod Newton
 pub mod Kernel
 pub mod Walk
 pub mod Interpolate
+pub mod Polynomials
+pub mod Forms
+pub mod Roots

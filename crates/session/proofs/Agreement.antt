@@ -27,7 +27,7 @@ use Rattle.double.specs.Double.{doubleOf, Pairing}
 use Rattle.double.proofs.Meaning.{double-meets}
 use Rattle.double.proofs.Refusals.{two-directions}
 use Rattle.session.specs.Arrival.{clean, vote, two, isWay, wayOf}
-use Rattle.session.proofs.Within.{within-unique}
+use Rattle.distance.proofs.Distance.{within-unique}
 use Rattle.session.proofs.Ways.{three-ways}
 
 -- ---- what a reader accepts is within n - 1 symbols

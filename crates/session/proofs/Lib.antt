@@ -10,7 +10,6 @@ pub mod Clean
 pub mod Vote
 pub mod Two
 pub mod Ways
-pub mod Within
 pub mod Agreement
 pub mod Arrive
 pub mod Machine

@@ -7,14 +7,14 @@ use native.Mathlib.Nat.{mod-eq-of-lt}
 use native.Mathlib.Omega.{arith}
 use lib.Dec.{eqb}
 use borrow.Author.Tests.{eqb-true, eqb-false, not-true}
 use Rattle.parity.specs.Count.{count}
 use Rattle.parity.specs.Cyclic.{Order}
 use Rattle.parity.proofs.Tests.{and-left, and-right}
 use Rattle.parity.proofs.Sums.{count-not}
 use Rattle.parity.proofs.Pigeon.{some-passes, count-others, count-one}
 use Rattle.parity.proofs.Residues.{level}
-use Rattle.distance.proofs.Polynomials.{over, over-apart}
-use Rattle.distance.proofs.Forms.{Form, form-add, form-linear, vanishes}
+use Rattle.parity.proofs.Polynomials.{over, over-apart}
+use Rattle.parity.proofs.Forms.{Form, form-add, form-linear, vanishes}
 
 -- a root divided off: coefficient n stays a form of degree n
 over-form : (u r : ℕ) (b : ℕ → ℕ → ℕ) (c : ℕ → ℕ) → ((n : ℕ) → Form n (λ x. b x n) (c n))
