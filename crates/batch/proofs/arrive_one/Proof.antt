@@ -7,24 +7,6 @@ use Rattle.batch.proofs.arrive_one.Tie as tie
 settle-word-requires : tie.Need-settle-word-requires
 settle-word-requires c κs = let ready = c .before .before .before .before .before .pre in (ready .known, ready .lawful, ready .consistent)
 
-outcome-requires : tie.Need-outcome-requires
-outcome-requires c κs = search needs
-
-slice-aggregate-copy : tie.Need-slice-aggregate-copy
-slice-aggregate-copy c = search needs
-
-copy-requires : tie.Need-copy-requires
-copy-requires c κs = search needs
-
-same-length : tie.Need-same-length
-same-length c = search needs
-
-same-length-2 : tie.Need-same-length-2
-same-length-2 c = search needs
-
-same-length-3 : tie.Need-same-length-3
-same-length-3 c = search needs
-
 returns : tie.Need-returns
 returns c =
     let copied = c .before .before .before in
@@ -34,14 +16,4 @@ returns c =
     (made .outcome .ensures) (copied .copy .ensures)
 
 pub arrive-one-spec : {M : Type 1} → statement M
-arrive-one-spec =
-    tie.close
-    (tie.spec
-    settle-word-requires
-    outcome-requires
-    slice-aggregate-copy
-    copy-requires
-    same-length
-    same-length-2
-    same-length-3
-    returns)
+arrive-one-spec = tie.close (tie.spec settle-word-requires (λ c κs. search needs) (λ c. search needs) (λ c κs. search needs) (λ c. search needs) (λ c. search needs) (λ c. search needs) returns)

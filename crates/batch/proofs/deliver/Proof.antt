@@ -38,14 +38,8 @@ place c =
 abbrev turning : tie.After-slice-known7 Inv-loop μ-loop → tie.In-loop Inv-loop μ-loop
 turning c = c .before .before .before .before .before .before .before .before .before .before
 
-word-length-requires : tie.Need-word-length-requires Inv-loop μ-loop
-word-length-requires c κs = search needs
-
 div-count : tie.Need-div-count Inv-loop μ-loop
 div-count c = rw (c .word-length .ensures) (word-positive _ (start c .pre .lawful))
-
-clear-requires : tie.Need-clear-requires Inv-loop μ-loop
-clear-requires c κs = search needs
 
 loop-holds : tie.Need-loop-holds Inv-loop μ-loop
 loop-holds c =
@@ -67,23 +61,11 @@ add-next c = let p = place c in omega arith
 mul-arrive-one : tie.Need-mul-arrive-one Inv-loop μ-loop
 mul-arrive-one c = let p = place c in omega arith
 
-sub-arrive-one : tie.Need-sub-arrive-one Inv-loop μ-loop
-sub-arrive-one c = search needs
-
-part-arrive-one-start : tie.Need-part-arrive-one-start Inv-loop μ-loop
-part-arrive-one-start c = search needs
-
 part-arrive-one-end : tie.Need-part-arrive-one-end Inv-loop μ-loop
 part-arrive-one-end c = let p = place c in omega (arith, c .before .loop .inv .1 .size)
 
 mul-arrive-one-2 : tie.Need-mul-arrive-one-2 Inv-loop μ-loop
 mul-arrive-one-2 c = let p = place (c .before .before) in omega arith
-
-sub-arrive-one-2 : tie.Need-sub-arrive-one-2 Inv-loop μ-loop
-sub-arrive-one-2 c = search needs
-
-part-arrive-one-start-2 : tie.Need-part-arrive-one-start-2 Inv-loop μ-loop
-part-arrive-one-start-2 c = search needs
 
 part-arrive-one-end-2 : tie.Need-part-arrive-one-end-2 Inv-loop μ-loop
 part-arrive-one-end-2 c =
@@ -100,20 +82,11 @@ arrive-one-requires c κs =
 add-i : tie.Need-add-i Inv-loop μ-loop
 add-i c = let p = place (turning c) in omega arith
 
-loop-less : tie.Need-loop-less Inv-loop μ-loop
-loop-less c = search needs
-
 loop-again : tie.Need-loop-again Inv-loop μ-loop
 loop-again c =
     let t = turning c in
     let arrived = c .before .before .before .before .before .before in
     (search needs, turn-code (t .before .loop .inv .1) (asked (t .before) .word-length .ensures) (place t) (arrived .arrive-one .kept .1 .1 .0) (arrived .arrive-one .ensures))
-
-same-length : tie.Need-same-length Inv-loop μ-loop
-same-length c = search needs
-
-same-length-2 : tie.Need-same-length-2 Inv-loop μ-loop
-same-length-2 c = search needs
 
 -- after the last turn all words have arrived
 all : (c : tie.After-loop Inv-loop μ-loop) → c .before .loop .i ≡ wordsIn (start (asked (c .before)) .args .session .shape) (start (asked (c .before)) .args .words .now)
@@ -131,32 +104,4 @@ returns : tie.Need-returns Inv-loop μ-loop
 returns c = delivering-ends (all c) (rw (all c) (whole (c .before) .some)) (c .before .loop .inv .1)
 
 pub deliver-spec : {M : Type 1} → statement M
-deliver-spec =
-    tie.close
-    (tie.spec
-    Inv-loop
-    μ-loop
-    word-length-requires
-    div-count
-    clear-requires
-    loop-holds
-    mul-from
-    add-end
-    mul-at
-    add-next
-    mul-arrive-one
-    sub-arrive-one
-    part-arrive-one-start
-    part-arrive-one-end
-    mul-arrive-one-2
-    sub-arrive-one-2
-    part-arrive-one-start-2
-    part-arrive-one-end-2
-    arrive-one-requires
-    add-i
-    loop-less
-    loop-again
-    same-length
-    same-length-2
-    same-length-3
-    returns)
+deliver-spec = tie.close (tie.spec Inv-loop μ-loop (λ c κs. search needs) div-count (λ c κs. search needs) loop-holds mul-from add-end mul-at add-next mul-arrive-one (λ c. search needs) (λ c. search needs) part-arrive-one-end mul-arrive-one-2 (λ c. search needs) (λ c. search needs) part-arrive-one-end-2 arrive-one-requires add-i (λ c. search needs) loop-again (λ c. search needs) (λ c. search needs) same-length-3 returns)

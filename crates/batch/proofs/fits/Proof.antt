@@ -16,16 +16,10 @@ start c = c .before .before .before .before
 whole : (c : tie.Else1) → wholeRun (start (c .before) .args .shape) (start (c .before) .args .words .now) ≡ true
 whole c = sym (c .before .is-run .ensures) ∙ not-false _ (c .if1 .left)
 
-is-run-requires : tie.Need-is-run-requires
-is-run-requires c κs = search needs
-
 returns : tie.Need-returns
 returns c =
     let s = start (c .before) in
     fits-run (s .args .shape) (s .args .words .now) (s .args .scratch .now) (s .args .outcomes .now) (sym (c .before .is-run .ensures) ∙ not-true _ (c .if1 .taken))
-
-scratch-length-requires : tie.Need-scratch-length-requires
-scratch-length-requires c κs = search needs
 
 returns-2 : tie.Need-returns-2
 returns-2 c =
@@ -40,5 +34,4 @@ returns-3 c =
     fits-list (s .args .shape) (s .args .words .now) (s .args .scratch .now) (s .args .outcomes .now) (whole (asked .before)) (c .if2 .left ∙ asked .scratch-length .ensures)
 
 pub fits-spec : {M : Type 1} → statement M
-fits-spec =
-    tie.close (tie.spec is-run-requires returns scratch-length-requires returns-2 returns-3)
+fits-spec = tie.close (tie.spec (λ c κs. search needs) returns (λ c κs. search needs) returns-2 returns-3)

@@ -19,9 +19,6 @@ long c = length (start c .args .words .now)
 positive : (c : tie.After-word-length) → 0 < c .word-length .result
 positive c = rw (c .word-length .ensures) (word-positive _ (start c .pre))
 
-word-length-requires : tie.Need-word-length-requires
-word-length-requires c κs = search needs
-
 rem-if1 : tie.Need-rem-if1
 rem-if1 c = positive c
 
@@ -46,5 +43,4 @@ returns-3 c =
     ∙ run-upto _ (start asked .pre) _ (ap (λ (n : ℕ). long asked % n) (sym is) ∙ c .before .if1 .left) (λ e. c .if2 .left (ap (λ (n : ℕ). long asked / n) is ∙ e))
 
 pub is-run-spec : {M : Type 1} → statement M
-is-run-spec =
-    tie.close (tie.spec word-length-requires rem-if1 returns div-count returns-2 returns-3)
+is-run-spec = tie.close (tie.spec (λ c κs. search needs) rem-if1 returns div-count returns-2 returns-3)

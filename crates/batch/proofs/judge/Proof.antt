@@ -28,17 +28,8 @@ right c = sym (c .before .is-consistent .ensures) ∙ not-false _ (c .if3 .left)
 fitting : (c : tie.Else4) → wayOf (start (c .before .before .before .before .before .before .before) .args .way) .suits (start (c .before .before .before .before .before .before .before) .args .session .shape) ≡ true
 fitting c = sym (c .before .suits .ensures) ∙ not-false _ (c .if4 .left)
 
-is-way-requires : tie.Need-is-way-requires
-is-way-requires c κs = search needs
-
 returns : tie.Need-returns
 returns c = status-way _ _ _ _ _ (sym (c .before .is-way .ensures) ∙ not-true _ (c .if1 .taken))
-
-is-lawful-requires : tie.Need-is-lawful-requires
-is-lawful-requires c κs = search needs
-
-shape-refusal-requires : tie.Need-shape-refusal-requires
-shape-refusal-requires c κs = search needs
 
 returns-2 : tie.Need-returns-2
 returns-2 c =
@@ -46,16 +37,10 @@ returns-2 c =
     ap Refused (c .shape-refusal .ensures)
     ∙ status-shape _ _ _ _ _ (known (asked .before .before)) (sym (asked .is-lawful .ensures) ∙ not-true _ (c .before .if2 .taken))
 
-is-consistent-requires : tie.Need-is-consistent-requires
-is-consistent-requires c κs = search needs
-
 returns-3 : tie.Need-returns-3
 returns-3 c =
     let passed = c .before .before in
     status-figures _ _ _ _ _ (known (passed .before .before .before)) (legal passed) (sym (c .before .is-consistent .ensures) ∙ not-true _ (c .if3 .taken))
-
-suits-requires : tie.Need-suits-requires
-suits-requires c κs = search needs
 
 returns-4 : tie.Need-returns-4
 returns-4 c =
@@ -81,18 +66,4 @@ returns-6 c =
     status-done _ _ _ _ _ (known (passed .before .before .before)) (legal passed) (right figures) (fitting suited) (sym (c .before .fits2 .ensures) ∙ not-false _ (c .if5 .left))
 
 pub judge-spec : {M : Type 1} → statement M
-judge-spec =
-    tie.close
-    (tie.spec
-    is-way-requires
-    returns
-    is-lawful-requires
-    shape-refusal-requires
-    returns-2
-    is-consistent-requires
-    returns-3
-    suits-requires
-    returns-4
-    fits-requires
-    returns-5
-    returns-6)
+judge-spec = tie.close (tie.spec (λ c κs. search needs) returns (λ c κs. search needs) (λ c κs. search needs) returns-2 (λ c κs. search needs) returns-3 (λ c κs. search needs) returns-4 fits-requires returns-5 returns-6)

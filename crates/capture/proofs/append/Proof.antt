@@ -10,14 +10,8 @@ returns c = extended-long _ (c .before .before .before .pre) (c .if1 .taken)
 returns-2 : tie.Need-returns-2
 returns-2 c = extended-over _ (c .before .before .before .before .pre) (c .before .if1 .left) (c .if2 .taken)
 
-put-text-requires : tie.Need-put-text-requires
-put-text-requires c κs = search needs
-
-same-length : tie.Need-same-length
-same-length c = search needs
-
 returns-3 : tie.Need-returns-3
 returns-3 c = extended-put _ (c .before .before .before .before .before .before .before .before .pre) (c .before .before .before .before .before .if1 .left) (c .before .before .before .before .if2 .left) (c .before .before .put-text .ensures)
 
 pub append-spec : {M : Type 1} → statement M
-append-spec = tie.close (tie.spec returns returns-2 put-text-requires same-length returns-3)
+append-spec = tie.close (tie.spec returns returns-2 (λ c κs. search needs) (λ c. search needs) returns-3)

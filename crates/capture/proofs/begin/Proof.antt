@@ -5,12 +5,9 @@ use borrow.Author.Needs.{needs}
 use Rattle.capture.proofs.begin.Statement.{statement}
 use Rattle.capture.proofs.begin.Tie as tie
 
-fresh-requires : tie.Need-fresh-requires
-fresh-requires c κs = search needs
-
 returns : tie.Need-returns
 unfolding start
 returns c = (rw (c .before .fresh .ensures .session), refl)
 
 pub begin-spec : {M : Type 1} → statement M
-begin-spec = tie.close (tie.spec fresh-requires returns)
+begin-spec = tie.close (tie.spec (λ c κs. search needs) returns)

@@ -7,9 +7,6 @@ use borrow.Author.Needs.{needs}
 use Rattle.capture.proofs.end_line.Statement.{statement}
 use Rattle.capture.proofs.end_line.Tie as tie
 
-line-end-requires : tie.Need-line-end-requires
-line-end-requires c κs = search needs
-
 slice-aggregate-judge : tie.Need-slice-aggregate-judge
 slice-aggregate-judge c = sym (length-take-le _ _ (omega (arith, end-few (c .before .before .line-end .ensures), c .before .before .before .before .before .before .pre .1)))
 
@@ -20,15 +17,6 @@ judge-requires c κs =
     let few = end-few (end .ensures) in
     (start .pre .0, rw (length-take-le (end .result) (start .args .line .now) (omega (arith, start .pre .1))) few, start .pre .2)
 
-put-answer-requires : tie.Need-put-answer-requires
-put-answer-requires c κs = search needs
-
-same-length : tie.Need-same-length
-same-length c = search needs
-
-same-length-2 : tie.Need-same-length-2
-same-length-2 c = search needs
-
 returns : tie.Need-returns
 returns c =
     let judged = c .before .before .before .before .before .before .before .judge .ensures in
@@ -36,13 +24,4 @@ returns c =
     line-ended _ (c .before .before .before .before .before .before .before .before .before .before .before .before .before .before .before .pre .0) (c .before .before .before .before .before .before .before .before .before .before .before .line-end .ensures) (judged .0) (judged .1) (put .0) (put .1)
 
 pub end-line-spec : {M : Type 1} → statement M
-end-line-spec =
-    tie.close
-    (tie.spec
-    line-end-requires
-    slice-aggregate-judge
-    judge-requires
-    put-answer-requires
-    same-length
-    same-length-2
-    returns)
+end-line-spec = tie.close (tie.spec (λ c κs. search needs) slice-aggregate-judge judge-requires (λ c κs. search needs) (λ c. search needs) (λ c. search needs) returns)

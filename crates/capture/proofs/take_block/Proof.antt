@@ -25,43 +25,19 @@ loop-holds c =
 find-newline-requires : tie.Need-find-newline-requires Inv-loop μ-loop
 find-newline-requires c κs = (c .loop .inv .0 .low, le-refl _)
 
-sub-append : tie.Need-sub-append Inv-loop μ-loop
-sub-append c = search needs
-
-part-append-start : tie.Need-part-append-start Inv-loop μ-loop
-part-append-start c = search needs
-
-part-append-end : tie.Need-part-append-end Inv-loop μ-loop
-part-append-end c = search needs
-
 append-requires : tie.Need-append-requires Inv-loop μ-loop
 append-requires c κs = c .before .before .before .loop .inv .0 .buffer-size
-
-same-length : tie.Need-same-length Inv-loop μ-loop
-same-length c = search needs
-
-same-length-2 : tie.Need-same-length-2 Inv-loop μ-loop
-same-length-2 c = search needs
-
-same-length-3 : tie.Need-same-length-3 Inv-loop μ-loop
-same-length-3 c = search needs
 
 returns : tie.Need-returns Inv-loop μ-loop
 returns c =
     let taken = block-taken (c .before .before .before .before .before .before .before .loop .inv .0) (c .before .before .before .before .before .before .find-newline .ensures) (c .before .before .before .append .ensures) (c .if1 .taken) (c .before .before .before .before .before .before .before .before .before .before .before .before .pre .1) in
     record { fed = taken .fed; figures = taken .figures; within = taken .within; line = taken .line; room = taken .room; size = taken .size }
 
-slice-aggregate-glance : tie.Need-slice-aggregate-glance Inv-loop μ-loop
-slice-aggregate-glance c = search needs
-
 glance-requires : tie.Need-glance-requires Inv-loop μ-loop
 glance-requires c κs = (c .before .before .before .before .before .before .before .before .before .append .ensures .size, c .before .before .before .before .before .before .before .before .before .before .before .before .before .loop .inv .1, c .before .before .before .before .before .before .before .before .before .before .before .before .before .loop .inv .2)
 
 add-from : tie.Need-add-from Inv-loop μ-loop
 add-from c = omega (arith, c .before .before .before .before .before .before .before .before .before .before .before .before .before .before .find-newline .ensures .high, c .before .before .before .before .before .before .before .before .before .before .before .before .before .before .before .before .before .before .before .before .pre .1)
-
-enum-known-seen : tie.Need-enum-known-seen Inv-loop μ-loop
-enum-known-seen c = search needs
 
 put-answer-requires : tie.Need-put-answer-requires Inv-loop μ-loop
 put-answer-requires c κs =
@@ -83,9 +59,6 @@ loop-again c =
     let put = c .before .before .put-answer .ensures in
     (reading-on inv found (c .before .before .before .before .before .before .before .before .before .before .before .before .before .before .before .before .before .before .append .ensures) (omega (arith, found .high, c .before .before .before .before .before .before .before .before .before .before .before .before .before .before .before .if1 .left)) (line-known _ (inv .figures) glance (c .before .before .before .before .before .seen .given .1) (inv .scratch-size) (put .0) (put .1)), glance .values, glance .symbols)
 
-enum-told : tie.Need-enum-told Inv-loop μ-loop
-enum-told c = search needs
-
 end-line-requires : tie.Need-end-line-requires Inv-loop μ-loop
 end-line-requires c κs =
     let inv = c .before .before .before .before .before .before .before .before .before .before .before .before .before .before .before .before .before .before .before .before .loop .inv .0 in
@@ -105,29 +78,4 @@ loop-again-2 c =
     (reading-on (c .before .before .before .before .before .before .before .before .before .before .before .before .before .before .before .before .before .before .before .before .before .before .before .before .before .loop .inv .0) found (c .before .before .before .before .before .before .before .before .before .before .before .before .before .before .before .before .before .before .before .before .before .append .ensures) (omega (arith, found .high, c .before .before .before .before .before .before .before .before .before .before .before .before .before .before .before .before .before .before .if1 .left)) (c .before .before .before .before .end-line .ensures), glance .values, glance .symbols)
 
 pub take-block-spec : {M : Type 1} → statement M
-take-block-spec =
-    tie.close
-    (tie.spec
-    Inv-loop
-    μ-loop
-    loop-holds
-    find-newline-requires
-    sub-append
-    part-append-start
-    part-append-end
-    append-requires
-    same-length
-    same-length-2
-    same-length-3
-    returns
-    slice-aggregate-glance
-    glance-requires
-    add-from
-    enum-known-seen
-    put-answer-requires
-    loop-less
-    loop-again
-    enum-told
-    end-line-requires
-    loop-less-2
-    loop-again-2)
+take-block-spec = tie.close (tie.spec Inv-loop μ-loop loop-holds find-newline-requires (λ c. search needs) (λ c. search needs) (λ c. search needs) append-requires (λ c. search needs) (λ c. search needs) (λ c. search needs) returns (λ c. search needs) glance-requires add-from (λ c. search needs) put-answer-requires loop-less loop-again (λ c. search needs) end-line-requires loop-less-2 loop-again-2)

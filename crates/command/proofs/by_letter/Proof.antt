@@ -5,20 +5,11 @@ use borrow.Author.Needs.{needs}
 use Rattle.command.proofs.by_letter.Statement.{statement}
 use Rattle.command.proofs.by_letter.Tie as tie
 
-one-more-requires : tie.Need-one-more-requires
-one-more-requires c κs = search needs
-
 returns : tie.Need-returns
 returns c = rw (letter-taken _ _ (c .before .if1 .taken), c .one-more .ensures)
 
-one-more-requires-2 : tie.Need-one-more-requires-2
-one-more-requires-2 c κs = search needs
-
 returns-2 : tie.Need-returns-2
 returns-2 c = rw (letter-again _ _ (c .before .before .if1 .left) (c .before .if2 .taken), c .one-more2 .ensures)
-
-one-more-requires-3 : tie.Need-one-more-requires-3
-one-more-requires-3 c κs = search needs
 
 returns-3 : tie.Need-returns-3
 returns-3 c = rw (letter-refused _ _ (c .before .before .before .if1 .left) (c .before .before .if2 .left) (c .before .if3 .taken), c .one-more3 .ensures)
@@ -27,13 +18,4 @@ returns-4 : tie.Need-returns-4
 returns-4 c = sym (letter-other _ _ (c .before .before .if1 .left) (c .before .if2 .left) (c .if3 .left))
 
 pub by-letter-spec : {M : Type 1} → statement M
-by-letter-spec =
-    tie.close
-    (tie.spec
-    one-more-requires
-    returns
-    one-more-requires-2
-    returns-2
-    one-more-requires-3
-    returns-3
-    returns-4)
+by-letter-spec = tie.close (tie.spec (λ c κs. search needs) returns (λ c κs. search needs) returns-2 (λ c κs. search needs) returns-3 returns-4)

@@ -15,21 +15,6 @@ Inv-loop text counts₀ first₀ i₀ i-end counts first i =
 abbrev μ-loop : tie.MeasureT-loop
 μ-loop text counts₀ first₀ i₀ i-end counts first i = length text - i
 
-loop-holds : tie.Need-loop-holds Inv-loop μ-loop
-loop-holds c = search needs
-
-shared-slice-read-byte : tie.Need-shared-slice-read-byte Inv-loop μ-loop
-shared-slice-read-byte c = search needs
-
-step-requires : tie.Need-step-requires Inv-loop μ-loop
-step-requires c κs = search needs
-
-add-i : tie.Need-add-i Inv-loop μ-loop
-add-i c = search needs
-
-loop-less : tie.Need-loop-less Inv-loop μ-loop
-loop-less c = search needs
-
 loop-again : tie.Need-loop-again Inv-loop μ-loop
 loop-again c =
     let at = c .before .before .before .loop in
@@ -39,15 +24,4 @@ returns : tie.Need-returns Inv-loop μ-loop
 returns c = sym (counted-all (c .before .loop .first) (c .before .loop .counts) _ (c .before .loop .i) (c .loop-test .left)) ∙ c .before .loop .inv .1
 
 pub count-spec : {M : Type 1} → statement M
-count-spec =
-    tie.close
-    (tie.spec
-    Inv-loop
-    μ-loop
-    loop-holds
-    shared-slice-read-byte
-    step-requires
-    add-i
-    loop-less
-    loop-again
-    returns)
+count-spec = tie.close (tie.spec Inv-loop μ-loop (λ c. search needs) (λ c. search needs) (λ c κs. search needs) (λ c. search needs) (λ c. search needs) loop-again returns)

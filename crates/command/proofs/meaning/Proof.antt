@@ -6,38 +6,17 @@ use borrow.Author.Needs.{needs}
 use Rattle.command.proofs.meaning.Statement.{statement}
 use Rattle.command.proofs.meaning.Tie as tie
 
-slice-aggregate-same : tie.Need-slice-aggregate-same
-slice-aggregate-same c = search needs
-
-same-requires : tie.Need-same-requires
-same-requires c κs = search needs
-
 returns : tie.Need-returns
 returns c = sym (means-standard _ (sym (tested-same _ _ _ (c .before .same .ensures)) ∙ c .if1 .taken))
 
-slice-aggregate-same-2 : tie.Need-slice-aggregate-same-2
-slice-aggregate-same-2 c = search needs
-
-same-requires-2 : tie.Need-same-requires-2
-same-requires-2 c κs = search needs
-
 returns-2 : tie.Need-returns-2
 returns-2 c = sym (means-help _ (sym (tested-same _ _ _ (c .before .before .before .before .same .ensures)) ∙ c .before .before .before .if1 .left) (sym (tested-same _ _ _ (c .before .same2 .ensures)) ∙ c .if2 .taken))
-
-slice-aggregate-same-3 : tie.Need-slice-aggregate-same-3
-slice-aggregate-same-3 c = search needs
-
-same-requires-3 : tie.Need-same-requires-3
-same-requires-3 c κs = search needs
 
 returns-3 : tie.Need-returns-3
 returns-3 c = sym (means-short _ (sym (tested-same _ _ _ (c .before .before .before .before .before .before .before .same .ensures)) ∙ c .before .before .before .before .before .before .if1 .left) (sym (tested-same _ _ _ (c .before .before .before .before .same2 .ensures)) ∙ c .before .before .before .if2 .left) (sym (tested-same _ _ _ (c .before .same3 .ensures)) ∙ c .if3 .taken))
 
 returns-4 : tie.Need-returns-4
 returns-4 c = sym (means-file _ (sym (tested-same _ _ _ (c .before .before .before .before .before .before .before .before .same .ensures)) ∙ c .before .before .before .before .before .before .before .if1 .left) (sym (tested-same _ _ _ (c .before .before .before .before .before .same2 .ensures)) ∙ c .before .before .before .before .if2 .left) (sym (tested-same _ _ _ (c .before .before .same3 .ensures)) ∙ c .before .if3 .left) (empty-dash (c .before .before .before .before .before .before .before .before .before .before .before .args .argument .now) (c .if4 .taken)))
-
-shared-slice-read-if5 : tie.Need-shared-slice-read-if5
-shared-slice-read-if5 c = search needs
 
 returns-5 : tie.Need-returns-5
 returns-5 c = sym (means-unknown _ (sym (tested-same _ _ _ (c .before .before .before .before .before .before .before .before .before .before .same .ensures)) ∙ c .before .before .before .before .before .before .before .before .before .if1 .left) (sym (tested-same _ _ _ (c .before .before .before .before .before .before .before .same2 .ensures)) ∙ c .before .before .before .before .before .before .if2 .left) (sym (tested-same _ _ _ (c .before .before .before .before .same3 .ensures)) ∙ c .before .before .before .if3 .left) (c .if5 .taken))
@@ -46,19 +25,4 @@ returns-6 : tie.Need-returns-6
 returns-6 c = sym (means-file _ (sym (tested-same _ _ _ (c .before .before .before .before .before .before .before .before .before .before .same .ensures)) ∙ c .before .before .before .before .before .before .before .before .before .if1 .left) (sym (tested-same _ _ _ (c .before .before .before .before .before .before .before .same2 .ensures)) ∙ c .before .before .before .before .before .before .if2 .left) (sym (tested-same _ _ _ (c .before .before .before .before .same3 .ensures)) ∙ c .before .before .before .if3 .left) (c .if5 .left))
 
 pub meaning-spec : {M : Type 1} → statement M
-meaning-spec =
-    tie.close
-    (tie.spec
-    slice-aggregate-same
-    same-requires
-    returns
-    slice-aggregate-same-2
-    same-requires-2
-    returns-2
-    slice-aggregate-same-3
-    same-requires-3
-    returns-3
-    returns-4
-    shared-slice-read-if5
-    returns-5
-    returns-6)
+meaning-spec = tie.close (tie.spec (λ c. search needs) (λ c κs. search needs) returns (λ c. search needs) (λ c κs. search needs) returns-2 (λ c. search needs) (λ c κs. search needs) returns-3 returns-4 (λ c. search needs) returns-5 returns-6)

@@ -4,9 +4,6 @@ use borrow.Author.Needs.{needs}
 use Rattle.command.proofs.step.Statement.{statement}
 use Rattle.command.proofs.step.Tie as tie
 
-by-letter-requires : tie.Need-by-letter-requires
-by-letter-requires c κs = search needs
-
 returns : tie.Need-returns
 unfolding stepOf
 returns c = rw (c .before .if1 .taken) (c .by-letter .ensures)
@@ -16,4 +13,4 @@ unfolding stepOf
 returns-2 c = rw (c .if1 .left)
 
 pub step-spec : {M : Type 1} → statement M
-step-spec = tie.close (tie.spec by-letter-requires returns returns-2)
+step-spec = tie.close (tie.spec (λ c κs. search needs) returns returns-2)

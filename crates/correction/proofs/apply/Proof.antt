@@ -50,12 +50,6 @@ slice-read-word c = rw (c .before .before .before .before .loop .inv .1 .size) (
 slice-write-word : tie.Need-slice-write-word Inv-loop μ-loop
 slice-write-word c = rw (c .before .before .before .before .loop .inv .1 .size) (place (c .before .before .before))
 
-add-x : tie.Need-add-x Inv-loop μ-loop
-add-x c = search needs
-
-loop-less : tie.Need-loop-less Inv-loop μ-loop
-loop-less c = search needs
-
 loop-again : tie.Need-loop-again Inv-loop μ-loop
 unfolding _⊕_
 loop-again c =
@@ -68,21 +62,4 @@ returns : tie.Need-returns Inv-loop μ-loop
 returns c = rw (le-antisymm (c .before .loop .inv .0) (c .loop-test .left)) at (c .before .loop .inv .1)
 
 pub apply-spec : {M : Type 1} → statement M
-apply-spec =
-    tie.close
-    (tie.spec
-    Inv-loop
-    μ-loop
-    loop-holds
-    mul-j
-    element-copy-out-j
-    mul-word
-    element-copy-out-word
-    mul-word-2
-    slice-read-word
-    slice-write-word
-    add-x
-    loop-less
-    loop-again
-    same-length
-    returns)
+apply-spec = tie.close (tie.spec Inv-loop μ-loop loop-holds mul-j element-copy-out-j mul-word element-copy-out-word mul-word-2 slice-read-word slice-write-word (λ c. search needs) (λ c. search needs) loop-again same-length returns)

@@ -17,31 +17,10 @@ abbrev μ-loop : tie.MeasureT-loop
 loop-holds : tie.Need-loop-holds Inv-loop μ-loop
 loop-holds c = (omega arith, marking-none (c .before .args .calls .now) (c .before .args .bytes .now) (c .before .pre))
 
-mul-covers : tie.Need-mul-covers Inv-loop μ-loop
-mul-covers c = search needs
-
-element-copy-out-covers : tie.Need-element-copy-out-covers Inv-loop μ-loop
-element-copy-out-covers c = search needs
-
-covers-requires : tie.Need-covers-requires Inv-loop μ-loop
-covers-requires c κs = search needs
-
-slice-write-bytes : tie.Need-slice-write-bytes Inv-loop μ-loop
-slice-write-bytes c = search needs
-
-cast-covered : tie.Need-cast-covered Inv-loop μ-loop
-cast-covered c = search needs
-
 add-covered : tie.Need-add-covered Inv-loop μ-loop
 add-covered c =
     let at = c .before .before .before in
     omega (arith, marking-fits (at .loop .inv .1) (c .before .before .loop-test .taken) (c .covers .ensures))
-
-add-f : tie.Need-add-f Inv-loop μ-loop
-add-f c = search needs
-
-loop-less : tie.Need-loop-less Inv-loop μ-loop
-loop-less c = search needs
 
 loop-again : tie.Need-loop-again Inv-loop μ-loop
 loop-again c =
@@ -58,20 +37,4 @@ returns c =
     rw end at (at .loop .inv .1)
 
 pub mark-spec : {M : Type 1} → statement M
-mark-spec =
-    tie.close
-    (tie.spec
-    Inv-loop
-    μ-loop
-    loop-holds
-    mul-covers
-    element-copy-out-covers
-    covers-requires
-    slice-write-bytes
-    cast-covered
-    add-covered
-    add-f
-    loop-less
-    loop-again
-    same-length
-    returns)
+mark-spec = tie.close (tie.spec Inv-loop μ-loop loop-holds (λ c. search needs) (λ c. search needs) (λ c κs. search needs) (λ c. search needs) (λ c. search needs) add-covered (λ c. search needs) (λ c. search needs) loop-again same-length returns)

@@ -9,12 +9,6 @@ use Rattle.decoder.proofs.Judging.{looking-shape, looking-word, looking
 use Rattle.decoder.proofs.looked.Statement.{statement}
 use Rattle.decoder.proofs.looked.Tie as tie
 
-is-lawful-requires : tie.Need-is-lawful-requires
-is-lawful-requires c κs = search needs
-
-shape-refusal-requires : tie.Need-shape-refusal-requires
-shape-refusal-requires c κs = search needs
-
 returns : tie.Need-returns
 returns c = looking-shape (sym (c .before .before .is-lawful .ensures) ∙ not-true _ (c .before .if1 .taken)) (c .shape-refusal .ensures)
 
@@ -50,9 +44,6 @@ returns-4 c =
 note-requires : tie.Need-note-requires
 note-requires c κs = let e = c .before .before .before in (shape-passes (e .before .before .before), word-size (e .before), list-size e)
 
-same-length : tie.Need-same-length
-same-length c = search needs
-
 returns-5 : tie.Need-returns-5
 returns-5 c =
     let n = c .before .before .before .before in
@@ -61,17 +52,4 @@ returns-5 c =
     (c .before .before .note .ensures)
 
 pub looked-spec : {M : Type 1} → statement M
-looked-spec =
-    tie.close
-    (tie.spec
-    is-lawful-requires
-    shape-refusal-requires
-    returns
-    word-length-requires
-    returns-2
-    returns-3
-    is-narrow-requires
-    returns-4
-    note-requires
-    same-length
-    returns-5)
+looked-spec = tie.close (tie.spec (λ c κs. search needs) (λ c κs. search needs) returns word-length-requires returns-2 returns-3 is-narrow-requires returns-4 note-requires (λ c. search needs) returns-5)

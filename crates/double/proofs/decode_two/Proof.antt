@@ -11,12 +11,6 @@ use Rattle.double.proofs.Answers.{refuses-shape, refuses-directions, re
 use Rattle.double.proofs.decode_two.Statement.{statement}
 use Rattle.double.proofs.decode_two.Tie as tie
 
-is-lawful-requires : tie.Need-is-lawful-requires
-is-lawful-requires c κs = search needs
-
-shape-refusal-requires : tie.Need-shape-refusal-requires
-shape-refusal-requires c κs = search needs
-
 returns : tie.Need-returns
 returns c = refuses-shape (sym (c .before .before .is-lawful .ensures) ∙ not-true _ (c .before .if1 .taken)) (c .shape-refusal .ensures)
 
@@ -27,9 +21,6 @@ shape-passes c = sym (c .before .is-lawful .ensures) ∙ not-false _ (c .if1 .le
 returns-2 : tie.Need-returns-2
 returns-2 c = refuses-directions (shape-passes (c .before .before)) (c .if2 .taken)
 
-cast-q : tie.Need-cast-q
-cast-q c = search needs
-
 mul-if3 : tie.Need-mul-if3
 mul-if3 c = let b = bounds _ (shape-passes (c .before .before .before)) in omega (arith, square-le _ (b .q31))
 
@@ -38,9 +29,6 @@ returns-3 c = let e = c .before .before in refuses-length (shape-passes (e .befo
 
 is-narrow-requires : tie.Need-is-narrow-requires
 is-narrow-requires c κs = bounds _ (shape-passes (c .before .before .before .before .before)) .b32
-
-same-length : tie.Need-same-length
-same-length c = search needs
 
 returns-4 : tie.Need-returns-4
 returns-4 c =
@@ -56,26 +44,5 @@ restore-requires c κs =
       narrow-word _ _ (e .if3 .left) (sym (n .before .is-narrow .ensures) ∙ not-false _ (n .if4 .left)),
     )
 
-same-length-2 : tie.Need-same-length-2
-same-length-2 c = search needs
-
-returns-5 : tie.Need-returns-5
-returns-5 c = search needs
-
 pub decode-two-spec : {M : Type 1} → statement M
-decode-two-spec =
-    tie.close
-    (tie.spec
-    is-lawful-requires
-    shape-refusal-requires
-    returns
-    returns-2
-    cast-q
-    mul-if3
-    returns-3
-    is-narrow-requires
-    same-length
-    returns-4
-    restore-requires
-    same-length-2
-    returns-5)
+decode-two-spec = tie.close (tie.spec (λ c κs. search needs) (λ c κs. search needs) returns returns-2 (λ c. search needs) mul-if3 returns-3 is-narrow-requires (λ c. search needs) returns-4 restore-requires (λ c. search needs) (λ c. search needs))

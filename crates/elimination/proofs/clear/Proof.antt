@@ -15,9 +15,6 @@ Inv-loop rows width columns scratch₀ values₀ k u first i₀ scratch values i
 abbrev μ-loop : tie.MeasureT-loop
 μ-loop rows width columns scratch₀ values₀ k u first i₀ scratch values i = rows - i
 
-add-first : tie.Need-add-first Inv-loop μ-loop
-add-first c = search needs
-
 loop-holds : tie.Need-loop-holds Inv-loop μ-loop
 loop-holds c = (search needs, search needs, cleared-none _ (c .before .pre .0 .sizes))
 
@@ -34,12 +31,6 @@ clear-row-requires c κs =
       zeros-joined (l .inv .2) (a .u) (cleared-own (l .i) (cellOf (a .width) (a .scratch .now)) (a .k) (a .u)) (s .pre .1) (s .pre .3),
     )
 
-add-i : tie.Need-add-i Inv-loop μ-loop
-add-i c = search needs
-
-loop-less : tie.Need-loop-less Inv-loop μ-loop
-loop-less c = search needs
-
 loop-again : tie.Need-loop-again Inv-loop μ-loop
 loop-again c =
     let t = c .before .before .before .before .before in
@@ -52,16 +43,4 @@ returns : tie.Need-returns Inv-loop μ-loop
 returns c = rw (le-antisymm (c .before .loop .inv .0) (c .loop-test .left)) at (c .before .loop .inv .2)
 
 pub clear-spec : {M : Type 1} → statement M
-clear-spec =
-    tie.close
-    (tie.spec
-    Inv-loop
-    μ-loop
-    add-first
-    loop-holds
-    clear-row-requires
-    add-i
-    loop-less
-    loop-again
-    same-length
-    returns)
+clear-spec = tie.close (tie.spec Inv-loop μ-loop (λ c. search needs) loop-holds clear-row-requires (λ c. search needs) (λ c. search needs) loop-again same-length returns)

@@ -8,21 +8,6 @@ use Rattle.elimination.proofs.Columns.{joined-none, joined-as, single-n
 use Rattle.elimination.proofs.clear_row.Statement.{statement}
 use Rattle.elimination.proofs.clear_row.Tie as tie
 
-mul-has : tie.Need-mul-has
-mul-has c = search needs
-
-add-has : tie.Need-add-has
-add-has c = search needs
-
-mul-has-2 : tie.Need-mul-has-2
-mul-has-2 c = search needs
-
-slice-read-has : tie.Need-slice-read-has
-slice-read-has c = search needs
-
-has-requires : tie.Need-has-requires
-has-requires c κs = search needs
-
 returns : tie.Need-returns
 unfolding cellOf
 returns c =
@@ -35,9 +20,6 @@ add-row-requires c κs =
     let p = c .before .before .before .before .before .before .pre in
     (p .0, p .1, p .2, λ z. omega arith, p .4)
 
-same-length : tie.Need-same-length
-same-length c = search needs
-
 returns-2 : tie.Need-returns-2
 unfolding cellOf
 returns-2 c =
@@ -47,15 +29,4 @@ returns-2 c =
     (single-yes (λ t. cellOf (s .args .width) (s .args .scratch .now) t (s .args .k)) (s .args .i) (sym (h .before .has .ensures) ∙ not-false (h .before .has .result) (h .if1 .left)))
 
 pub clear-row-spec : {M : Type 1} → statement M
-clear-row-spec =
-    tie.close
-    (tie.spec
-    mul-has
-    add-has
-    mul-has-2
-    slice-read-has
-    has-requires
-    returns
-    add-row-requires
-    same-length
-    returns-2)
+clear-row-spec = tie.close (tie.spec (λ c. search needs) (λ c. search needs) (λ c. search needs) (λ c. search needs) (λ c κs. search needs) returns add-row-requires (λ c. search needs) returns-2)

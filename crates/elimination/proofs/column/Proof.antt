@@ -7,12 +7,6 @@ use Rattle.elimination.proofs.Reductions.{reduced-lift}
 use Rattle.elimination.proofs.column.Statement.{statement}
 use Rattle.elimination.proofs.column.Tie as tie
 
-find-requires : tie.Need-find-requires
-find-requires c κs = search needs
-
-same-length : tie.Need-same-length
-same-length c = search needs
-
 returns : tie.Need-returns
 returns c =
     let p = c .before .before .before .before .pre in
@@ -41,12 +35,6 @@ clear-requires c κs =
     let u = pivots e in
     (room-same (s .pre .0) (t .lift .ensures .size) (t .lift .ensures .sizes), s .pre .1, u, λ j l. reduced-lift (s .pre .2) (s .pre .1) (f .find .ensures .least) (below e) (t .lift .ensures .rows) .zeros (s .args .u) j (omega arith) u l)
 
-add-result : tie.Need-add-result
-add-result c = search needs
-
-same-length-2 : tie.Need-same-length-2
-same-length-2 c = search needs
-
 returns-2 : tie.Need-returns-2
 returns-2 c =
     let t = c .before .before .before .before .before .before .before in
@@ -56,14 +44,4 @@ returns-2 c =
     column-pivot (s .pre .1) (s .pre .2) (f .find .ensures) (below e) (t .lift .ensures) (c .before .before .clear .ensures)
 
 pub column-spec : {M : Type 1} → statement M
-column-spec =
-    tie.close
-    (tie.spec
-    find-requires
-    same-length
-    returns
-    lift-requires
-    clear-requires
-    add-result
-    same-length-2
-    returns-2)
+column-spec = tie.close (tie.spec (λ c κs. search needs) (λ c. search needs) returns lift-requires clear-requires (λ c. search needs) (λ c. search needs) returns-2)

@@ -7,21 +7,9 @@ use Rattle.elimination.proofs.Outcomes.{answer-none, answer-several, an
 use Rattle.elimination.proofs.eliminate.Statement.{statement}
 use Rattle.elimination.proofs.eliminate.Tie as tie
 
-reduce-requires : tie.Need-reduce-requires
-reduce-requires c κs = search needs
-
-find-value-requires : tie.Need-find-value-requires
-find-value-requires c κs = search needs
-
-same-length : tie.Need-same-length
-same-length c = search needs
-
 returns : tie.Need-returns
 returns c =
     let f = c .before in answer-none (f .before .before .before .before .reduce .ensures) (f .find-value .ensures) (c .if1 .taken)
-
-same-length-2 : tie.Need-same-length-2
-same-length-2 c = search needs
 
 returns-2 : tie.Need-returns-2
 returns-2 c =
@@ -37,9 +25,6 @@ substitute-requires c κs =
       λ i j l. p .reduced .unit (omega (arith, p .reduced .few)) i j (omega arith),
     )
 
-same-length-3 : tie.Need-same-length-3
-same-length-3 c = search needs
-
 returns-3 : tie.Need-returns-3
 returns-3 c =
     let e = c .before .before .before in
@@ -47,15 +32,4 @@ returns-3 c =
     answer-one (f .before .before .before .before .reduce .ensures) (f .find-value .ensures) (e .before .if1 .left) (e .if2 .left) (c .substitute .ensures)
 
 pub eliminate-spec : {M : Type 1} → statement M
-eliminate-spec =
-    tie.close
-    (tie.spec
-    reduce-requires
-    find-value-requires
-    same-length
-    returns
-    same-length-2
-    returns-2
-    substitute-requires
-    same-length-3
-    returns-3)
+eliminate-spec = tie.close (tie.spec (λ c κs. search needs) (λ c κs. search needs) (λ c. search needs) returns (λ c. search needs) returns-2 substitute-requires (λ c. search needs) returns-3)

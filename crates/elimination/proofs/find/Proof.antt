@@ -39,9 +39,6 @@ mul-has-2 c = omega (arith, inside c)
 shared-slice-read-has : tie.Need-shared-slice-read-has Inv-loop μ-loop
 shared-slice-read-has c = inside (c .before)
 
-has-requires : tie.Need-has-requires Inv-loop μ-loop
-has-requires c κs = search needs
-
 returns : tie.Need-returns Inv-loop μ-loop
 unfolding cellOf
 returns c =
@@ -52,12 +49,6 @@ returns c =
       fails = l .inv .3;
       passes = λ t. sym (c .before .has .ensures) ∙ c .if1 .taken;
     }
-
-add-i : tie.Need-add-i Inv-loop μ-loop
-add-i c = search needs
-
-loop-less : tie.Need-loop-less Inv-loop μ-loop
-loop-less c = search needs
 
 loop-again : tie.Need-loop-again Inv-loop μ-loop
 unfolding cellOf
@@ -71,19 +62,4 @@ returns-2 c =
     record { least = search needs; most = search needs; fails = λ j lj. l .inv .3 j (omega arith); passes = λ t. absurd (omega arith) }
 
 pub find-spec : {M : Type 1} → statement M
-find-spec =
-    tie.close
-    (tie.spec
-    Inv-loop
-    μ-loop
-    loop-holds
-    mul-has
-    add-has
-    mul-has-2
-    shared-slice-read-has
-    has-requires
-    returns
-    add-i
-    loop-less
-    loop-again
-    returns-2)
+find-spec = tie.close (tie.spec Inv-loop μ-loop loop-holds mul-has add-has mul-has-2 shared-slice-read-has (λ c κs. search needs) returns (λ c. search needs) (λ c. search needs) loop-again returns-2)

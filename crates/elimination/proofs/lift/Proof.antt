@@ -14,12 +14,6 @@ returns c =
     let a = c .before .before .args in
     joined-none (lifted (a .u) (a .i)) (c .before .before .pre .0 .sizes) (λ t. and-no-right (eqb t (a .u)) (not-of-true (eq-eqb (a .i) (a .u) (c .if1 .taken))))
 
-add-row-requires : tie.Need-add-row-requires
-add-row-requires c κs = search needs
-
-same-length : tie.Need-same-length
-same-length c = search needs
-
 returns-2 : tie.Need-returns-2
 returns-2 c =
     let e = c .before .before .before .before .before in
@@ -27,4 +21,4 @@ returns-2 c =
     joined-as (lifted (a .u) (a .i)) (c .before .before .add-row .ensures) (single-yes (λ t. not (eqb (a .i) (a .u))) (a .u) (not-of-false (ne-eqb (a .i) (a .u) (e .if1 .left))))
 
 pub lift-spec : {M : Type 1} → statement M
-lift-spec = tie.close (tie.spec returns add-row-requires same-length returns-2)
+lift-spec = tie.close (tie.spec returns (λ c κs. search needs) (λ c. search needs) returns-2)

@@ -21,12 +21,6 @@ column-requires c κs =
     let l = c .before .before .before .loop in
     (room-same (c .before .before .before .before .before .pre) (l .inv .1 .size) (l .inv .1 .sizes), c .before .before .loop-test .taken, l .inv .1 .reduced)
 
-add-k : tie.Need-add-k Inv-loop μ-loop
-add-k c = search needs
-
-loop-less : tie.Need-loop-less Inv-loop μ-loop
-loop-less c = search needs
-
 loop-again : tie.Need-loop-again Inv-loop μ-loop
 loop-again c = (search needs, progress-more (c .before .before .before .before .before .before .loop .inv .1) (c .before .before .column .ensures))
 
@@ -37,15 +31,4 @@ returns : tie.Need-returns Inv-loop μ-loop
 returns c = rw (le-antisymm (c .before .loop .inv .0) (c .loop-test .left)) at (c .before .loop .inv .1)
 
 pub reduce-spec : {M : Type 1} → statement M
-reduce-spec =
-    tie.close
-    (tie.spec
-    Inv-loop
-    μ-loop
-    loop-holds
-    column-requires
-    add-k
-    loop-less
-    loop-again
-    same-length
-    returns)
+reduce-spec = tie.close (tie.spec Inv-loop μ-loop loop-holds column-requires (λ c. search needs) (λ c. search needs) loop-again same-length returns)

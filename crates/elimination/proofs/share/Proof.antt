@@ -5,9 +5,6 @@ use Rattle.parity.specs.Xor.{when}
 use Rattle.elimination.proofs.share.Statement.{statement}
 use Rattle.elimination.proofs.share.Tie as tie
 
-has-requires : tie.Need-has-requires
-has-requires c κs = search needs
-
 returns : tie.Need-returns
 unfolding when
 returns c = rw (sym (c .before .has .ensures) ∙ c .if1 .taken)
@@ -17,4 +14,4 @@ unfolding when
 returns-2 c = rw (sym (c .before .has .ensures) ∙ c .if1 .left)
 
 pub share-spec : {M : Type 1} → statement M
-share-spec = tie.close (tie.spec has-requires returns returns-2)
+share-spec = tie.close (tie.spec (λ c κs. search needs) returns returns-2)

@@ -18,9 +18,6 @@ abbrev μ-loop : tie.MeasureT-loop
 loop-holds : tie.Need-loop-holds Inv-loop μ-loop
 loop-holds c = (search needs, substituted-none (c .before .pre .0 .sizes))
 
-sub-k : tie.Need-sub-k Inv-loop μ-loop
-sub-k c = search needs
-
 take-off-requires : tie.Need-take-off-requires Inv-loop μ-loop
 take-off-requires c κs =
     let s = c .before .before .before .before in
@@ -28,9 +25,6 @@ take-off-requires c κs =
     let r = s .pre .0 in
     let below : l .k - 1 < s .args .columns = omega (arith, l .inv .0, c .before .loop-test .taken) in
     (omega (arith, r .rows), omega (arith, r .columns), omega (arith, row-before (s .args .width) (l .k - 1) (s .args .columns) below, r .space), l .inv .1 .size)
-
-loop-less : tie.Need-loop-less Inv-loop μ-loop
-loop-less c = search needs
 
 loop-again : tie.Need-loop-again Inv-loop μ-loop
 loop-again c =
@@ -41,6 +35,4 @@ returns : tie.Need-returns Inv-loop μ-loop
 returns c = let e : c .before .loop .k ≡ 0 = omega (arith, c .loop-test .left) in rw e at (c .before .loop .inv .1)
 
 pub substitute-spec : {M : Type 1} → statement M
-substitute-spec =
-    tie.close
-    (tie.spec Inv-loop μ-loop loop-holds sub-k take-off-requires loop-less loop-again returns)
+substitute-spec = tie.close (tie.spec Inv-loop μ-loop loop-holds (λ c. search needs) take-off-requires (λ c. search needs) loop-again returns)

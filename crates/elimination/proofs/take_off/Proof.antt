@@ -18,12 +18,6 @@ Inv-loop width scratch values₀ k value i₀ values i = (i ≤ k) × TakenOff w
 abbrev μ-loop : tie.MeasureT-loop
 μ-loop width scratch values₀ k value i₀ values i = k - i
 
-mul-value : tie.Need-mul-value Inv-loop μ-loop
-mul-value c = search needs
-
-element-copy-out-value : tie.Need-element-copy-out-value Inv-loop μ-loop
-element-copy-out-value c = search needs
-
 loop-holds : tie.Need-loop-holds Inv-loop μ-loop
 loop-holds c = (search needs, taken-none (c .before .before .pre .3))
 
@@ -46,24 +40,6 @@ mul-share-2 c = omega (arith, inside c)
 shared-slice-read-share : tie.Need-shared-slice-read-share Inv-loop μ-loop
 shared-slice-read-share c = inside (c .before)
 
-share-requires : tie.Need-share-requires Inv-loop μ-loop
-share-requires c κs = search needs
-
-mul-values : tie.Need-mul-values Inv-loop μ-loop
-mul-values c = search needs
-
-element-copy-out-values : tie.Need-element-copy-out-values Inv-loop μ-loop
-element-copy-out-values c = search needs
-
-element-write-values : tie.Need-element-write-values Inv-loop μ-loop
-element-write-values c = search needs
-
-add-i : tie.Need-add-i Inv-loop μ-loop
-add-i c = search needs
-
-loop-less : tie.Need-loop-less Inv-loop μ-loop
-loop-less c = search needs
-
 loop-again : tie.Need-loop-again Inv-loop μ-loop
 unfolding _⊕_ cellOf
 loop-again c =
@@ -74,23 +50,4 @@ returns : tie.Need-returns Inv-loop μ-loop
 returns c = rw (le-antisymm (c .before .loop .inv .0) (c .loop-test .left)) at (c .before .loop .inv .1)
 
 pub take-off-spec : {M : Type 1} → statement M
-take-off-spec =
-    tie.close
-    (tie.spec
-    Inv-loop
-    μ-loop
-    mul-value
-    element-copy-out-value
-    loop-holds
-    mul-share
-    add-share
-    mul-share-2
-    shared-slice-read-share
-    share-requires
-    mul-values
-    element-copy-out-values
-    element-write-values
-    add-i
-    loop-less
-    loop-again
-    returns)
+take-off-spec = tie.close (tie.spec Inv-loop μ-loop (λ c. search needs) (λ c. search needs) loop-holds mul-share add-share mul-share-2 shared-slice-read-share (λ c κs. search needs) (λ c. search needs) (λ c. search needs) (λ c. search needs) (λ c. search needs) (λ c. search needs) loop-again returns)

@@ -4,49 +4,16 @@ use Rattle.encoder.proofs.Answers.{passed, encoding-refused, encoding-d
 use Rattle.encoder.proofs.encode.Statement.{statement}
 use Rattle.encoder.proofs.encode.Tie as tie
 
-test-requires : tie.Need-test-requires
-test-requires c κs = search needs
-
-enum-known-tested : tie.Need-enum-known-tested
-enum-known-tested c = search needs
-
-enum-told : tie.Need-enum-told
-enum-told c = search needs
-
 write-requires : tie.Need-write-requires
 write-requires c κs =
     let p = passed _ _ _ _ _ _ _ (c .before .before .before .before .before .test .ensures) (c .before .enum-told .given .1) in
     (p .shape, p .word-size, p .symbols-size, p .width)
 
-same-length : tie.Need-same-length
-same-length c = search needs
-
-same-length-2 : tie.Need-same-length-2
-same-length-2 c = search needs
-
 returns : tie.Need-returns
 returns c = encoding-refused _ _ _ _ _ _ _ (c .before .before .before .before .before .test .ensures) (c .before .tested .given .1)
-
-same-length-3 : tie.Need-same-length-3
-same-length-3 c = search needs
-
-same-length-4 : tie.Need-same-length-4
-same-length-4 c = search needs
 
 returns-2 : tie.Need-returns-2
 returns-2 c = encoding-done _ _ _ _ _ _ _ (c .before .before .before .before .before .before .before .before .test .ensures) (c .before .before .before .before .enum-told .given .1) (c .before .before .write .ensures)
 
 pub encode-spec : {M : Type 1} → statement M
-encode-spec =
-    tie.close
-    (tie.spec
-    test-requires
-    enum-known-tested
-    enum-told
-    write-requires
-    same-length
-    same-length-2
-    returns
-    same-length-3
-    same-length-4
-    returns-2)
+encode-spec = tie.close (tie.spec (λ c κs. search needs) (λ c. search needs) (λ c. search needs) write-requires (λ c. search needs) (λ c. search needs) returns (λ c. search needs) (λ c. search needs) returns-2)

@@ -16,12 +16,6 @@ Inv-loop word symbols₀ q m rows p i₀ symbols i = (i ≤ rows) × Gathered q 
 abbrev μ-loop : tie.MeasureT-loop
 μ-loop word symbols₀ q m rows p i₀ symbols i = rows - i
 
-cast-q : tie.Need-cast-q Inv-loop μ-loop
-cast-q c = search needs
-
-cast-m : tie.Need-cast-m Inv-loop μ-loop
-cast-m c = search needs
-
 sub-m : tie.Need-sub-m Inv-loop μ-loop
 sub-m c = let b = bounds _ (c .before .before .before .before .pre .0) in omega arith
 
@@ -47,9 +41,6 @@ mul-copy-run c =
     let z = sizes _ (start (c .before) .pre .0) in
     omega arith
 
-add-copy-run : tie.Need-add-copy-run Inv-loop μ-loop
-add-copy-run c = search needs
-
 mul-copy-run-2 : tie.Need-mul-copy-run-2 Inv-loop μ-loop
 mul-copy-run-2 c =
     let f = fit (c .before) in
@@ -68,12 +59,6 @@ copy-run-requires c κs =
     let b = bounds _ (start (c .before) .pre .0) in
     omega (arith, c .before .before .loop .inv .1 .size)
 
-add-i : tie.Need-add-i Inv-loop μ-loop
-add-i c = search needs
-
-loop-less : tie.Need-loop-less Inv-loop μ-loop
-loop-less c = search needs
-
 loop-again : tie.Need-loop-again Inv-loop μ-loop
 loop-again c =
     let turn = c .before .before in
@@ -91,24 +76,4 @@ returns c =
     gathered-all _ _ _ _ (st .pre .2) (rw e at (l .inv .1))
 
 pub gather-spec : {M : Type 1} → statement M
-gather-spec =
-    tie.close
-    (tie.spec
-    Inv-loop
-    μ-loop
-    cast-q
-    cast-m
-    sub-m
-    sub-rows
-    sub-p
-    loop-holds
-    mul-copy-run
-    add-copy-run
-    mul-copy-run-2
-    add-copy-run-2
-    copy-run-requires
-    add-i
-    loop-less
-    loop-again
-    same-length
-    returns)
+gather-spec = tie.close (tie.spec Inv-loop μ-loop (λ c. search needs) (λ c. search needs) sub-m sub-rows sub-p loop-holds mul-copy-run (λ c. search needs) mul-copy-run-2 add-copy-run-2 copy-run-requires (λ c. search needs) (λ c. search needs) loop-again same-length returns)

@@ -16,12 +16,6 @@ Inv-loop symbols word₀ q m rows p i₀ word i = (i ≤ rows) × Placing q m p 
 abbrev μ-loop : tie.MeasureT-loop
 μ-loop symbols word₀ q m rows p i₀ word i = rows - i
 
-cast-q : tie.Need-cast-q Inv-loop μ-loop
-cast-q c = search needs
-
-cast-m : tie.Need-cast-m Inv-loop μ-loop
-cast-m c = search needs
-
 sub-m : tie.Need-sub-m Inv-loop μ-loop
 sub-m c = let b = bounds _ (c .before .before .before .before .pre .0) in omega arith
 
@@ -51,9 +45,6 @@ start c = c .before .before .before .before .before .before .before .before .bef
 fit : (c : tie.In-loop Inv-loop μ-loop) → Lower (start c .args .shape) (c .before .loop .i)
 fit c = let b = bounds _ (start c .pre .0) in lower _ (start c .pre .0) _ (c .loop-test .taken)
 
-add-place-row : tie.Need-add-place-row Inv-loop μ-loop
-add-place-row c = search needs
-
 mul-place-row : tie.Need-mul-place-row Inv-loop μ-loop
 mul-place-row c =
     let f = fit (c .before) in
@@ -71,12 +62,6 @@ place-row-requires c κs =
     let f = fit (c .before) in
     let b = bounds _ (start (c .before) .pre .0) in
     omega (arith, c .before .before .loop .inv .1 .size ∙ c .before .before .before .before .before .clear-run .ensures .size)
-
-add-i : tie.Need-add-i Inv-loop μ-loop
-add-i c = search needs
-
-loop-less : tie.Need-loop-less Inv-loop μ-loop
-loop-less c = search needs
 
 loop-again : tie.Need-loop-again Inv-loop μ-loop
 loop-again c =
@@ -96,25 +81,4 @@ returns c =
     placing-all _ (st .pre .0) _ _ _ _ (st .pre .1) (c .before .before .before .before .clear-run .ensures) (rw e at (l .inv .1))
 
 pub place-spec : {M : Type 1} → statement M
-place-spec =
-    tie.close
-    (tie.spec
-    Inv-loop
-    μ-loop
-    cast-q
-    cast-m
-    sub-m
-    mul-clear-run
-    clear-run-requires
-    sub-rows
-    sub-p
-    loop-holds
-    add-place-row
-    mul-place-row
-    mul-place-row-2
-    place-row-requires
-    add-i
-    loop-less
-    loop-again
-    same-length
-    returns)
+place-spec = tie.close (tie.spec Inv-loop μ-loop (λ c. search needs) (λ c. search needs) sub-m mul-clear-run clear-run-requires sub-rows sub-p loop-holds (λ c. search needs) mul-place-row mul-place-row-2 place-row-requires (λ c. search needs) (λ c. search needs) loop-again same-length returns)

@@ -10,14 +10,8 @@ use Rattle.gtb.specs.Shape.{wordLength, infoLength, scratchLength}
 use Rattle.encoder.proofs.sizes_match.Statement.{statement}
 use Rattle.encoder.proofs.sizes_match.Tie as tie
 
-info-length-requires : tie.Need-info-length-requires
-info-length-requires c κs = search needs
-
 returns : tie.Need-returns
 returns c = sym (and-no-left _ (and-no-left _ (ne-eqb _ _ (λ e. c .if1 .taken (e ∙ sym (c .before .info-length .ensures))))))
-
-scratch-length-requires : tie.Need-scratch-length-requires
-scratch-length-requires c κs = search needs
 
 returns-2 : tie.Need-returns-2
 returns-2 c =
@@ -25,9 +19,6 @@ returns-2 c =
     sym
     (and-no-left (eqb (a .word) (wordLength (a .shape)))
     (and-no-right (eqb (a .symbols) (infoLength (a .shape))) (ne-eqb (a .scratch) (scratchLength (a .shape)) (λ e. omega (arith, c .if2 .taken, c .before .scratch-length .ensures)))))
-
-word-length-requires : tie.Need-word-length-requires
-word-length-requires c κs = search needs
 
 returns-3 : tie.Need-returns-3
 returns-3 c =
@@ -40,12 +31,4 @@ returns-3 c =
     (and-both (eq-eqb _ _ (scratch .before .if1 .left ∙ symbols .info-length .ensures)) (eq-eqb (a .scratch) (scratchLength (a .shape)) (omega (arith, c .before .if2 .left, scratch .scratch-length .ensures)))))
 
 pub sizes-match-spec : {M : Type 1} → statement M
-sizes-match-spec =
-    tie.close
-    (tie.spec
-    info-length-requires
-    returns
-    scratch-length-requires
-    returns-2
-    word-length-requires
-    returns-3)
+sizes-match-spec = tie.close (tie.spec (λ c κs. search needs) returns (λ c κs. search needs) returns-2 (λ c κs. search needs) returns-3)

@@ -12,9 +12,6 @@ use Rattle.encoder.proofs.Answers.{sized, status-shape, status-length, 
 use Rattle.encoder.proofs.test.Statement.{statement}
 use Rattle.encoder.proofs.test.Tie as tie
 
-is-lawful-requires : tie.Need-is-lawful-requires
-is-lawful-requires c κs = search needs
-
 -- what the first two tests have shown
 shape-holds : (c : tie.Else1) → lawful (c .before .before .before .before .before .before .args .shape) ≡ true
 shape-holds c = sym (c .before .is-lawful .ensures) ∙ not-false _ (c .if1 .left)
@@ -24,9 +21,6 @@ sized-at c = sized (c .args .shape) (c .args .symbols .now) (c .args .scratch .n
 
 sizes-hold : (c : tie.Else2) → sized-at (c .before .before .before .before .before .before .before .before) ≡ true
 sizes-hold c = sym (c .before .sizes-match .ensures) ∙ not-false _ (c .if2 .left)
-
-shape-refusal-requires : tie.Need-shape-refusal-requires
-shape-refusal-requires c κs = search needs
 
 returns : tie.Need-returns
 returns c =
@@ -46,14 +40,8 @@ returns-2 c =
     (sym (c .before .sizes-match .ensures) ∙ not-true _ (c .if2 .taken)))
     refl
 
-clear-requires : tie.Need-clear-requires
-clear-requires c κs = search needs
-
 is-narrow-requires : tie.Need-is-narrow-requires
 is-narrow-requires c κs = bounds _ (shape-holds (c .before .before .before .before .before .before)) .b32
-
-same-length : tie.Need-same-length
-same-length c = search needs
 
 returns-3 : tie.Need-returns-3
 unfolding scratchAfter
@@ -65,9 +53,6 @@ returns-3 c =
     (sym (c .before .is-narrow .ensures) ∙ not-true _ (c .if3 .taken)))
     (c .before .before .before .before .clear .ensures)
 
-same-length-2 : tie.Need-same-length-2
-same-length-2 c = search needs
-
 returns-4 : tie.Need-returns-4
 returns-4 c =
     let sizes = c .before .before .before .before .before .before in
@@ -78,17 +63,4 @@ returns-4 c =
     (c .before .before .before .before .clear .ensures)
 
 pub test-spec : {M : Type 1} → statement M
-test-spec =
-    tie.close
-    (tie.spec
-    is-lawful-requires
-    shape-refusal-requires
-    returns
-    sizes-match-requires
-    returns-2
-    clear-requires
-    is-narrow-requires
-    same-length
-    returns-3
-    same-length-2
-    returns-4)
+test-spec = tie.close (tie.spec (λ c κs. search needs) (λ c κs. search needs) returns sizes-match-requires returns-2 (λ c κs. search needs) is-narrow-requires (λ c. search needs) returns-3 (λ c. search needs) returns-4)

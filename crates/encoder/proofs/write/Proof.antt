@@ -5,9 +5,6 @@ use Rattle.encoder.proofs.Codewords.{encodes}
 use Rattle.encoder.proofs.write.Statement.{statement}
 use Rattle.encoder.proofs.write.Tie as tie
 
-place-requires : tie.Need-place-requires
-place-requires c κs = search needs
-
 raise-requires : tie.Need-raise-requires
 raise-requires c κs = (c .before .before .before .before .before .before .before .pre .0, c .before .before .before .place .ensures .size)
 
@@ -18,9 +15,6 @@ interpolate-requires c κs =
     let start = place .before .before .before .before in
     raised-ready _ (start .pre .0) _ _ (raise .raise .ensures) (place .place .ensures .size) (placed-sound _ (start .pre .0) _ _ (start .pre .3) (place .place .ensures))
 
-same-length : tie.Need-same-length
-same-length c = search needs
-
 returns : tie.Need-returns
 returns c =
     let interpolate = c .before .before in
@@ -30,5 +24,4 @@ returns c =
     encodes _ (start .pre .0) _ _ _ _ (start .pre .2) (start .pre .3) (place .place .ensures) (raise .raise .ensures) (interpolate .interpolate .ensures)
 
 pub write-spec : {M : Type 1} → statement M
-write-spec =
-    tie.close (tie.spec place-requires raise-requires interpolate-requires same-length returns)
+write-spec = tie.close (tie.spec (λ c κs. search needs) raise-requires interpolate-requires (λ c. search needs) returns)

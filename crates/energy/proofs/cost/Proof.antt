@@ -8,8 +8,5 @@ use Rattle.energy.proofs.cost.Tie as tie
 mul-result : tie.Need-mul-result
 mul-result c = omega (arith, product-fits (c .args .calls) (c .args .price) (omega arith) (omega arith))
 
-returns : tie.Need-returns
-returns c = search needs
-
 pub cost-spec : {M : Type 1} → statement M
-cost-spec = tie.close (tie.spec mul-result returns)
+cost-spec = tie.close (tie.spec mul-result (λ c. search needs))

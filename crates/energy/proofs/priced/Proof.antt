@@ -18,21 +18,6 @@ abbrev μ-loop : tie.MeasureT-loop
 loop-holds : tie.Need-loop-holds Inv-loop μ-loop
 loop-holds c = (omega arith, omega arith, omega arith, up-to-none (λ k. getD (c .before .args .calls .now) k 0) (c .before .args .prices .now))
 
-mul-cost : tie.Need-mul-cost Inv-loop μ-loop
-mul-cost c = search needs
-
-element-copy-out-cost : tie.Need-element-copy-out-cost Inv-loop μ-loop
-element-copy-out-cost c = search needs
-
-mul-cost-2 : tie.Need-mul-cost-2 Inv-loop μ-loop
-mul-cost-2 c = search needs
-
-shared-slice-read-cost : tie.Need-shared-slice-read-cost Inv-loop μ-loop
-shared-slice-read-cost c = search needs
-
-cost-requires : tie.Need-cost-requires Inv-loop μ-loop
-cost-requires c κs = search needs
-
 -- where the turn began
 abbrev head : tie.After-cost Inv-loop μ-loop → tie.At-loop Inv-loop μ-loop
 head c = c .before .before .before .before
@@ -56,18 +41,9 @@ returns c =
 add-sum : tie.Need-add-sum Inv-loop μ-loop
 add-sum c = omega (arith, c .if1 .left, head (c .before) .loop .inv .2)
 
-add-f : tie.Need-add-f Inv-loop μ-loop
-add-f c = search needs
-
-loop-less : tie.Need-loop-less Inv-loop μ-loop
-loop-less c = search needs
-
 loop-again : tie.Need-loop-again Inv-loop μ-loop
 loop-again c =
     (omega arith, omega arith, omega (arith, c .if1 .left, head (c .before) .loop .inv .2), more (c .before))
-
-rounded-up-requires : tie.Need-rounded-up-requires Inv-loop μ-loop
-rounded-up-requires c κs = search needs
 
 returns-2 : tie.Need-returns-2 Inv-loop μ-loop
 returns-2 c =
@@ -76,22 +52,4 @@ returns-2 c =
     ∙ sym (whole (λ k. getD (at .before .before .args .calls .now) k 0) (at .before .before .args .prices .now) (omega (arith, at .loop .inv .1, c .before .loop-test .left)) (at .loop .inv .3) (at .loop .inv .2))
 
 pub priced-spec : {M : Type 1} → statement M
-priced-spec =
-    tie.close
-    (tie.spec
-    Inv-loop
-    μ-loop
-    loop-holds
-    mul-cost
-    element-copy-out-cost
-    mul-cost-2
-    shared-slice-read-cost
-    cost-requires
-    sub-if1
-    returns
-    add-sum
-    add-f
-    loop-less
-    loop-again
-    rounded-up-requires
-    returns-2)
+priced-spec = tie.close (tie.spec Inv-loop μ-loop loop-holds (λ c. search needs) (λ c. search needs) (λ c. search needs) (λ c. search needs) (λ c κs. search needs) sub-if1 returns add-sum (λ c. search needs) (λ c. search needs) loop-again (λ c κs. search needs) returns-2)

@@ -8,12 +8,6 @@ use borrow.Author.Needs.{needs}
 use Rattle.erasure.proofs.fill.Statement.{statement}
 use Rattle.erasure.proofs.fill.Tie as tie
 
-is-lawful-requires : tie.Need-is-lawful-requires
-is-lawful-requires c κs = search needs
-
-shape-refusal-requires : tie.Need-shape-refusal-requires
-shape-refusal-requires c κs = search needs
-
 returns : tie.Need-returns
 returns c = refuses-shape (sym (c .before .before .is-lawful .ensures) ∙ not-true _ (c .before .if1 .taken)) (c .shape-refusal .ensures)
 
@@ -39,15 +33,6 @@ judge-requires c κs =
     let w = e .before .before in
     (shape-passes (w .before .before), w .if2 .left ∙ w .before .word-length .ensures, e .if3 .left ∙ e .before .scratch-length .ensures)
 
-clear-requires : tie.Need-clear-requires
-clear-requires c κs = search needs
-
-same-length : tie.Need-same-length
-same-length c = search needs
-
-same-length-2 : tie.Need-same-length-2
-same-length-2 c = search needs
-
 returns-4 : tie.Need-returns-4
 returns-4 c =
     let d = c .before .before in
@@ -59,18 +44,4 @@ returns-4 c =
     (j .judge .ensures) (rw size at (d .clear .ensures))
 
 pub fill-spec : {M : Type 1} → statement M
-fill-spec =
-    tie.close
-    (tie.spec
-    is-lawful-requires
-    shape-refusal-requires
-    returns
-    word-length-requires
-    returns-2
-    scratch-length-requires
-    returns-3
-    judge-requires
-    clear-requires
-    same-length
-    same-length-2
-    returns-4)
+fill-spec = tie.close (tie.spec (λ c κs. search needs) (λ c κs. search needs) returns word-length-requires returns-2 scratch-length-requires returns-3 judge-requires (λ c κs. search needs) (λ c. search needs) (λ c. search needs) returns-4)

@@ -17,9 +17,6 @@ use Rattle.erasure.proofs.judge.Tie as tie
 is-narrow-requires : tie.Need-is-narrow-requires
 is-narrow-requires c κs = bounds _ (c .before .before .before .before .pre .0) .b32
 
-same-length : tie.Need-same-length
-same-length c = search needs
-
 returns : tie.Need-returns
 returns c = answers-wide (sym (c .before .is-narrow .ensures) ∙ not-true _ (c .if1 .taken))
 
@@ -27,14 +24,8 @@ returns c = answers-wide (sym (c .before .is-narrow .ensures) ∙ not-true _ (c 
 narrow-passes : (c : tie.Else1) → narrow (c .before .before .before .before .before .before .args .shape .b) (c .before .before .before .before .before .before .args .word .now) ≡ true
 narrow-passes c = sym (c .before .is-narrow .ensures) ∙ not-false _ (c .if1 .left)
 
-word-length-requires : tie.Need-word-length-requires
-word-length-requires c κs = search needs
-
 is-rising-requires : tie.Need-is-rising-requires
 is-rising-requires c κs = rw (c .word-length .ensures) (sizes _ (c .before .before .before .before .before .before .before .pre .0) .word)
-
-same-length-2 : tie.Need-same-length-2
-same-length-2 c = search needs
 
 returns-2 : tie.Need-returns-2
 returns-2 c =
@@ -52,12 +43,6 @@ decide-requires c κs =
     let s = n .before .before .before .before .before .before in
     (s .pre .0, narrow-word _ _ (s .pre .1) (narrow-passes n), rising-places (rising-passes e), s .pre .2)
 
-same-length-3 : tie.Need-same-length-3
-same-length-3 c = search needs
-
-same-length-4 : tie.Need-same-length-4
-same-length-4 c = search needs
-
 returns-3 : tie.Need-returns-3
 returns-3 c =
     let d = c .before .before .before .before in
@@ -65,17 +50,4 @@ returns-3 c =
     answers-decided (narrow-passes (e .before .before .before)) (rising-passes e) (d .decide .ensures)
 
 pub judge-spec : {M : Type 1} → statement M
-judge-spec =
-    tie.close
-    (tie.spec
-    is-narrow-requires
-    same-length
-    returns
-    word-length-requires
-    is-rising-requires
-    same-length-2
-    returns-2
-    decide-requires
-    same-length-3
-    same-length-4
-    returns-3)
+judge-spec = tie.close (tie.spec is-narrow-requires (λ c. search needs) returns (λ c κs. search needs) is-rising-requires (λ c. search needs) returns-2 decide-requires (λ c. search needs) (λ c. search needs) returns-3)

@@ -8,26 +8,11 @@ use borrow.Author.Needs.{needs}
 use Rattle.erasure.proofs.solve.Statement.{statement}
 use Rattle.erasure.proofs.solve.Tie as tie
 
-kept-checks-requires : tie.Need-kept-checks-requires
-kept-checks-requires c κs = search needs
-
-add-width : tie.Need-add-width
-add-width c = search needs
-
-clear-requires : tie.Need-clear-requires
-clear-requires c κs = search needs
-
 mark-places-requires : tie.Need-mark-places-requires
 mark-places-requires c κs =
     let cleared = c .before .before .before in
     let s = cleared .before .before .before .before .before .before in
     (s .pre .0, table-cleared (s .args .shape) (s .args .scratch .now) (length (s .args .places .now)) (s .pre .0) (places-few (s .pre .2)) (s .pre .3) (cleared .clear .ensures), s .pre .2 .below)
-
-syndromes-requires : tie.Need-syndromes-requires
-syndromes-requires c κs = search needs
-
-ask-requires : tie.Need-ask-requires
-ask-requires c κs = search needs
 
 eliminate-requires : tie.Need-eliminate-requires
 eliminate-requires c κs =
@@ -39,9 +24,6 @@ eliminate-requires c κs =
     rw (counted .kept-checks .ensures)
     (table-room (s .pre .0) (table-cleared (s .args .shape) (s .args .scratch .now) (length (s .args .places .now)) (s .pre .0) (places-few (s .pre .2)) (s .pre .3) (cleared .clear .ensures))
     (omega arith) (marked .mark-places .ensures .size) (asked .ask .ensures .size))
-
-same-length : tie.Need-same-length
-same-length c = search needs
 
 returns : tie.Need-returns
 returns c =
@@ -57,15 +39,4 @@ returns c =
     (rw (counted .kept-checks .ensures) at (solved .eliminate .ensures))
 
 pub solve-spec : {M : Type 1} → statement M
-solve-spec =
-    tie.close
-    (tie.spec
-    kept-checks-requires
-    add-width
-    clear-requires
-    mark-places-requires
-    syndromes-requires
-    ask-requires
-    eliminate-requires
-    same-length
-    returns)
+solve-spec = tie.close (tie.spec (λ c κs. search needs) (λ c. search needs) (λ c κs. search needs) mark-places-requires (λ c κs. search needs) (λ c κs. search needs) eliminate-requires (λ c. search needs) returns)

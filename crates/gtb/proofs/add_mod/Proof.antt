@@ -6,9 +6,6 @@ use borrow.Author.Needs.{needs}
 use Rattle.gtb.proofs.add_mod.Statement.{statement}
 use Rattle.gtb.proofs.add_mod.Tie as tie
 
-add-sum : tie.Need-add-sum
-add-sum c = search needs
-
 returns : tie.Need-returns
 returns c = (sym (mod-eq-of-lt (c .if1 .taken)), search needs)
 
@@ -16,4 +13,4 @@ returns-2 : tie.Need-returns-2
 returns-2 c = (sym (mod-eq-sub-mod (c .if1 .left) ∙ mod-eq-of-lt (omega arith)), omega arith)
 
 pub add-mod-spec : {M : Type 1} → statement M
-add-mod-spec = tie.close (tie.spec add-sum returns returns-2)
+add-mod-spec = tie.close (tie.spec (λ c. search needs) returns returns-2)

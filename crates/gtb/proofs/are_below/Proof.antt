@@ -62,18 +62,6 @@ loop-holds c = (
   sym (all-zero _),
 )
 
-mul-if1 : tie.Need-mul-if1 Inv-loop μ-loop
-mul-if1 c = search needs
-
-shared-slice-read-if1 : tie.Need-shared-slice-read-if1 Inv-loop μ-loop
-shared-slice-read-if1 c = search needs
-
-add-i : tie.Need-add-i Inv-loop μ-loop
-add-i c = search needs
-
-loop-less : tie.Need-loop-less Inv-loop μ-loop
-loop-less c = search needs
-
 loop-again : tie.Need-loop-again Inv-loop μ-loop
 loop-again c =
     let l = c .before .before .before .loop in (
@@ -92,18 +80,4 @@ returns c =
     c .before .loop .inv .3 ∙ ap (λ (m : ℕ). all m (λ j. ltb (at (a .symbols .now) j) (2 ^ a .b))) (omega arith)
 
 pub are-below-spec : {M : Type 1} → statement M
-are-below-spec =
-    tie.close
-    (tie.spec
-    Inv-loop
-    μ-loop
-    shl-top
-    sub-top
-    cast-top
-    loop-holds
-    mul-if1
-    shared-slice-read-if1
-    add-i
-    loop-less
-    loop-again
-    returns)
+are-below-spec = tie.close (tie.spec Inv-loop μ-loop shl-top sub-top cast-top loop-holds (λ c. search needs) (λ c. search needs) (λ c. search needs) (λ c. search needs) loop-again returns)

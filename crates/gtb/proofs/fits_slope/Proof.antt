@@ -18,32 +18,14 @@ Inv-loop slopes q t slope u₀ u = (u ≤ t) × (slope ≡ getD slopes t 0) × (
 abbrev μ-loop : tie.MeasureT-loop
 μ-loop slopes q t slope u₀ u = t - u
 
-mul-slope : tie.Need-mul-slope Inv-loop μ-loop
-mul-slope c = search needs
-
-element-copy-out-slope : tie.Need-element-copy-out-slope Inv-loop μ-loop
-element-copy-out-slope c = search needs
-
 returns : tie.Need-returns Inv-loop μ-loop
 returns c = slope-large _ _ (c .if1 .taken)
 
 loop-holds : tie.Need-loop-holds Inv-loop μ-loop
 loop-holds c = (search needs, refl, search needs, all-zero _)
 
-mul-if2 : tie.Need-mul-if2 Inv-loop μ-loop
-mul-if2 c = search needs
-
-element-copy-out-if2 : tie.Need-element-copy-out-if2 Inv-loop μ-loop
-element-copy-out-if2 c = search needs
-
 returns-2 : tie.Need-returns-2 Inv-loop μ-loop
 returns-2 c = let l = c .before .before .before .loop in slope-twice _ _ _ _ (c .before .before .loop-test .taken) (c .if2 .taken ∙ l .inv .1)
-
-add-u : tie.Need-add-u Inv-loop μ-loop
-add-u c = search needs
-
-loop-less : tie.Need-loop-less Inv-loop μ-loop
-loop-less c = search needs
 
 loop-again : tie.Need-loop-again Inv-loop μ-loop
 loop-again c = let l = c .before .before .before .loop in let start = c .before .before .before .before .before .before in (search needs, l .inv .1, l .inv .2, slope-other (start .args .slopes .now) (start .args .t) (l .u) (l .inv .3) (λ e. c .if2 .left (e ∙ sym (l .inv .1))))
@@ -52,19 +34,4 @@ returns-3 : tie.Need-returns-3 Inv-loop μ-loop
 returns-3 c = let l = c .before .loop in slope-fits _ _ (rw (l .inv .1) at (l .inv .2)) (rw (le-antisymm (l .inv .0) (c .loop-test .left)) at (l .inv .3))
 
 pub fits-slope-spec : {M : Type 1} → statement M
-fits-slope-spec =
-    tie.close
-    (tie.spec
-    Inv-loop
-    μ-loop
-    mul-slope
-    element-copy-out-slope
-    returns
-    loop-holds
-    mul-if2
-    element-copy-out-if2
-    returns-2
-    add-u
-    loop-less
-    loop-again
-    returns-3)
+fits-slope-spec = tie.close (tie.spec Inv-loop μ-loop (λ c. search needs) (λ c. search needs) returns loop-holds (λ c. search needs) (λ c. search needs) returns-2 (λ c. search needs) (λ c. search needs) loop-again returns-3)

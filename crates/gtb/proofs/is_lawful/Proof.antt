@@ -8,9 +8,6 @@ use Rattle.gtb.specs.Shape.{sloped, lawful}
 use Rattle.gtb.proofs.is_lawful.Statement.{statement}
 use Rattle.gtb.proofs.is_lawful.Tie as tie
 
-is-regular-requires : tie.Need-is-regular-requires
-is-regular-requires c κs = search needs
-
 returns : tie.Need-returns
 unfolding lawful
 returns c = sym (and-no-left _ (sym (c .before .is-regular .ensures) ∙ not-true _ (c .if1 .taken)))
@@ -25,4 +22,4 @@ returns-2 c =
     ∙ ap (λ (b : Bool). b && sloped (c .before .before .before .args .shape)) (sym (sym (c .before .before .is-regular .ensures) ∙ not-false _ (c .before .if1 .left)))
 
 pub is-lawful-spec : {M : Type 1} → statement M
-is-lawful-spec = tie.close (tie.spec is-regular-requires returns is-sloped-requires returns-2)
+is-lawful-spec = tie.close (tie.spec (λ c κs. search needs) returns is-sloped-requires returns-2)

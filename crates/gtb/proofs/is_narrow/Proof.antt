@@ -11,11 +11,5 @@ returns c =
     let a = c .before .before .args in
     sym (all-narrow (a .b) (a .symbols .now) (omega (arith, c .if1 .taken)) (λ j. omega (arith, c .before .shared-slice-known .given j)))
 
-are-below-requires : tie.Need-are-below-requires
-are-below-requires c κs = search needs
-
-returns-2 : tie.Need-returns-2
-returns-2 c = search needs
-
 pub is-narrow-spec : {M : Type 1} → statement M
-is-narrow-spec = tie.close (tie.spec returns are-below-requires returns-2)
+is-narrow-spec = tie.close (tie.spec returns (λ c κs. search needs) (λ c. search needs))

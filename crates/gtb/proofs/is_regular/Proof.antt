@@ -48,9 +48,6 @@ has-five : (c : tie.Joined4) → c .if4 .if5 ≡ five (c .before .before .before
 has-five c =
     ⊎-elim (λ w. go-on (has-four (c .before)) (w .0 .taken) (w .2)) (λ w. stop _ (has-four (c .before)) (w .0 .left) (w .1)) (c .if4 .came)
 
-is-order-requires : tie.Need-is-order-requires
-is-order-requires c κs = search needs
-
 returns : tie.Need-returns
 unfolding regular
 returns c = go-on (has-five (c .before .before)) (c .before .if5 .taken) refl
@@ -60,4 +57,4 @@ unfolding regular
 returns-2 c = stop _ (has-five (c .before)) (c .if5 .left) refl
 
 pub is-regular-spec : {M : Type 1} → statement M
-is-regular-spec = tie.close (tie.spec is-order-requires returns returns-2)
+is-regular-spec = tie.close (tie.spec (λ c κs. search needs) returns returns-2)

@@ -20,27 +20,15 @@ Inv-loop slopes q n last t₀ t = (t ≤ last) × (last ≤ 7) × (all t (fitsSl
 abbrev μ-loop : tie.MeasureT-loop
 μ-loop slopes q n last t₀ t = last - t
 
-cast-n : tie.Need-cast-n Inv-loop μ-loop
-cast-n c = search needs
-
 sub-last : tie.Need-sub-last Inv-loop μ-loop
 sub-last c = omega (arith, regular-directions _ (c .before .before .pre) .0)
 
 loop-holds : tie.Need-loop-holds Inv-loop μ-loop
 loop-holds c = (search needs, omega (arith, regular-directions _ (c .before .before .pre) .1), all-zero _)
 
-fits-slope-requires : tie.Need-fits-slope-requires Inv-loop μ-loop
-fits-slope-requires c κs = search needs
-
 returns : tie.Need-returns Inv-loop μ-loop
 unfolding sloped
 returns c = sym (all-no _ _ _ (c .before .before .before .loop-test .taken) (sym (c .before .fits-slope .ensures) ∙ not-true _ (c .if1 .taken)))
-
-add-t : tie.Need-add-t Inv-loop μ-loop
-add-t c = search needs
-
-loop-less : tie.Need-loop-less Inv-loop μ-loop
-loop-less c = search needs
 
 loop-again : tie.Need-loop-again Inv-loop μ-loop
 loop-again c = let l = c .before .before .before .before .loop in (search needs, l .inv .1, sloped-more _ _ _ (l .inv .2) (sym (c .before .fits-slope .ensures) ∙ not-false _ (c .if1 .left)))
@@ -50,17 +38,4 @@ unfolding sloped
 returns-2 c = let l = c .before .loop in sym (rw (le-antisymm (l .inv .0) (c .loop-test .left)) at (l .inv .2))
 
 pub is-sloped-spec : {M : Type 1} → statement M
-is-sloped-spec =
-    tie.close
-    (tie.spec
-    Inv-loop
-    μ-loop
-    cast-n
-    sub-last
-    loop-holds
-    fits-slope-requires
-    returns
-    add-t
-    loop-less
-    loop-again
-    returns-2)
+is-sloped-spec = tie.close (tie.spec Inv-loop μ-loop (λ c. search needs) sub-last loop-holds (λ c κs. search needs) returns (λ c. search needs) (λ c. search needs) loop-again returns-2)

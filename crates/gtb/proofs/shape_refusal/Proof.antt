@@ -5,9 +5,6 @@ use Rattle.gtb.specs.Shape.{shapeRefusal}
 use Rattle.gtb.proofs.shape_refusal.Statement.{statement}
 use Rattle.gtb.proofs.shape_refusal.Tie as tie
 
-is-regular-requires : tie.Need-is-regular-requires
-is-regular-requires c κs = search needs
-
 returns : tie.Need-returns
 unfolding shapeRefusal
 returns c = rw (sym (c .before .is-regular .ensures) ∙ c .if1 .taken)
@@ -17,4 +14,4 @@ unfolding shapeRefusal
 returns-2 c = rw (sym (c .before .is-regular .ensures) ∙ c .if1 .left)
 
 pub shape-refusal-spec : {M : Type 1} → statement M
-shape-refusal-spec = tie.close (tie.spec is-regular-requires returns returns-2)
+shape-refusal-spec = tie.close (tie.spec (λ c κs. search needs) returns returns-2)

@@ -7,44 +7,14 @@ use Rattle.harness.proofs.Answers.{written, as-it-was, arrive-wrong, ar
 use Rattle.harness.proofs.harness_arrive.Statement.{statement}
 use Rattle.harness.proofs.harness_arrive.Tie as tie
 
-refused-requires : tie.Need-refused-requires
-refused-requires c κs = search needs
-
 returns : tie.Need-returns
 returns c = arrive-wrong _ _ _ _ _ (λ h. c .before .if1 .taken (h .0)) (c .refused .ensures)
-
-refused-requires-2 : tie.Need-refused-requires-2
-refused-requires-2 c κs = search needs
 
 returns-2 : tie.Need-returns-2
 returns-2 c = arrive-wrong _ _ _ _ _ (λ h. c .before .if2 .taken (h .1)) (c .refused2 .ensures)
 
-load-requires : tie.Need-load-requires
-load-requires c κs = search needs
-
-arrive-requires : tie.Need-arrive-requires
-arrive-requires c κs = search needs
-
-enum-told : tie.Need-enum-told
-enum-told c = search needs
-
-store-requires : tie.Need-store-requires
-store-requires c κs = search needs
-
-put-outcome-requires : tie.Need-put-outcome-requires
-put-outcome-requires c κs = search needs
-
 same-length : tie.Need-same-length
 same-length c = ⊎-elim (λ w. ap length (w .6) ∙ w .3 .kept .1 .0) (λ w. ap length (w .1)) (c .before .before .before .before .match .came)
-
-same-length-2 : tie.Need-same-length-2
-same-length-2 c = search needs
-
-same-length-3 : tie.Need-same-length-3
-same-length-3 c = search needs
-
-same-length-4 : tie.Need-same-length-4
-same-length-4 c = search needs
 
 returns-3 : tie.Need-returns-3
 returns-3 c =
@@ -58,20 +28,4 @@ returns-3 c =
     (λ w. w .1 ∙ as-it-was session (arrived .session) (arrived .outcome) (w .0 .keys2)) (came .match .came)) (c .before .before .put-outcome .ensures)
 
 pub harness-arrive-spec : {M : Type 1} → statement M
-harness-arrive-spec =
-    tie.close
-    (tie.spec
-    refused-requires
-    returns
-    refused-requires-2
-    returns-2
-    load-requires
-    arrive-requires
-    enum-told
-    store-requires
-    put-outcome-requires
-    same-length
-    same-length-2
-    same-length-3
-    same-length-4
-    returns-3)
+harness-arrive-spec = tie.close (tie.spec (λ c κs. search needs) returns (λ c κs. search needs) returns-2 (λ c κs. search needs) (λ c κs. search needs) (λ c. search needs) (λ c κs. search needs) (λ c κs. search needs) same-length (λ c. search needs) (λ c. search needs) (λ c. search needs) returns-3)

@@ -15,32 +15,8 @@ loaded c = delivered c .before .before .before .before
 abbrev passed : tie.After-status → tie.Else1
 passed c = loaded c .before .before
 
-refused-requires : tie.Need-refused-requires
-refused-requires c κs = search needs
-
 returns : tie.Need-returns
 returns c = batch-wrong _ _ _ _ _ (c .before .if1 .taken) (c .refused .ensures)
-
-load-requires : tie.Need-load-requires
-load-requires c κs = search needs
-
-arrive-all-requires : tie.Need-arrive-all-requires
-arrive-all-requires c κs = search needs
-
-status-requires : tie.Need-status-requires
-status-requires c κs = search needs
-
-same-length : tie.Need-same-length
-same-length c = search needs
-
-same-length-2 : tie.Need-same-length-2
-same-length-2 c = search needs
-
-same-length-3 : tie.Need-same-length-3
-same-length-3 c = search needs
-
-same-length-4 : tie.Need-same-length-4
-same-length-4 c = search needs
 
 returns-2 : tie.Need-returns-2
 returns-2 c =
@@ -48,21 +24,6 @@ returns-2 c =
     let session = passed answered .before .before .before .before .before .args .session .now in
     batch-kept session _ _ _ _ (delivered answered .arrive-all .result) (passed answered .if1 .left) (loaded answered .load .ensures) (delivered answered .arrive-all .ensures)
     (answered .status .ensures) (c .if2 .taken) refl
-
-store-requires : tie.Need-store-requires
-store-requires c κs = search needs
-
-same-length-5 : tie.Need-same-length-5
-same-length-5 c = search needs
-
-same-length-6 : tie.Need-same-length-6
-same-length-6 c = search needs
-
-same-length-7 : tie.Need-same-length-7
-same-length-7 c = search needs
-
-same-length-8 : tie.Need-same-length-8
-same-length-8 c = search needs
 
 returns-3 : tie.Need-returns-3
 returns-3 c =
@@ -74,22 +35,4 @@ returns-3 c =
     (answered .status .ensures) (changed .if2 .left) (stored .store .ensures)
 
 pub harness-batch-spec : {M : Type 1} → statement M
-harness-batch-spec =
-    tie.close
-    (tie.spec
-    refused-requires
-    returns
-    load-requires
-    arrive-all-requires
-    status-requires
-    same-length
-    same-length-2
-    same-length-3
-    same-length-4
-    returns-2
-    store-requires
-    same-length-5
-    same-length-6
-    same-length-7
-    same-length-8
-    returns-3)
+harness-batch-spec = tie.close (tie.spec (λ c κs. search needs) returns (λ c κs. search needs) (λ c κs. search needs) (λ c κs. search needs) (λ c. search needs) (λ c. search needs) (λ c. search needs) (λ c. search needs) returns-2 (λ c κs. search needs) (λ c. search needs) (λ c. search needs) (λ c. search needs) (λ c. search needs) returns-3)

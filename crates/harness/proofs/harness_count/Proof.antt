@@ -6,20 +6,8 @@ use Rattle.harness.proofs.Answers.{count-length, count-past}
 use Rattle.harness.proofs.harness_count.Statement.{statement}
 use Rattle.harness.proofs.harness_count.Tie as tie
 
-counted-requires : tie.Need-counted-requires
-counted-requires c κs = search needs
-
 returns : tie.Need-returns
 returns c = c .counted .ensures ∙ sym (ap countedNumber (count-length _ _ (c .before .if1 .taken)))
-
-load-requires : tie.Need-load-requires
-load-requires c κs = search needs
-
-count-requires : tie.Need-count-requires
-count-requires c κs = search needs
-
-counted-requires-2 : tie.Need-counted-requires-2
-counted-requires-2 c κs = search needs
 
 returns-2 : tie.Need-returns-2
 returns-2 c =
@@ -30,12 +18,4 @@ returns-2 c =
     ∙ sym (count-past _ _ (c .before .before .before .if1 .left)))
 
 pub harness-count-spec : {M : Type 1} → statement M
-harness-count-spec =
-    tie.close
-    (tie.spec
-    counted-requires
-    returns
-    load-requires
-    count-requires
-    counted-requires-2
-    returns-2)
+harness-count-spec = tie.close (tie.spec (λ c κs. search needs) returns (λ c κs. search needs) (λ c κs. search needs) (λ c κs. search needs) returns-2)

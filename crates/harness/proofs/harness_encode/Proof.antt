@@ -5,26 +5,8 @@ use Rattle.harness.proofs.Answers.{shaped, unshaped}
 use Rattle.harness.proofs.harness_encode.Statement.{statement}
 use Rattle.harness.proofs.harness_encode.Tie as tie
 
-refused-requires : tie.Need-refused-requires
-refused-requires c κs = search needs
-
 returns : tie.Need-returns
 returns c = unshaped (c .before .if1 .taken) (c .refused .ensures) (refl, refl)
-
-load-shape-requires : tie.Need-load-shape-requires
-load-shape-requires c κs = search needs
-
-encode-requires : tie.Need-encode-requires
-encode-requires c κs = search needs
-
-status-requires : tie.Need-status-requires
-status-requires c κs = search needs
-
-same-length : tie.Need-same-length
-same-length c = search needs
-
-same-length-2 : tie.Need-same-length-2
-same-length-2 c = search needs
 
 returns-2 : tie.Need-returns-2
 returns-2 c =
@@ -32,14 +14,4 @@ returns-2 c =
     shaped (c .before .before .before .before .before .before .before .before .before .if1 .left) (c .before .before .before .before .before .before .before .before .load-shape .ensures) (record { answer = called .result; holds = called .ensures; crossed = c .status .ensures })
 
 pub harness-encode-spec : {M : Type 1} → statement M
-harness-encode-spec =
-    tie.close
-    (tie.spec
-    refused-requires
-    returns
-    load-shape-requires
-    encode-requires
-    status-requires
-    same-length
-    same-length-2
-    returns-2)
+harness-encode-spec = tie.close (tie.spec (λ c κs. search needs) returns (λ c κs. search needs) (λ c κs. search needs) (λ c κs. search needs) (λ c. search needs) (λ c. search needs) returns-2)

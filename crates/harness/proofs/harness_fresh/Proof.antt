@@ -5,23 +5,8 @@ use Rattle.harness.proofs.Answers.{shaped, unshaped, fresh-shape, fresh
 use Rattle.harness.proofs.harness_fresh.Statement.{statement}
 use Rattle.harness.proofs.harness_fresh.Tie as tie
 
-refused-requires : tie.Need-refused-requires
-refused-requires c κs = search needs
-
 returns : tie.Need-returns
 returns c = unshaped (c .before .if1 .taken) (c .refused .ensures) refl
-
-load-shape-requires : tie.Need-load-shape-requires
-load-shape-requires c κs = search needs
-
-fresh-requires : tie.Need-fresh-requires
-fresh-requires c κs = search needs
-
-enum-known-status : tie.Need-enum-known-status
-enum-known-status c = search needs
-
-refused-requires-2 : tie.Need-refused-requires-2
-refused-requires-2 c κs = search needs
 
 returns-2 : tie.Need-returns-2
 returns-2 c =
@@ -29,23 +14,11 @@ returns-2 c =
     shaped (made .before .before .if1 .left) (made .before .load-shape .ensures)
     (fresh-shape _ _ (sym (made .fresh .ensures .status) ∙ c .before .before .status .given .1) (c .refused2 .ensures))
 
-enum-told : tie.Need-enum-told
-enum-told c = search needs
-
-refused-requires-3 : tie.Need-refused-requires-3
-refused-requires-3 c κs = search needs
-
 returns-3 : tie.Need-returns-3
 returns-3 c =
     let made = c .before .before .before .before in
     shaped (made .before .before .if1 .left) (made .before .load-shape .ensures)
     (fresh-length _ _ (sym (made .fresh .ensures .status) ∙ c .before .before .enum-told .given .1) (c .before .if2 .taken) (c .refused3 .ensures))
-
-store-requires : tie.Need-store-requires
-store-requires c κs = search needs
-
-same-length : tie.Need-same-length
-same-length c = search needs
 
 returns-4 : tie.Need-returns-4
 returns-4 c =
@@ -54,19 +27,4 @@ returns-4 c =
     (fresh-done _ _ (sym (made .fresh .ensures .status) ∙ c .before .before .before .before .before .enum-told .given .1) (c .before .before .before .before .if2 .left) (made .fresh .ensures .session) (c .before .before .store .ensures))
 
 pub harness-fresh-spec : {M : Type 1} → statement M
-harness-fresh-spec =
-    tie.close
-    (tie.spec
-    refused-requires
-    returns
-    load-shape-requires
-    fresh-requires
-    enum-known-status
-    refused-requires-2
-    returns-2
-    enum-told
-    refused-requires-3
-    returns-3
-    store-requires
-    same-length
-    returns-4)
+harness-fresh-spec = tie.close (tie.spec (λ c κs. search needs) returns (λ c κs. search needs) (λ c κs. search needs) (λ c. search needs) (λ c κs. search needs) returns-2 (λ c. search needs) (λ c κs. search needs) returns-3 (λ c κs. search needs) (λ c. search needs) returns-4)

@@ -11,14 +11,8 @@ use Rattle.harness.proofs.Answers.{shaped, unshaped}
 use Rattle.harness.proofs.harness_marks.Statement.{statement}
 use Rattle.harness.proofs.harness_marks.Tie as tie
 
-refused-requires : tie.Need-refused-requires
-refused-requires c κs = search needs
-
 returns : tie.Need-returns
 returns c = unshaped (c .before .if1 .taken) (c .refused .ensures) refl
-
-refused-requires-2 : tie.Need-refused-requires-2
-refused-requires-2 c κs = search needs
 
 returns-2 : tie.Need-returns-2
 returns-2 c =
@@ -27,12 +21,6 @@ returns-2 c =
       right = λ _. record { right = λ same. absurd (c .before .if2 .taken same); wrong = λ other. (c .refused2 .ensures, refl) };
       wrong = λ other. absurd (other size);
     }
-
-load-shape-requires : tie.Need-load-shape-requires
-load-shape-requires c κs = search needs
-
-marks-requires : tie.Need-marks-requires
-marks-requires c κs = search needs
 
 -- the marks are few
 few : (c : tie.After-marks) → let s = c .before .load-shape .result in let symbols = c .before .before .before .before .before .before .before .args .symbols .now in
@@ -47,9 +35,6 @@ cast-result c =
     let part = c .before .before .before .before in
     record { fits = omega (arith, ap length (part .marks .ensures), few part .1) }
 
-same-length : tie.Need-same-length
-same-length c = search needs
-
 returns-3 : tie.Need-returns-3
 returns-3 c =
     let part = c .before .before .before .before in
@@ -61,16 +46,4 @@ returns-3 c =
     })
 
 pub harness-marks-spec : {M : Type 1} → statement M
-harness-marks-spec =
-    tie.close
-    (tie.spec
-    refused-requires
-    returns
-    refused-requires-2
-    returns-2
-    load-shape-requires
-    marks-requires
-    copy-requires
-    cast-result
-    same-length
-    returns-3)
+harness-marks-spec = tie.close (tie.spec (λ c κs. search needs) returns (λ c κs. search needs) returns-2 (λ c κs. search needs) (λ c κs. search needs) copy-requires cast-result (λ c. search needs) returns-3)

@@ -8,17 +8,8 @@ use Rattle.harness.proofs.Answers.{page-wrong, page-right}
 use Rattle.harness.proofs.harness_read_page.Statement.{statement}
 use Rattle.harness.proofs.harness_read_page.Tie as tie
 
-refused-requires : tie.Need-refused-requires
-refused-requires c κs = search needs
-
 returns : tie.Need-returns
 returns c = c .refused .ensures ∙ sym (page-wrong _ _ (c .before .if1 .taken))
-
-load-shape-requires : tie.Need-load-shape-requires
-load-shape-requires c κs = search needs
-
-read-page-requires : tie.Need-read-page-requires
-read-page-requires c κs = search needs
 
 read-requires : tie.Need-read-requires
 read-requires c κs = rw (c .read-page .ensures .answer) (read-fits _ _)
@@ -30,12 +21,4 @@ returns-2 c =
     ∙ ap (λ (s : Shape). readNumber (pageOf s symbols)) (c .before .before .load-shape .ensures) ∙ sym (page-right _ _ (c .before .before .before .if1 .left))
 
 pub harness-read-page-spec : {M : Type 1} → statement M
-harness-read-page-spec =
-    tie.close
-    (tie.spec
-    refused-requires
-    returns
-    load-shape-requires
-    read-page-requires
-    read-requires
-    returns-2)
+harness-read-page-spec = tie.close (tie.spec (λ c κs. search needs) returns (λ c κs. search needs) (λ c κs. search needs) read-requires returns-2)

@@ -16,27 +16,6 @@ Inv-loop bytes symbols₀ i₀ i-end symbols i = (i-end ≡ length symbols₀) �
 abbrev μ-loop : tie.MeasureT-loop
 μ-loop bytes symbols₀ i₀ i-end symbols i = length symbols₀ - i
 
-loop-holds : tie.Need-loop-holds Inv-loop μ-loop
-loop-holds c = search needs
-
-mul-symbol-at : tie.Need-mul-symbol-at Inv-loop μ-loop
-mul-symbol-at c = search needs
-
-symbol-at-requires : tie.Need-symbol-at-requires Inv-loop μ-loop
-symbol-at-requires c κs = search needs
-
-mul-symbols : tie.Need-mul-symbols Inv-loop μ-loop
-mul-symbols c = search needs
-
-slice-write-symbols : tie.Need-slice-write-symbols Inv-loop μ-loop
-slice-write-symbols c = search needs
-
-add-i : tie.Need-add-i Inv-loop μ-loop
-add-i c = search needs
-
-loop-less : tie.Need-loop-less Inv-loop μ-loop
-loop-less c = search needs
-
 loop-again : tie.Need-loop-again Inv-loop μ-loop
 loop-again c = (
   search needs,
@@ -46,25 +25,8 @@ loop-again c = (
       (c .symbol-at .ensures) (c .before .before .loop .inv .3) (omega arith) (omega arith),
 )
 
-same-length : tie.Need-same-length Inv-loop μ-loop
-same-length c = search needs
-
 returns : tie.Need-returns Inv-loop μ-loop
 returns c = all-loaded _ _ (c .before .loop .i) (c .before .loop .inv .3) (omega arith) (omega arith)
 
 pub load-spec : {M : Type 1} → statement M
-load-spec =
-    tie.close
-    (tie.spec
-    Inv-loop
-    μ-loop
-    loop-holds
-    mul-symbol-at
-    symbol-at-requires
-    mul-symbols
-    slice-write-symbols
-    add-i
-    loop-less
-    loop-again
-    same-length
-    returns)
+load-spec = tie.close (tie.spec Inv-loop μ-loop (λ c. search needs) (λ c. search needs) (λ c κs. search needs) (λ c. search needs) (λ c. search needs) (λ c. search needs) (λ c. search needs) loop-again (λ c. search needs) returns)

@@ -6,35 +6,11 @@ use Rattle.host.proofs.Steps.{put}
 use Rattle.host.proofs.put_symbol.Statement.{statement}
 use Rattle.host.proofs.put_symbol.Tie as tie
 
-cast-bytes : tie.Need-cast-bytes
-cast-bytes c = search needs
-
-slice-write-bytes : tie.Need-slice-write-bytes
-slice-write-bytes c = search needs
-
-cast-bytes-2 : tie.Need-cast-bytes-2
-cast-bytes-2 c = search needs
-
-add-bytes : tie.Need-add-bytes
-add-bytes c = search needs
-
 slice-write-bytes-2 : tie.Need-slice-write-bytes-2
 slice-write-bytes-2 c = simp length-set (omega arith)
 
-cast-bytes-3 : tie.Need-cast-bytes-3
-cast-bytes-3 c = search needs
-
-add-bytes-2 : tie.Need-add-bytes-2
-add-bytes-2 c = search needs
-
 slice-write-bytes-3 : tie.Need-slice-write-bytes-3
 slice-write-bytes-3 c = simp length-set (omega arith)
-
-cast-bytes-4 : tie.Need-cast-bytes-4
-cast-bytes-4 c = search needs
-
-add-bytes-3 : tie.Need-add-bytes-3
-add-bytes-3 c = search needs
 
 slice-write-bytes-4 : tie.Need-slice-write-bytes-4
 slice-write-bytes-4 c = simp length-set (omega arith)
@@ -46,19 +22,4 @@ returns : tie.Need-returns
 returns c = put _ _ _ (omega arith)
 
 pub put-symbol-spec : {M : Type 1} → statement M
-put-symbol-spec =
-    tie.close
-    (tie.spec
-    cast-bytes
-    slice-write-bytes
-    cast-bytes-2
-    add-bytes
-    slice-write-bytes-2
-    cast-bytes-3
-    add-bytes-2
-    slice-write-bytes-3
-    cast-bytes-4
-    add-bytes-3
-    slice-write-bytes-4
-    same-length
-    returns)
+put-symbol-spec = tie.close (tie.spec (λ c. search needs) (λ c. search needs) (λ c. search needs) (λ c. search needs) slice-write-bytes-2 (λ c. search needs) (λ c. search needs) slice-write-bytes-3 (λ c. search needs) (λ c. search needs) slice-write-bytes-4 same-length returns)

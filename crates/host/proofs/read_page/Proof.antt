@@ -7,17 +7,8 @@ use Rattle.host.proofs.Words.{page-past}
 use Rattle.host.proofs.read_page.Statement.{statement}
 use Rattle.host.proofs.read_page.Tie as tie
 
-load-requires : tie.Need-load-requires
-load-requires c κs = search needs
-
-read-page-requires : tie.Need-read-page-requires
-read-page-requires c κs = search needs
-
 read-requires : tie.Need-read-requires
 read-requires c κs = rw (c .read-page .ensures .answer) (read-fits _ _)
-
-same-length : tie.Need-same-length
-same-length c = search needs
 
 returns : tie.Need-returns
 returns c =
@@ -25,5 +16,4 @@ returns c =
     c .read .ensures ∙ ap readNumber (c .before .read-page .ensures .answer ∙ ap (pageOf (start .args .shape)) (c .before .before .before .before .before .load .ensures) ∙ sym (page-past _ _ (start .pre .0) (start .pre .1)))
 
 pub read-page-spec : {M : Type 1} → statement M
-read-page-spec =
-    tie.close (tie.spec load-requires read-page-requires read-requires same-length returns)
+read-page-spec = tie.close (tie.spec (λ c κs. search needs) (λ c κs. search needs) read-requires (λ c. search needs) returns)

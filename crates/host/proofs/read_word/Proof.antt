@@ -7,29 +7,8 @@ use Rattle.host.proofs.Words.{word-read, put-back, left-alone}
 use Rattle.host.proofs.read_word.Statement.{statement}
 use Rattle.host.proofs.read_word.Tie as tie
 
-load-requires : tie.Need-load-requires
-load-requires c κs = search needs
-
-decode-requires : tie.Need-decode-requires
-decode-requires c κs = search needs
-
-enum-told : tie.Need-enum-told
-enum-told c = search needs
-
-store-requires : tie.Need-store-requires
-store-requires c κs = search needs
-
-enum-told-2 : tie.Need-enum-told-2
-enum-told-2 c = search needs
-
-decoded-requires : tie.Need-decoded-requires
-decoded-requires c κs = search needs
-
 same-length : tie.Need-same-length
 same-length c = ⊎-elim (λ w. ap length (w .7) ∙ w .4 .kept .1 .0) (λ w. ap length (w .2)) (c .before .match .came)
-
-same-length-2 : tie.Need-same-length-2
-same-length-2 c = search needs
 
 returns : tie.Need-returns
 returns c =
@@ -43,15 +22,4 @@ returns c =
     (c .before .match .came))
 
 pub read-word-spec : {M : Type 1} → statement M
-read-word-spec =
-    tie.close
-    (tie.spec
-    load-requires
-    decode-requires
-    enum-told
-    store-requires
-    enum-told-2
-    decoded-requires
-    same-length
-    same-length-2
-    returns)
+read-word-spec = tie.close (tie.spec (λ c κs. search needs) (λ c κs. search needs) (λ c. search needs) (λ c κs. search needs) (λ c. search needs) (λ c κs. search needs) same-length (λ c. search needs) returns)

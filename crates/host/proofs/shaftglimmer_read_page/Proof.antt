@@ -22,15 +22,6 @@ legal c = sym (c .before .is-lawful .ensures) ∙ not-false _ (c .if1 .left)
 room : (c : tie.Else2) → c .before .info-length .result ≤ 900
 room c = omega (arith, c .before .info-length .ensures, sizes _ (legal (c .before .before)) .info)
 
-is-lawful-requires : tie.Need-is-lawful-requires
-is-lawful-requires c κs = search needs
-
-shape-refusal-requires : tie.Need-shape-refusal-requires
-shape-refusal-requires c κs = search needs
-
-refused-requires : tie.Need-refused-requires
-refused-requires c κs = search needs
-
 returns : tie.Need-returns
 returns c =
     c .refused .ensures ∙ ap (λ (e : Refusal). 2 ^ 31 + refusalNumber e) (c .before .shape-refusal .ensures)
@@ -41,9 +32,6 @@ info-length-requires c κs = legal c
 
 mul-if2 : tie.Need-mul-if2
 mul-if2 c = omega (arith, c .info-length .ensures, sizes _ (legal (c .before)) .info)
-
-refused-requires-2 : tie.Need-refused-requires-2
-refused-requires-2 c κs = search needs
 
 returns-2 : tie.Need-returns-2
 returns-2 c = c .refused2 .ensures ∙ sym (ap readNumber (page-length _ _ (legal (c .before .before .before)) (λ e. c .before .if2 .taken (rw (c .before .before .info-length .ensures) e))))
@@ -61,22 +49,5 @@ read-page-requires c κs = (
   length-take-le _ _ (room (c .before)) ∙ c .before .before .info-length .ensures,
 )
 
-returns-3 : tie.Need-returns-3
-returns-3 c = search needs
-
 pub shaftglimmer-read-page-spec : {M : Type 1} → statement M
-shaftglimmer-read-page-spec =
-    tie.close
-    (tie.spec
-    is-lawful-requires
-    shape-refusal-requires
-    refused-requires
-    returns
-    info-length-requires
-    mul-if2
-    refused-requires-2
-    returns-2
-    array-borrow-prefix-loaded
-    slice-aggregate-read-page
-    read-page-requires
-    returns-3)
+shaftglimmer-read-page-spec = tie.close (tie.spec (λ c κs. search needs) (λ c κs. search needs) (λ c κs. search needs) returns info-length-requires mul-if2 (λ c κs. search needs) returns-2 array-borrow-prefix-loaded slice-aggregate-read-page read-page-requires (λ c. search needs))

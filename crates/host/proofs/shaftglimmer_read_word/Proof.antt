@@ -21,15 +21,6 @@ legal c = sym (c .before .is-lawful .ensures) ∙ not-false _ (c .if1 .left)
 room : (c : tie.Else2) → c .before .word-length .result ≤ 961
 room c = omega (arith, c .before .word-length .ensures, sizes _ (legal (c .before .before)) .word)
 
-is-lawful-requires : tie.Need-is-lawful-requires
-is-lawful-requires c κs = search needs
-
-shape-refusal-requires : tie.Need-shape-refusal-requires
-shape-refusal-requires c κs = search needs
-
-refused-requires : tie.Need-refused-requires
-refused-requires c κs = search needs
-
 returns : tie.Need-returns
 returns c =
     word-refused _ _ (word-shape _ _ (sym (c .before .before .before .is-lawful .ensures) ∙ not-true _ (c .before .before .if1 .taken)))
@@ -40,9 +31,6 @@ word-length-requires c κs = legal c
 
 mul-if2 : tie.Need-mul-if2
 mul-if2 c = omega (arith, c .word-length .ensures, sizes _ (legal (c .before)) .word)
-
-refused-requires-2 : tie.Need-refused-requires-2
-refused-requires-2 c κs = search needs
 
 returns-2 : tie.Need-returns-2
 returns-2 c = word-refused _ _ (word-length _ _ (legal (c .before .before .before)) (λ e. c .before .if2 .taken (rw (c .before .before .word-length .ensures) e))) (c .refused2 .ensures)
@@ -60,26 +48,8 @@ read-word-requires c κs = (
   length-take-le _ _ (room (c .before .before)) ∙ c .before .before .before .word-length .ensures,
 )
 
-same-length : tie.Need-same-length
-same-length c = search needs
-
 returns-3 : tie.Need-returns-3
 returns-3 c = c .before .before .before .read-word .ensures
 
 pub shaftglimmer-read-word-spec : {M : Type 1} → statement M
-shaftglimmer-read-word-spec =
-    tie.close
-    (tie.spec
-    is-lawful-requires
-    shape-refusal-requires
-    refused-requires
-    returns
-    word-length-requires
-    mul-if2
-    refused-requires-2
-    returns-2
-    array-borrow-prefix-symbols
-    slice-aggregate-read-word
-    read-word-requires
-    same-length
-    returns-3)
+shaftglimmer-read-word-spec = tie.close (tie.spec (λ c κs. search needs) (λ c κs. search needs) (λ c κs. search needs) returns word-length-requires mul-if2 (λ c κs. search needs) returns-2 array-borrow-prefix-symbols slice-aggregate-read-word read-word-requires (λ c. search needs) returns-3)

@@ -16,27 +16,6 @@ Inv-loop symbols bytes₀ i₀ i-end bytes i = (i-end ≡ length symbols) × (i 
 abbrev μ-loop : tie.MeasureT-loop
 μ-loop symbols bytes₀ i₀ i-end bytes i = length symbols - i
 
-loop-holds : tie.Need-loop-holds Inv-loop μ-loop
-loop-holds c = search needs
-
-mul-put-symbol : tie.Need-mul-put-symbol Inv-loop μ-loop
-mul-put-symbol c = search needs
-
-mul-put-symbol-2 : tie.Need-mul-put-symbol-2 Inv-loop μ-loop
-mul-put-symbol-2 c = search needs
-
-shared-slice-read-put-symbol : tie.Need-shared-slice-read-put-symbol Inv-loop μ-loop
-shared-slice-read-put-symbol c = search needs
-
-put-symbol-requires : tie.Need-put-symbol-requires Inv-loop μ-loop
-put-symbol-requires c κs = search needs
-
-add-i : tie.Need-add-i Inv-loop μ-loop
-add-i c = search needs
-
-loop-less : tie.Need-loop-less Inv-loop μ-loop
-loop-less c = search needs
-
 loop-again : tie.Need-loop-again Inv-loop μ-loop
 loop-again c = (
   search needs,
@@ -47,25 +26,8 @@ loop-again c = (
       (omega arith) (omega arith),
 )
 
-same-length : tie.Need-same-length Inv-loop μ-loop
-same-length c = search needs
-
 returns : tie.Need-returns Inv-loop μ-loop
 returns c = all-stored _ _ (c .before .loop .i) (c .before .loop .inv .3) (omega arith) (omega arith)
 
 pub store-spec : {M : Type 1} → statement M
-store-spec =
-    tie.close
-    (tie.spec
-    Inv-loop
-    μ-loop
-    loop-holds
-    mul-put-symbol
-    mul-put-symbol-2
-    shared-slice-read-put-symbol
-    put-symbol-requires
-    add-i
-    loop-less
-    loop-again
-    same-length
-    returns)
+store-spec = tie.close (tie.spec Inv-loop μ-loop (λ c. search needs) (λ c. search needs) (λ c. search needs) (λ c. search needs) (λ c κs. search needs) (λ c. search needs) (λ c. search needs) loop-again (λ c. search needs) returns)

@@ -4,11 +4,8 @@ use Rattle.lines.proofs.Same.{tested-same}
 use Rattle.lines.proofs.is_line.Statement.{statement}
 use Rattle.lines.proofs.is_line.Tie as tie
 
-same-requires : tie.Need-same-requires
-same-requires c κs = search needs
-
 returns : tie.Need-returns
 returns c = tested-same _ _ _ (c .same .ensures)
 
 pub is-line-spec : {M : Type 1} → statement M
-is-line-spec = tie.close (tie.spec same-requires returns)
+is-line-spec = tie.close (tie.spec (λ c κs. search needs) returns)

@@ -28,39 +28,21 @@ abbrev μ-loop : tie.MeasureT-loop
 returns : tie.Need-returns Inv-loop μ-loop
 returns c = without-digit _ _ (end-other (now (c .before .args .line)) (c .before .args .from) (c .if1 .taken))
 
-shared-slice-read-first : tie.Need-shared-slice-read-first Inv-loop μ-loop
-shared-slice-read-first c = search needs
-
 returns-2 : tie.Need-returns-2 Inv-loop μ-loop
 returns-2 c = without-digit _ _ (λ l h. omega arith)
 
 returns-3 : tie.Need-returns-3 Inv-loop μ-loop
 returns-3 c = without-digit _ _ (λ l h. omega arith)
 
-cast-value : tie.Need-cast-value Inv-loop μ-loop
-cast-value c = search needs
-
-add-at : tie.Need-add-at Inv-loop μ-loop
-add-at c = search needs
-
 loop-holds : tie.Need-loop-holds Inv-loop μ-loop
 loop-holds c =
     let start = c .before .before .before .before in
     (search needs, search needs, search needs, digit-first (now (start .args .line)) (start .args .from) (omega arith) (omega arith) (omega arith))
 
-shared-slice-read-b : tie.Need-shared-slice-read-b Inv-loop μ-loop
-shared-slice-read-b c = search needs
-
-cast-t15 : tie.Need-cast-t15 Inv-loop μ-loop
-cast-t15 c = search needs
-
 returns-4 : tie.Need-returns-4 Inv-loop μ-loop
 returns-4 c =
     let inv = c .before .before .before .loop .inv in
     scanned _ _ _ _ (inv .0) (inv .1) (inv .2) (inv .3) (λ l h. omega arith)
-
-cast-t16 : tie.Need-cast-t16 Inv-loop μ-loop
-cast-t16 c = search needs
 
 returns-5 : tie.Need-returns-5 Inv-loop μ-loop
 returns-5 c =
@@ -72,15 +54,6 @@ returns-6 c =
     let at-loop = c .before .before .before .before .before in
     with-leading-zero _ _ (at-loop .loop .at) (at-loop .loop .value) (omega arith) (omega arith) (c .if6 .taken) (at-loop .loop .inv .3)
 
-mul-value : tie.Need-mul-value Inv-loop μ-loop
-mul-value c = search needs
-
-cast-value-2 : tie.Need-cast-value-2 Inv-loop μ-loop
-cast-value-2 c = search needs
-
-add-value : tie.Need-add-value Inv-loop μ-loop
-add-value c = search needs
-
 returns-7 : tie.Need-returns-7 Inv-loop μ-loop
 returns-7 c =
     let at-loop = c .before .before .before .before .before .before in
@@ -88,12 +61,6 @@ returns-7 c =
     with-large-value _ _ _ _ (omega arith)
     (digit-more (now (start .args .line)) (start .args .from) (at-loop .loop .at) (at-loop .loop .value) (omega arith) (omega arith) (omega arith) (omega arith)
     (at-loop .loop .inv .3))
-
-add-at-2 : tie.Need-add-at-2 Inv-loop μ-loop
-add-at-2 c = search needs
-
-loop-less : tie.Need-loop-less Inv-loop μ-loop
-loop-less c = search needs
 
 loop-again : tie.Need-loop-again Inv-loop μ-loop
 loop-again c =
@@ -106,9 +73,6 @@ loop-again c =
           (at-loop .loop .inv .3),
     )
 
-cast-t19 : tie.Need-cast-t19 Inv-loop μ-loop
-cast-t19 c = search needs
-
 returns-8 : tie.Need-returns-8 Inv-loop μ-loop
 returns-8 c =
     let inv = c .before .loop .inv in
@@ -116,30 +80,4 @@ returns-8 c =
     (end-other (now (c .before .before .before .before .before .before .args .line)) (c .before .loop .at) (omega arith))
 
 pub number-at-spec : {M : Type 1} → statement M
-number-at-spec =
-    tie.close
-    (tie.spec
-    Inv-loop
-    μ-loop
-    returns
-    shared-slice-read-first
-    returns-2
-    returns-3
-    cast-value
-    add-at
-    loop-holds
-    shared-slice-read-b
-    cast-t15
-    returns-4
-    cast-t16
-    returns-5
-    returns-6
-    mul-value
-    cast-value-2
-    add-value
-    returns-7
-    add-at-2
-    loop-less
-    loop-again
-    cast-t19
-    returns-8)
+number-at-spec = tie.close (tie.spec Inv-loop μ-loop returns (λ c. search needs) returns-2 returns-3 (λ c. search needs) (λ c. search needs) loop-holds (λ c. search needs) (λ c. search needs) returns-4 (λ c. search needs) returns-5 returns-6 (λ c. search needs) (λ c. search needs) (λ c. search needs) returns-7 (λ c. search needs) (λ c. search needs) loop-again (λ c. search needs) returns-8)

@@ -22,20 +22,8 @@ value-at c = c .before .before .number-at .ensures .found _ _ (c .value .given .
 loop-holds : tie.Need-loop-holds Inv-loop μ-loop
 loop-holds c = start _ _ (c .before .pre)
 
-number-at-requires : tie.Need-number-at-requires Inv-loop μ-loop
-number-at-requires c κs = search needs
-
-enum-known-value : tie.Need-enum-known-value Inv-loop μ-loop
-enum-known-value c = search needs
-
-enum-told : tie.Need-enum-told Inv-loop μ-loop
-enum-told c = search needs
-
 returns : tie.Need-returns Inv-loop μ-loop
 returns c = unread (c .before .before .before .loop .inv) _ (c .before .before .number-at .ensures) (c .enum-told .given .1)
-
-store-requires : tie.Need-store-requires Inv-loop μ-loop
-store-requires c κs = search needs
 
 add-count : tie.Need-add-count Inv-loop μ-loop
 add-count c = omega (arith, c .before .before .before .before .before .before .loop .inv .low, c .before .before .before .before .before .before .loop .inv .high)
@@ -59,21 +47,4 @@ loop-again : tie.Need-loop-again Inv-loop μ-loop
 loop-again c = rw (c .before .before .before .store .ensures) (turn (c .before .before .before .before .before .before .before .before .before .loop .inv) (value-at (c .before .before .before .before .before .before)) (omega (arith, value-at (c .before .before .before .before .before .before))) (c .if2 .left))
 
 pub parse-spec : {M : Type 1} → statement M
-parse-spec =
-    tie.close
-    (tie.spec
-    Inv-loop
-    μ-loop
-    loop-holds
-    number-at-requires
-    enum-known-value
-    enum-told
-    returns
-    store-requires
-    add-count
-    returns-2
-    shared-slice-read-if2
-    returns-3
-    add-from
-    loop-less
-    loop-again)
+parse-spec = tie.close (tie.spec Inv-loop μ-loop loop-holds (λ c κs. search needs) (λ c. search needs) (λ c. search needs) returns (λ c κs. search needs) add-count returns-2 shared-slice-read-if2 returns-3 add-from loop-less loop-again)

@@ -13,9 +13,6 @@ use Rattle.lines.proofs.put_count.Tie as tie
 ten-digits : (c : tie.Start) → (length (decimal (c .args .function)) ≤ 10) × (length (decimal (c .args .calls)) ≤ 10)
 ten-digits c = (at-most-ten (c .args .function) (omega arith), at-most-ten (c .args .calls) (omega arith))
 
-put-number-requires : tie.Need-put-number-requires
-put-number-requires c κs = search needs
-
 put-byte-requires : tie.Need-put-byte-requires
 put-byte-requires c κs = omega (arith, ten-digits (c .before .before .before .before .before .before))
 
@@ -25,9 +22,6 @@ put-number-requires-2 c κs = omega (arith, ten-digits (c .before .before .befor
 put-byte-requires-2 : tie.Need-put-byte-requires-2
 put-byte-requires-2 c κs = omega (arith, ten-digits (c .before .before .before .before .before .before .before .before .before .before .before .before .before .before))
 
-same-length : tie.Need-same-length
-same-length c = search needs
-
 returns : tie.Need-returns
 returns c =
     let start = c .before .before .before .before .before .before .before .before .before .before .before .before .before .before .before .before .before in
@@ -35,12 +29,4 @@ returns c =
     (c .before .before .before .before .before .before .before .before .before .before .before .before .before .before .put-number .ensures) (c .before .before .before .before .before .before .before .before .before .before .put-byte .ensures) (c .before .before .before .before .before .before .put-number2 .ensures) (c .before .before .put-byte2 .ensures)
 
 pub put-count-spec : {M : Type 1} → statement M
-put-count-spec =
-    tie.close
-    (tie.spec
-    put-number-requires
-    put-byte-requires
-    put-number-requires-2
-    put-byte-requires-2
-    same-length
-    returns)
+put-count-spec = tie.close (tie.spec (λ c κs. search needs) put-byte-requires put-number-requires-2 put-byte-requires-2 (λ c. search needs) returns)

@@ -5,17 +5,11 @@ use Rattle.lines.proofs.Pasting.{name-length, put-named}
 use Rattle.lines.proofs.put_outcome.Statement.{statement}
 use Rattle.lines.proofs.put_outcome.Tie as tie
 
-put-kind-requires : tie.Need-put-kind-requires
-put-kind-requires c κs = search needs
-
 put-byte-requires : tie.Need-put-byte-requires
 put-byte-requires c κs = omega (arith, name-length (c .before .before .before .before .before .before .args .kind))
 
 put-count-requires : tie.Need-put-count-requires
 put-count-requires c κs = omega (arith, name-length (c .before .before .before .before .before .before .before .before .before .before .args .kind))
-
-same-length : tie.Need-same-length
-same-length c = search needs
 
 returns : tie.Need-returns
 returns c =
@@ -24,5 +18,4 @@ returns c =
     (c .before .before .put-count .ensures)
 
 pub put-outcome-spec : {M : Type 1} → statement M
-put-outcome-spec =
-    tie.close (tie.spec put-kind-requires put-byte-requires put-count-requires same-length returns)
+put-outcome-spec = tie.close (tie.spec (λ c κs. search needs) put-byte-requires put-count-requires (λ c. search needs) returns)

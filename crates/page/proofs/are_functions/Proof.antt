@@ -5,11 +5,8 @@ use Rattle.page.proofs.Entries.{narrow-functions}
 use Rattle.page.proofs.are_functions.Statement.{statement}
 use Rattle.page.proofs.are_functions.Tie as tie
 
-is-narrow-requires : tie.Need-is-narrow-requires
-is-narrow-requires c κs = search needs
-
 returns : tie.Need-returns
 returns c = c .is-narrow .ensures ∙ narrow-functions _
 
 pub are-functions-spec : {M : Type 1} → statement M
-are-functions-spec = tie.close (tie.spec is-narrow-requires returns)
+are-functions-spec = tie.close (tie.spec (λ c κs. search needs) returns)

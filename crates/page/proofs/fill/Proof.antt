@@ -8,32 +8,14 @@ use Rattle.page.proofs.Parts.{begun, begun-length, finished}
 use Rattle.page.proofs.fill.Statement.{statement}
 use Rattle.page.proofs.fill.Tie as tie
 
-slice-write-symbols : tie.Need-slice-write-symbols
-slice-write-symbols c = search needs
-
-cast-symbols : tie.Need-cast-symbols
-cast-symbols c = search needs
-
-slice-write-symbols-2 : tie.Need-slice-write-symbols-2
-slice-write-symbols-2 c = search needs
-
 sub-copy : tie.Need-sub-copy
 sub-copy c = simp length-set (omega arith)
 
 part-copy-start : tie.Need-part-copy-start
 part-copy-start c = simp length-set (omega arith)
 
-part-copy-end : tie.Need-part-copy-end
-part-copy-end c = search needs
-
 copy-requires : tie.Need-copy-requires
 copy-requires c κs = simp (length-take, length-drop, length-set) (omega arith)
-
-add-rest : tie.Need-add-rest
-add-rest c = search needs
-
-mul-clear : tie.Need-mul-clear
-mul-clear c = search needs
 
 sub-clear : tie.Need-sub-clear
 sub-clear c =
@@ -42,12 +24,6 @@ sub-clear c =
 
 part-clear-start : tie.Need-part-clear-start
 part-clear-start c = sub-clear c
-
-part-clear-end : tie.Need-part-clear-end
-part-clear-end c = search needs
-
-clear-requires : tie.Need-clear-requires
-clear-requires c κs = search needs
 
 returns : tie.Need-returns
 returns c =
@@ -66,21 +42,4 @@ same-length c =
     ap length (returns c) ∙ page-length (s .args .shape) (s .args .number) (s .args .marks .now) (omega arith) (s .pre .1) ∙ sym (s .pre .0 .size)
 
 pub fill-spec : {M : Type 1} → statement M
-fill-spec =
-    tie.close
-    (tie.spec
-    slice-write-symbols
-    cast-symbols
-    slice-write-symbols-2
-    sub-copy
-    part-copy-start
-    part-copy-end
-    copy-requires
-    add-rest
-    mul-clear
-    sub-clear
-    part-clear-start
-    part-clear-end
-    clear-requires
-    same-length
-    returns)
+fill-spec = tie.close (tie.spec (λ c. search needs) (λ c. search needs) (λ c. search needs) sub-copy part-copy-start (λ c. search needs) copy-requires (λ c. search needs) (λ c. search needs) sub-clear part-clear-start (λ c. search needs) (λ c κs. search needs) same-length returns)

@@ -23,9 +23,6 @@ wide b x h l = le-ltb x (2 ^ b) (rw (power b h) at l)
 slim : (b x : ℕ) → b ≤ 32 → x < 1 * 2 ^ b % 2 ^ 64 → ltb x (2 ^ b) ≡ true
 slim b x h l = lt-ltb x (2 ^ b) (rw (power b h) at l)
 
-shl-bound : tie.Need-shl-bound
-shl-bound c = search needs
-
 returns : tie.Need-returns
 returns c = rw (narrow-two, wide (c .before .before .args .b) (c .before .before .args .number) (c .before .before .pre) (c .if1 .taken))
 
@@ -33,9 +30,6 @@ returns-2 : tie.Need-returns-2
 returns-2 c =
     let s = c .before .before .before in
     rw (narrow-two, slim (s .args .b) (s .args .number) (s .pre) (c .before .if1 .left), wide (s .args .b) (length (s .args .marks .now)) (s .pre) (c .if2 .taken))
-
-is-narrow-requires : tie.Need-is-narrow-requires
-is-narrow-requires c κs = search needs
 
 returns-3 : tie.Need-returns-3
 returns-3 c =
@@ -48,4 +42,4 @@ returns-3 c =
     (c .is-narrow .ensures)
 
 pub is-narrow-page-spec : {M : Type 1} → statement M
-is-narrow-page-spec = tie.close (tie.spec shl-bound returns returns-2 is-narrow-requires returns-3)
+is-narrow-page-spec = tie.close (tie.spec (λ c. search needs) returns returns-2 (λ c κs. search needs) returns-3)

@@ -7,35 +7,11 @@ use Rattle.page.proofs.Parts.{marks-part}
 use Rattle.page.proofs.marks.Statement.{statement}
 use Rattle.page.proofs.marks.Tie as tie
 
-read-page-requires : tie.Need-read-page-requires
-read-page-requires c κs = search needs
-
-enum-known-count : tie.Need-enum-known-count
-enum-known-count c = search needs
-
-cast-end : tie.Need-cast-end
-cast-end c = search needs
-
-add-end : tie.Need-add-end
-add-end c = search needs
-
-sub-result : tie.Need-sub-result
-sub-result c = search needs
-
-part-result-start : tie.Need-part-result-start
-part-result-start c = search needs
-
 part-result-end : tie.Need-part-result-end
 part-result-end c =
     let s = c .before .before .before .before .before in
     let within = marks-within (s .args .shape) (s .args .symbols .now) _ _ (sym (c .before .before .before .read-page .ensures .answer) ∙ c .before .count .given .1) in
     omega arith
-
-enum-told : tie.Need-enum-told
-enum-told c = search needs
-
-slice-aggregate-result : tie.Need-slice-aggregate-result
-slice-aggregate-result c = search needs
 
 returns : tie.Need-returns
 returns c =
@@ -49,17 +25,4 @@ returns-2 c =
     sym (no-marks (s .args .shape) (s .args .symbols .now) _ (sym (c .before .before .before .read-page .ensures .answer) ∙ c .before .enum-told .given .1))
 
 pub marks-spec : {M : Type 1} → statement M
-marks-spec =
-    tie.close
-    (tie.spec
-    read-page-requires
-    enum-known-count
-    cast-end
-    add-end
-    sub-result
-    part-result-start
-    part-result-end
-    enum-told
-    slice-aggregate-result
-    returns
-    returns-2)
+marks-spec = tie.close (tie.spec (λ c κs. search needs) (λ c. search needs) (λ c. search needs) (λ c. search needs) (λ c. search needs) (λ c. search needs) part-result-end (λ c. search needs) (λ c. search needs) returns returns-2)

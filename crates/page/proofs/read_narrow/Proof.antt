@@ -22,12 +22,6 @@ tail : (symbols : List ℕ) {r : Bool} → r ≡ zeros (take (length symbols - (
     zeros (drop (2 + getD symbols 1 0) symbols) ≡ r
 tail symbols e = ap zeros (sym (rest-part (2 + getD symbols 1 0) symbols)) ∙ sym e
 
-shared-slice-read-number : tie.Need-shared-slice-read-number
-shared-slice-read-number c = search needs
-
-shared-slice-read-count : tie.Need-shared-slice-read-count
-shared-slice-read-count c = search needs
-
 cast-c : tie.Need-cast-c
 cast-c c = omega (arith, c .shared-slice-known3 .given 1)
 
@@ -36,9 +30,6 @@ unfolding pageOf
 returns c =
     let s = c .before .before .before .before in
     rw (s .pre .0 .legal, eq-eqb _ _ (s .pre .0 .size), s .pre .1, le-ltb (getD (s .args .symbols .now) 0 0) 1024 (c .if1 .taken))
-
-sub-if2 : tie.Need-sub-if2
-sub-if2 c = search needs
 
 returns-2 : tie.Need-returns-2
 unfolding pageOf
@@ -52,21 +43,6 @@ returns-2 c =
       many-marks (s .args .shape) (getD (s .args .symbols .now) 1 0) (length (s .args .symbols .now)) (s .pre .0 .size) (c .if2 .taken),
     )
 
-add-end : tie.Need-add-end
-add-end c = search needs
-
-sub-are-functions : tie.Need-sub-are-functions
-sub-are-functions c = search needs
-
-part-are-functions-start : tie.Need-part-are-functions-start
-part-are-functions-start c = search needs
-
-part-are-functions-end : tie.Need-part-are-functions-end
-part-are-functions-end c = search needs
-
-are-functions-requires : tie.Need-are-functions-requires
-are-functions-requires c κs = search needs
-
 returns-3 : tie.Need-returns-3
 unfolding pageOf
 returns-3 c =
@@ -79,21 +55,6 @@ returns-3 c =
       few-marks (s .args .shape) (getD (s .args .symbols .now) 1 0) (length (s .args .symbols .now)) (s .pre .0 .size) (c .before .before .before .if2 .left),
       calls (s .args .symbols .now) (c .before .are-functions .ensures) ∙ not-true _ (c .if3 .taken),
     )
-
-mul-are-zeros : tie.Need-mul-are-zeros
-mul-are-zeros c = search needs
-
-sub-are-zeros : tie.Need-sub-are-zeros
-sub-are-zeros c = search needs
-
-part-are-zeros-start : tie.Need-part-are-zeros-start
-part-are-zeros-start c = search needs
-
-part-are-zeros-end : tie.Need-part-are-zeros-end
-part-are-zeros-end c = search needs
-
-are-zeros-requires : tie.Need-are-zeros-requires
-are-zeros-requires c κs = search needs
 
 returns-4 : tie.Need-returns-4
 unfolding pageOf
@@ -125,25 +86,4 @@ returns-5 c =
     }))
 
 pub read-narrow-spec : {M : Type 1} → statement M
-read-narrow-spec =
-    tie.close
-    (tie.spec
-    shared-slice-read-number
-    shared-slice-read-count
-    cast-c
-    returns
-    sub-if2
-    returns-2
-    add-end
-    sub-are-functions
-    part-are-functions-start
-    part-are-functions-end
-    are-functions-requires
-    returns-3
-    mul-are-zeros
-    sub-are-zeros
-    part-are-zeros-start
-    part-are-zeros-end
-    are-zeros-requires
-    returns-4
-    returns-5)
+read-narrow-spec = tie.close (tie.spec (λ c. search needs) (λ c. search needs) cast-c returns (λ c. search needs) returns-2 (λ c. search needs) (λ c. search needs) (λ c. search needs) (λ c. search needs) (λ c κs. search needs) returns-3 (λ c. search needs) (λ c. search needs) (λ c. search needs) (λ c. search needs) (λ c κs. search needs) returns-4 returns-5)

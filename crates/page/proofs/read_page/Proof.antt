@@ -10,12 +10,6 @@ use Rattle.page.proofs.Pages.{sized}
 use Rattle.page.proofs.read_page.Statement.{statement}
 use Rattle.page.proofs.read_page.Tie as tie
 
-is-lawful-requires : tie.Need-is-lawful-requires
-is-lawful-requires c κs = search needs
-
-shape-refusal-requires : tie.Need-shape-refusal-requires
-shape-refusal-requires c κs = search needs
-
 returns : tie.Need-returns
 unfolding pageOf
 returns c = answered readNumber (rw (sym (c .before .before .is-lawful .ensures) ∙ not-true _ (c .before .if1 .taken)) (ap Refused (c .shape-refusal .ensures)))
@@ -55,15 +49,4 @@ returns-4 : tie.Need-returns-4
 returns-4 c = answered readNumber (c .read-narrow .ensures)
 
 pub read-page-spec : {M : Type 1} → statement M
-read-page-spec =
-    tie.close
-    (tie.spec
-    is-lawful-requires
-    shape-refusal-requires
-    returns
-    info-length-requires
-    returns-2
-    is-narrow-requires
-    returns-3
-    read-narrow-requires
-    returns-4)
+read-page-spec = tie.close (tie.spec (λ c κs. search needs) (λ c κs. search needs) returns info-length-requires returns-2 is-narrow-requires returns-3 read-narrow-requires returns-4)

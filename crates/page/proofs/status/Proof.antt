@@ -21,9 +21,6 @@ returns c symbols size =
     let s = c .before .before .before in
     rw (s .pre, eq-eqb _ _ size, not-true (ltb (s .args .number) 1024) (c .if1 .taken))
 
-info-length-requires : tie.Need-info-length-requires
-info-length-requires c κs = search needs
-
 sub-if2 : tie.Need-sub-if2
 sub-if2 c = omega (arith, sizes _ (c .before .before .before .before .pre) .least)
 
@@ -37,9 +34,6 @@ returns-2 c symbols size =
       not-false (ltb (s .args .number) 1024) (c .before .before .if1 .left),
       many-marks (s .args .shape) (length (s .args .marks .now)) (c .before .info-length .result) (c .before .info-length .ensures) (c .if2 .taken),
     )
-
-are-functions-requires : tie.Need-are-functions-requires
-are-functions-requires c κs = search needs
 
 returns-3 : tie.Need-returns-3
 unfolding writeStatus
@@ -80,15 +74,4 @@ returns-5 c symbols size =
     )
 
 pub status-spec : {M : Type 1} → statement M
-status-spec =
-    tie.close
-    (tie.spec
-    is-narrow-page-requires
-    returns
-    info-length-requires
-    sub-if2
-    returns-2
-    are-functions-requires
-    returns-3
-    returns-4
-    returns-5)
+status-spec = tie.close (tie.spec is-narrow-page-requires returns (λ c κs. search needs) sub-if2 returns-2 (λ c κs. search needs) returns-3 returns-4 returns-5)

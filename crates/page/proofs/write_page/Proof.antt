@@ -8,12 +8,6 @@ use Rattle.page.proofs.Pages.{writing, sized, writable}
 use Rattle.page.proofs.write_page.Statement.{statement}
 use Rattle.page.proofs.write_page.Tie as tie
 
-is-lawful-requires : tie.Need-is-lawful-requires
-is-lawful-requires c κs = search needs
-
-shape-refusal-requires : tie.Need-shape-refusal-requires
-shape-refusal-requires c κs = search needs
-
 returns : tie.Need-returns
 unfolding writeStatus
 returns c = writing (rw (sym (c .before .before .is-lawful .ensures) ∙ not-true _ (c .before .if1 .taken)) (ap Refused (c .shape-refusal .ensures))) refl
@@ -34,9 +28,6 @@ returns-2 c =
 status-requires : tie.Need-status-requires
 status-requires c κs = sym (c .before .before .before .is-lawful .ensures) ∙ not-false _ (c .before .before .if1 .left)
 
-enum-told : tie.Need-enum-told
-enum-told c = search needs
-
 fill-requires : tie.Need-fill-requires
 fill-requires c κs =
     let s = c .before .before .before .before .before .before .before .before .before .before in
@@ -45,12 +36,6 @@ fill-requires c κs =
       writable (s .args .shape) (s .args .number) (s .args .marks .now) (s .args .symbols .now)
           (sym (c .before .before .before .status .ensures (s .args .symbols .now) size) ∙ c .before .enum-told .given .1) .few,
     )
-
-enum-known-e : tie.Need-enum-known-e
-enum-known-e c = search needs
-
-same-length : tie.Need-same-length
-same-length c = search needs
 
 returns-3 : tie.Need-returns-3
 returns-3 c =
@@ -67,18 +52,4 @@ returns-4 c =
     refl
 
 pub write-page-spec : {M : Type 1} → statement M
-write-page-spec =
-    tie.close
-    (tie.spec
-    is-lawful-requires
-    shape-refusal-requires
-    returns
-    info-length-requires
-    returns-2
-    status-requires
-    enum-told
-    fill-requires
-    enum-known-e
-    same-length
-    returns-3
-    returns-4)
+write-page-spec = tie.close (tie.spec (λ c κs. search needs) (λ c κs. search needs) returns info-length-requires returns-2 status-requires (λ c. search needs) fill-requires (λ c. search needs) (λ c. search needs) returns-3 returns-4)

@@ -38,9 +38,6 @@ loop-holds c = turn-none (c .pre .0) (c .pre .1)
 mul-f : tie.Need-mul-f Inv-loop μ-loop
 mul-f c = omega (arith, c .before .before .good .1 .0 .1)
 
-shared-slice-read-f : tie.Need-shared-slice-read-f Inv-loop μ-loop
-shared-slice-read-f c = search needs
-
 cast-f : tie.Need-cast-f Inv-loop μ-loop
 cast-f c = omega (arith, c .shared-slice-known .given (c .before .before .loop .i))
 
@@ -84,24 +81,4 @@ returns-2 : tie.Need-returns-2 Inv-loop μ-loop
 returns-2 c = turn-all (c .before .loop .inv) (c .loop-test .left)
 
 pub add-marks-spec : {M : Type 1} → statement M
-add-marks-spec =
-    tie.close
-    (tie.spec
-    Inv-loop
-    μ-loop
-    loop-holds
-    mul-f
-    shared-slice-read-f
-    cast-f
-    mul-k
-    element-copy-out-k
-    cast-call
-    sub-if1
-    returns
-    add-calls
-    mul-calls
-    element-write-calls
-    add-i
-    loop-less
-    loop-again
-    returns-2)
+add-marks-spec = tie.close (tie.spec Inv-loop μ-loop loop-holds mul-f (λ c. search needs) cast-f mul-k element-copy-out-k cast-call sub-if1 returns add-calls mul-calls element-write-calls add-i loop-less loop-again returns-2)

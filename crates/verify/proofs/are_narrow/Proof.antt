@@ -6,17 +6,11 @@ use Rattle.verify.proofs.Answers.{first-fails, first-passes}
 use Rattle.verify.proofs.are_narrow.Statement.{statement}
 use Rattle.verify.proofs.are_narrow.Tie as tie
 
-is-narrow-requires : tie.Need-is-narrow-requires
-is-narrow-requires c κs = search needs
-
 returns : tie.Need-returns
 returns c = first-fails _ (sym (c .before .is-narrow .ensures) ∙ not-true _ (c .if1 .taken))
-
-is-narrow-requires-2 : tie.Need-is-narrow-requires-2
-is-narrow-requires-2 c κs = search needs
 
 returns-2 : tie.Need-returns-2
 returns-2 c = c .is-narrow2 .ensures ∙ first-passes _ (sym (c .before .before .is-narrow .ensures) ∙ not-false _ (c .before .if1 .left))
 
 pub are-narrow-spec : {M : Type 1} → statement M
-are-narrow-spec = tie.close (tie.spec is-narrow-requires returns is-narrow-requires-2 returns-2)
+are-narrow-spec = tie.close (tie.spec (λ c κs. search needs) returns (λ c κs. search needs) returns-2)

@@ -13,12 +13,6 @@ use Rattle.verify.proofs.Answers.{sizes, refuses-shape, refuses-length,
 use Rattle.verify.proofs.check.Statement.{statement}
 use Rattle.verify.proofs.check.Tie as tie
 
-is-lawful-requires : tie.Need-is-lawful-requires
-is-lawful-requires c κs = search needs
-
-shape-refusal-requires : tie.Need-shape-refusal-requires
-shape-refusal-requires c κs = search needs
-
 returns : tie.Need-returns
 returns c = refuses-shape (sym (c .before .before .is-lawful .ensures) ∙ not-true _ (c .before .if1 .taken)) (c .shape-refusal .ensures)
 
@@ -31,14 +25,8 @@ lengths-pass : (c : tie.Else2)
     → (eqb (length (c .before .before .before .before .before .before .before .args .received .now)) (wordLength (c .before .before .before .before .before .before .before .args .shape)) && eqb (length (c .before .before .before .before .before .before .before .args .proposed .now)) (wordLength (c .before .before .before .before .before .before .before .args .shape))) ≡ true
 lengths-pass c = sym (c .before .have-length .ensures) ∙ not-false _ (c .if2 .left)
 
-cast-q : tie.Need-cast-q
-cast-q c = search needs
-
 mul-have-length : tie.Need-mul-have-length
 mul-have-length c = let b = bounds _ (shape-passes (c .before)) in omega (arith, square-le _ (b .q31))
-
-have-length-requires : tie.Need-have-length-requires
-have-length-requires c κs = search needs
 
 returns-2 : tie.Need-returns-2
 returns-2 c = refuses-length (shape-passes (c .before .before .before)) (sym (c .before .have-length .ensures) ∙ not-true _ (c .if2 .taken))
@@ -66,18 +54,4 @@ returns-5 c =
     (sym (c .before .is-restored .ensures) ∙ c .if4 .left)
 
 pub check-spec : {M : Type 1} → statement M
-check-spec =
-    tie.close
-    (tie.spec
-    is-lawful-requires
-    shape-refusal-requires
-    returns
-    cast-q
-    mul-have-length
-    have-length-requires
-    returns-2
-    are-narrow-requires
-    returns-3
-    is-restored-requires
-    returns-4
-    returns-5)
+check-spec = tie.close (tie.spec (λ c κs. search needs) (λ c κs. search needs) returns (λ c. search needs) mul-have-length (λ c κs. search needs) returns-2 are-narrow-requires returns-3 is-restored-requires returns-4 returns-5)

@@ -11,8 +11,4 @@ returns-2 : tie.Need-returns-2
 returns-2 c = first-passes _ (eq-eqb _ _ (c .if1 .left))
 
 pub have-length-spec : {M : Type 1} → statement M
-have-length-spec =
-    tie.close
-    (tie.spec
-    returns
-    returns-2)
+have-length-spec = tie.close (tie.spec returns returns-2)

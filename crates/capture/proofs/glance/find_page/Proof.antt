@@ -28,29 +28,11 @@ room : (c : tie.After-read-page) → length (gathering c .gather .last .1 .1 .0)
 unfolding extractOf
 room c = ap length (gathering c .gather .ensures) ∙ length-tabulate (infoLength (start c .args .shape)) _
 
-gather-requires : tie.Need-gather-requires
-gather-requires c κs = search needs
-
-read-page-requires : tie.Need-read-page-requires
-read-page-requires c κs = search needs
-
-enum-known-e : tie.Need-enum-known-e
-enum-known-e c = search needs
-
-enum-known-number : tie.Need-enum-known-number
-enum-known-number c = search needs
-
-cast-at : tie.Need-cast-at
-cast-at c = search needs
-
 element-copy-out-if1 : tie.Need-element-copy-out-if1
 element-copy-out-if1 c =
     let n = c .before in
     let p = n .before .before in
     omega (arith, page-facts (start p .args .shape) (extractOf (start p .args .shape) (start p .args .word .now)) _ _ (page p ∙ n .number .given .1) .page)
-
-same-length : tie.Need-same-length
-same-length c = search needs
 
 returns : tie.Need-returns
 returns c =
@@ -59,34 +41,14 @@ returns c =
     let found = page p ∙ n .number .given .1 in
     (seen-again (ap (openPage (start p .args .shape) _ (start p .args .k)) found) (c .if1 .taken), room p)
 
-same-length-2 : tie.Need-same-length-2
-same-length-2 c = search needs
-
 returns-2 : tie.Need-returns-2
 returns-2 c =
     let e = c .before in
     let p = e .before .before in
     (seen-refused (ap (openPage (start p .args .shape) _ (start p .args .k)) (page p ∙ e .e .given .1)), room p)
 
-same-length-3 : tie.Need-same-length-3
-same-length-3 c = search needs
-
 returns-3 : tie.Need-returns-3
 returns-3 c = (seen-open, room (c .before .before .before .before .before))
 
 pub find-page-spec : {M : Type 1} → statement M
-find-page-spec =
-    tie.close
-    (tie.spec
-    gather-requires
-    read-page-requires
-    enum-known-e
-    enum-known-number
-    cast-at
-    element-copy-out-if1
-    same-length
-    returns
-    same-length-2
-    returns-2
-    same-length-3
-    returns-3)
+find-page-spec = tie.close (tie.spec (λ c κs. search needs) (λ c κs. search needs) (λ c. search needs) (λ c. search needs) (λ c. search needs) element-copy-out-if1 (λ c. search needs) returns (λ c. search needs) returns-2 (λ c. search needs) returns-3)

@@ -5,15 +5,6 @@ use borrow.Author.Needs.{needs}
 use Rattle.capture.proofs.glance.glance_word.Statement.{statement}
 use Rattle.capture.proofs.glance.glance_word.Tie as tie
 
-parse-requires : tie.Need-parse-requires
-parse-requires c κs = search needs
-
-enum-known-count : tie.Need-enum-known-count
-enum-known-count c = search needs
-
-enum-told : tie.Need-enum-told
-enum-told c = search needs
-
 returns : tie.Need-returns
 returns c =
     let parsed = c .before .before .parse .ensures in
@@ -23,16 +14,10 @@ returns c =
       symbols = c .before .before .before .before .before .before .pre .1;
     }
 
-cut-requires : tie.Need-cut-requires
-cut-requires c κs = search needs
-
 look-at-requires : tie.Need-look-at-requires
 look-at-requires c κs =
     let cut = c .before .before .cut .ensures in
     (c .before .before .before .before .before .before .parse .ensures .size, cut .most, c .before .before .before .before .before .before .before .before .before .before .pre .1)
-
-same-length : tie.Need-same-length
-same-length c = search needs
 
 returns-2 : tie.Need-returns-2
 returns-2 c =
@@ -42,14 +27,4 @@ returns-2 c =
     word-glanced (parsed .accepted _ (c .before .before .before .before .before .before .before .count .given .1)) (parsed .size) cut (look .0) (look .1) (look .2)
 
 pub glance-word-spec : {M : Type 1} → statement M
-glance-word-spec =
-    tie.close
-    (tie.spec
-    parse-requires
-    enum-known-count
-    enum-told
-    returns
-    cut-requires
-    look-at-requires
-    same-length
-    returns-2)
+glance-word-spec = tie.close (tie.spec (λ c κs. search needs) (λ c. search needs) (λ c. search needs) returns (λ c κs. search needs) look-at-requires (λ c. search needs) returns-2)

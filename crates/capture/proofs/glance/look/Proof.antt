@@ -25,15 +25,6 @@ sized c {k} h = decoded-sized (start c .args .shape) (start c .args .word .now) 
 room : (c : tie.After-info-length) → c .info-length .result ≤ 900
 room c = omega (arith, c .info-length .ensures, sizes _ (sized (c .before .before .before .before .before .before) (c .before .before .k .given .1) .0) .info)
 
-decode-requires : tie.Need-decode-requires
-decode-requires c κs = search needs
-
-enum-known-e : tie.Need-enum-known-e
-enum-known-e c = search needs
-
-enum-known-k : tie.Need-enum-known-k
-enum-known-k c = search needs
-
 info-length-requires : tie.Need-info-length-requires
 info-length-requires c κs = sized (c .before .before .before .before .before) (c .before .k .given .1) .0
 
@@ -49,9 +40,6 @@ find-page-requires c κs =
     let (law, size) = sized d (c .before .before .before .before .k .given .1) in
     (law, decoding-size (d .decode .result) (d .decode .ensures) ∙ size, length-take-le _ _ (omega (arith, room (c .before .before), c .before .before .before .before .before .before .before .before .before .before .before .before .pre)) ∙ c .before .before .info-length .ensures)
 
-same-length : tie.Need-same-length
-same-length c = search needs
-
 returns : tie.Need-returns
 returns c =
     let d = c .before .before .before .before .before in
@@ -60,12 +48,6 @@ returns c =
       size = decoding-size (d .decode .result) (d .decode .ensures);
       symbols = c .before .before .before .before .before .before .before .before .before .pre;
     }
-
-same-length-2 : tie.Need-same-length-2
-same-length-2 c = search needs
-
-same-length-3 : tie.Need-same-length-3
-same-length-3 c = search needs
 
 returns-2 : tie.Need-returns-2
 returns-2 c =
@@ -78,18 +60,4 @@ returns-2 c =
     }
 
 pub look-spec : {M : Type 1} → statement M
-look-spec =
-    tie.close
-    (tie.spec
-    decode-requires
-    enum-known-e
-    enum-known-k
-    info-length-requires
-    slice-relend-prefix-find-page
-    slice-aggregate-find-page
-    find-page-requires
-    same-length
-    returns
-    same-length-2
-    same-length-3
-    returns-2)
+look-spec = tie.close (tie.spec (λ c κs. search needs) (λ c. search needs) (λ c. search needs) info-length-requires slice-relend-prefix-find-page slice-aggregate-find-page find-page-requires (λ c. search needs) returns (λ c. search needs) (λ c. search needs) returns-2)

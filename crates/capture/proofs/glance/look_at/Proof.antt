@@ -7,20 +7,8 @@ use borrow.Author.Needs.{needs}
 use Rattle.capture.proofs.glance.look_at.Statement.{statement}
 use Rattle.capture.proofs.glance.look_at.Tie as tie
 
-slice-relend-prefix-look : tie.Need-slice-relend-prefix-look
-slice-relend-prefix-look c = search needs
-
 slice-aggregate-look : tie.Need-slice-aggregate-look
 slice-aggregate-look c = sym (length-take-le _ _ (omega (arith, c .before .before .before .pre .0, c .before .before .before .pre .1)))
-
-look-requires : tie.Need-look-requires
-look-requires c κs = search needs
-
-same-length : tie.Need-same-length
-same-length c = search needs
-
-same-length-2 : tie.Need-same-length-2
-same-length-2 c = search needs
 
 returns : tie.Need-returns
 returns c =
@@ -29,12 +17,4 @@ returns c =
     (look .seen, part-kept (c .before .before .before .before .before .before .before .before .before .args .values .now) (c .before .before .before .before .look .last .1 .1 .0) _ 1024 (asked .0) (asked .1) (look .size ∙ length-take-le _ _ (omega (arith, asked .0, asked .1))), look .symbols)
 
 pub look-at-spec : {M : Type 1} → statement M
-look-at-spec =
-    tie.close
-    (tie.spec
-    slice-relend-prefix-look
-    slice-aggregate-look
-    look-requires
-    same-length
-    same-length-2
-    returns)
+look-at-spec = tie.close (tie.spec (λ c. search needs) slice-aggregate-look (λ c κs. search needs) (λ c. search needs) (λ c. search needs) returns)

@@ -7,9 +7,6 @@ use borrow.Author.Needs.{needs}
 use Rattle.capture.proofs.judge.room_for.Statement.{statement}
 use Rattle.capture.proofs.judge.room_for.Tie as tie
 
-is-lawful-requires : tie.Need-is-lawful-requires
-is-lawful-requires c κs = search needs
-
 scratch-length-requires : tie.Need-scratch-length-requires
 scratch-length-requires c κs = sym (c .before .is-lawful .ensures) ∙ c .if1 .taken
 
@@ -22,4 +19,4 @@ returns-2 : tie.Need-returns-2
 returns-2 c = record { exact = λ t. absurd (clash t (sym (c .before .is-lawful .ensures) ∙ c .if1 .left)); few = omega arith }
 
 pub room-for-spec : {M : Type 1} → statement M
-room-for-spec = tie.close (tie.spec is-lawful-requires scratch-length-requires returns returns-2)
+room-for-spec = tie.close (tie.spec (λ c κs. search needs) scratch-length-requires returns returns-2)

@@ -6,21 +6,6 @@ use borrow.Author.Needs.{needs}
 use Rattle.capture.proofs.judge.start_session.Statement.{statement}
 use Rattle.capture.proofs.judge.start_session.Tie as tie
 
-fresh-requires : tie.Need-fresh-requires
-fresh-requires c κs = search needs
-
-enum-told : tie.Need-enum-told
-enum-told c = search needs
-
-pass-requires : tie.Need-pass-requires
-pass-requires c κs = search needs
-
-enum-known-status : tie.Need-enum-known-status
-enum-known-status c = search needs
-
-fail-requires : tie.Need-fail-requires
-fail-requires c κs = search needs
-
 returns : tie.Need-returns
 returns c =
     let f = c .before .before .before .before .fresh .ensures in
@@ -32,13 +17,4 @@ returns-2 c =
     begun-refused _ _ _ _ (sym (f .status) ∙ c .before .before .status .given .1) (c .fail .ensures)
 
 pub start-session-spec : {M : Type 1} → statement M
-start-session-spec =
-    tie.close
-    (tie.spec
-    fresh-requires
-    enum-told
-    pass-requires
-    enum-known-status
-    fail-requires
-    returns
-    returns-2)
+start-session-spec = tie.close (tie.spec (λ c κs. search needs) (λ c. search needs) (λ c κs. search needs) (λ c. search needs) (λ c κs. search needs) returns returns-2)

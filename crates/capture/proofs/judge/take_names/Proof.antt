@@ -4,17 +4,11 @@ use borrow.Author.Needs.{needs}
 use Rattle.capture.proofs.judge.take_names.Statement.{statement}
 use Rattle.capture.proofs.judge.take_names.Tie as tie
 
-pass-requires : tie.Need-pass-requires
-pass-requires c κs = search needs
-
 returns : tie.Need-returns
 returns c = named-yes _ _ _ (c .before .if1 .taken) (c .pass .ensures)
-
-fail-requires : tie.Need-fail-requires
-fail-requires c κs = search needs
 
 returns-2 : tie.Need-returns-2
 returns-2 c = named-no _ _ _ (c .before .if1 .left) (c .fail .ensures)
 
 pub take-names-spec : {M : Type 1} → statement M
-take-names-spec = tie.close (tie.spec pass-requires returns fail-requires returns-2)
+take-names-spec = tie.close (tie.spec (λ c κs. search needs) returns (λ c κs. search needs) returns-2)

@@ -8,23 +8,8 @@ use borrow.Author.Needs.{needs}
 use Rattle.capture.proofs.judge.take_word.Statement.{statement}
 use Rattle.capture.proofs.judge.take_word.Tie as tie
 
-parse-requires : tie.Need-parse-requires
-parse-requires c κs = search needs
-
-enum-known-count : tie.Need-enum-known-count
-enum-known-count c = search needs
-
-enum-told : tie.Need-enum-told
-enum-told c = search needs
-
 returns : tie.Need-returns
 returns c = (worded-none _ _ (content-none _ (c .before .before .parse .ensures .refused (c .enum-told .given .1))), c .before .before .before .before .before .before .pre .1)
-
-cut-requires : tie.Need-cut-requires
-cut-requires c κs = search needs
-
-room-for-requires : tie.Need-room-for-requires
-room-for-requires c κs = search needs
 
 array-borrow-prefix-values : tie.Need-array-borrow-prefix-values
 array-borrow-prefix-values c =
@@ -36,17 +21,11 @@ slice-aggregate-step c =
     let cut = c .before .before .before .cut .ensures in
     sym (length-take-le _ _ (omega (arith, c .before .before .before .before .before .before .before .parse .ensures .size, cut .most)))
 
-slice-relend-prefix-step : tie.Need-slice-relend-prefix-step
-slice-relend-prefix-step c = search needs
-
 slice-aggregate-step-2 : tie.Need-slice-aggregate-step-2
 slice-aggregate-step-2 c = sym (length-take-le _ _ (omega (arith, c .before .before .room-for .ensures .few, c .before .before .before .before .before .before .before .before .before .before .before .before .pre .1)))
 
 step-requires : tie.Need-step-requires
 step-requires c κs = c .before .before .before .before .before .before .before .before .before .before .before .before .pre .0
-
-same-length : tie.Need-same-length
-same-length c = search needs
 
 returns-2 : tie.Need-returns-2
 returns-2 c =
@@ -60,19 +39,4 @@ returns-2 c =
     )
 
 pub take-word-spec : {M : Type 1} → statement M
-take-word-spec =
-    tie.close
-    (tie.spec
-    parse-requires
-    enum-known-count
-    enum-told
-    returns
-    cut-requires
-    room-for-requires
-    array-borrow-prefix-values
-    slice-aggregate-step
-    slice-relend-prefix-step
-    slice-aggregate-step-2
-    step-requires
-    same-length
-    returns-2)
+take-word-spec = tie.close (tie.spec (λ c κs. search needs) (λ c. search needs) (λ c. search needs) returns (λ c κs. search needs) (λ c κs. search needs) array-borrow-prefix-values slice-aggregate-step (λ c. search needs) slice-aggregate-step-2 step-requires (λ c. search needs) returns-2)

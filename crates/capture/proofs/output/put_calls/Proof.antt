@@ -6,20 +6,10 @@ use Rattle.capture.proofs.Texts.{put-appended, appended-both}
 use Rattle.capture.proofs.output.put_calls.Statement.{statement}
 use Rattle.capture.proofs.output.put_calls.Tie as tie
 
-put-calls-names-requires : tie.Need-put-calls-names-requires
-put-calls-names-requires c κs = search needs
-
-put-counts-requires : tie.Need-put-counts-requires
-put-counts-requires c κs = search needs
-
-same-length : tie.Need-same-length
-same-length c = search needs
-
 returns : tie.Need-returns
 unfolding callsText
 returns c =
     appended-both (put-appended (omega arith) (c .before .before .before .before .before .before .put-calls-names .ensures)) (c .before .before .put-counts .ensures)
 
 pub put-calls-spec : {M : Type 1} → statement M
-put-calls-spec =
-    tie.close (tie.spec put-calls-names-requires put-counts-requires same-length returns)
+put-calls-spec = tie.close (tie.spec (λ c κs. search needs) (λ c κs. search needs) (λ c. search needs) returns)

@@ -21,23 +21,8 @@ counts c = owned-counts _ _ (c .good .1 .1 .0)
 loop-holds : tie.Need-loop-holds Inv-loop μ-loop
 loop-holds c = (omega arith, counting-begins _ _ _)
 
-mul-k : tie.Need-mul-k Inv-loop μ-loop
-mul-k c = search needs
-
-array-read-k : tie.Need-array-read-k Inv-loop μ-loop
-array-read-k c = search needs
-
-cast-put-count : tie.Need-cast-put-count Inv-loop μ-loop
-cast-put-count c = search needs
-
 put-count-requires : tie.Need-put-count-requires Inv-loop μ-loop
 put-count-requires c κs = omega arith
-
-add-f : tie.Need-add-f Inv-loop μ-loop
-add-f c = search needs
-
-loop-less : tie.Need-loop-less Inv-loop μ-loop
-loop-less c = search needs
 
 loop-again : tie.Need-loop-again Inv-loop μ-loop
 loop-again c =
@@ -61,18 +46,4 @@ returns : tie.Need-returns Inv-loop μ-loop
 returns c = counting-ends (omega (arith, counts (c .before .before .before))) (c .before .loop .inv .1)
 
 pub put-counts-spec : {M : Type 1} → statement M
-put-counts-spec =
-    tie.close
-    (tie.spec
-    Inv-loop
-    μ-loop
-    loop-holds
-    mul-k
-    array-read-k
-    cast-put-count
-    put-count-requires
-    add-f
-    loop-less
-    loop-again
-    same-length
-    returns)
+put-counts-spec = tie.close (tie.spec Inv-loop μ-loop loop-holds (λ c. search needs) (λ c. search needs) (λ c. search needs) put-count-requires (λ c. search needs) (λ c. search needs) loop-again same-length returns)

@@ -6,17 +6,11 @@ use borrow.Author.Needs.{needs}
 use Rattle.command.proofs.shown.put_numbered.Statement.{statement}
 use Rattle.command.proofs.shown.put_numbered.Tie as tie
 
-put-number-requires : tie.Need-put-number-requires
-put-number-requires c κs = search needs
-
 put-text-requires : tie.Need-put-text-requires
 put-text-requires c κs = omega (arith, at-most-ten (c .before .before .before .before .before .before .before .args .value) (omega arith))
-
-same-length : tie.Need-same-length
-same-length c = search needs
 
 returns : tie.Need-returns
 returns c = put-numbered (c .before .before .before .before .before .before .before .before .before .before .args .value) (omega arith) (c .before .before .before .before .before .before .before .before .before .before .pre) (c .before .before .before .before .before .before .put-number .ensures) (c .before .before .put-text .ensures)
 
 pub put-numbered-spec : {M : Type 1} → statement M
-put-numbered-spec = tie.close (tie.spec put-number-requires put-text-requires same-length returns)
+put-numbered-spec = tie.close (tie.spec (λ c κs. search needs) put-text-requires (λ c. search needs) returns)

@@ -7,29 +7,11 @@ use borrow.Author.Needs.{needs}
 use Rattle.command.proofs.shown.put_progress.Statement.{statement}
 use Rattle.command.proofs.shown.put_progress.Tie as tie
 
-slice-aggregate-put-text : tie.Need-slice-aggregate-put-text
-slice-aggregate-put-text c = search needs
-
-put-text-requires : tie.Need-put-text-requires
-put-text-requires c κs = search needs
-
-slice-aggregate-put-numbered : tie.Need-slice-aggregate-put-numbered
-slice-aggregate-put-numbered c = search needs
-
-put-numbered-requires : tie.Need-put-numbered-requires
-put-numbered-requires c κs = search needs
-
-slice-aggregate-put-numbered-2 : tie.Need-slice-aggregate-put-numbered-2
-slice-aggregate-put-numbered-2 c = search needs
-
 put-numbered-requires-2 : tie.Need-put-numbered-requires-2
 put-numbered-requires-2 c κs = omega (arith, numbered-length (c .before .before .before .before .before .before .before .before .before .before .before .before .before .args .read / 1000000) (ascii " MB read, ") (omega arith))
 
 put-lowest-requires : tie.Need-put-lowest-requires
 put-lowest-requires c κs = omega (arith, numbered-length (c .before .before .before .before .before .before .before .before .before .before .before .before .before .before .before .before .before .args .read / 1000000) (ascii " MB read, ") (omega arith), numbered-length (c .before .before .before .before .before .before .before .before .before .before .before .before .before .before .before .before .before .args .pages) (ascii " pages taken, ") (omega arith))
-
-same-length : tie.Need-same-length
-same-length c = search needs
 
 returns : tie.Need-returns
 returns c =
@@ -38,15 +20,4 @@ returns c =
     (c .before .before .before .before .before .before .before .before .before .before .before .before .before .before .before .before .put-text .ensures) (c .before .before .before .before .before .before .before .before .before .before .before .put-numbered .ensures) (c .before .before .before .before .before .before .put-numbered2 .ensures) (c .before .before .put-lowest .ensures)
 
 pub put-progress-spec : {M : Type 1} → statement M
-put-progress-spec =
-    tie.close
-    (tie.spec
-    slice-aggregate-put-text
-    put-text-requires
-    slice-aggregate-put-numbered
-    put-numbered-requires
-    slice-aggregate-put-numbered-2
-    put-numbered-requires-2
-    put-lowest-requires
-    same-length
-    returns)
+put-progress-spec = tie.close (tie.spec (λ c. search needs) (λ c κs. search needs) (λ c. search needs) (λ c κs. search needs) (λ c. search needs) put-numbered-requires-2 put-lowest-requires (λ c. search needs) returns)

@@ -6,26 +6,11 @@ use borrow.Author.Needs.{needs}
 use Rattle.command.proofs.shown.put_summary.Statement.{statement}
 use Rattle.command.proofs.shown.put_summary.Tie as tie
 
-slice-aggregate-put-numbered : tie.Need-slice-aggregate-put-numbered
-slice-aggregate-put-numbered c = search needs
-
-put-numbered-requires : tie.Need-put-numbered-requires
-put-numbered-requires c κs = search needs
-
-slice-aggregate-put-numbered-2 : tie.Need-slice-aggregate-put-numbered-2
-slice-aggregate-put-numbered-2 c = search needs
-
 put-numbered-requires-2 : tie.Need-put-numbered-requires-2
 put-numbered-requires-2 c κs = omega (arith, numbered-length (c .before .before .before .before .before .before .before .before .args .taken) (ascii " taken, ") (omega arith))
 
-slice-aggregate-put-numbered-3 : tie.Need-slice-aggregate-put-numbered-3
-slice-aggregate-put-numbered-3 c = search needs
-
 put-numbered-requires-3 : tie.Need-put-numbered-requires-3
 put-numbered-requires-3 c κs = omega (arith, numbered-length (c .before .before .before .before .before .before .before .before .before .before .before .before .before .args .taken) (ascii " taken, ") (omega arith), numbered-length (c .before .before .before .before .before .before .before .before .before .before .before .before .before .args .again) (ascii " again, ") (omega arith))
-
-same-length : tie.Need-same-length
-same-length c = search needs
 
 returns : tie.Need-returns
 returns c =
@@ -34,14 +19,4 @@ returns c =
     (c .before .before .before .before .before .before .before .before .before .before .before .before .put-numbered .ensures) (c .before .before .before .before .before .before .before .put-numbered2 .ensures) (c .before .before .put-numbered3 .ensures)
 
 pub put-summary-spec : {M : Type 1} → statement M
-put-summary-spec =
-    tie.close
-    (tie.spec
-    slice-aggregate-put-numbered
-    put-numbered-requires
-    slice-aggregate-put-numbered-2
-    put-numbered-requires-2
-    slice-aggregate-put-numbered-3
-    put-numbered-requires-3
-    same-length
-    returns)
+put-summary-spec = tie.close (tie.spec (λ c. search needs) (λ c κs. search needs) (λ c. search needs) put-numbered-requires-2 (λ c. search needs) put-numbered-requires-3 (λ c. search needs) returns)

@@ -5,14 +5,8 @@ use borrow.Author.Needs.{needs}
 use Rattle.command.proofs.shown.summary.Statement.{statement}
 use Rattle.command.proofs.shown.summary.Tie as tie
 
-slice-aggregate-put-summary : tie.Need-slice-aggregate-put-summary
-slice-aggregate-put-summary c = search needs
-
-put-summary-requires : tie.Need-put-summary-requires
-put-summary-requires c κs = search needs
-
 returns : tie.Need-returns
 returns c = held _ refl refl (c .before .put-summary .ensures)
 
 pub summary-spec : {M : Type 1} → statement M
-summary-spec = tie.close (tie.spec slice-aggregate-put-summary put-summary-requires returns)
+summary-spec = tie.close (tie.spec (λ c. search needs) (λ c κs. search needs) returns)

@@ -38,12 +38,6 @@ cancel-one-requires c κs =
     let p = c .before .before .before .before .before .before .pre in
     (p .0, p .1, c .before .before .before .before .loop .inv .1 .size, p .3 .below (c .before .before .before .before .loop .x) (c .before .before .before .loop-test .taken))
 
-add-x : tie.Need-add-x Inv-loop μ-loop
-add-x c = search needs
-
-loop-less : tie.Need-loop-less Inv-loop μ-loop
-loop-less c = search needs
-
 loop-again : tie.Need-loop-again Inv-loop μ-loop
 loop-again c =
     let p = c .before .before .before .before .before .before .before .pre in
@@ -54,18 +48,4 @@ returns : tie.Need-returns Inv-loop μ-loop
 returns c = rw (le-antisymm (c .before .loop .inv .0) (c .loop-test .left)) at (c .before .loop .inv .1)
 
 pub cancel-by-spec : {M : Type 1} → statement M
-cancel-by-spec =
-    tie.close
-    (tie.spec
-    Inv-loop
-    μ-loop
-    loop-holds
-    mul-cancel-one
-    element-copy-out-cancel-one
-    mul-cancel-one-2
-    element-copy-out-cancel-one-2
-    cancel-one-requires
-    add-x
-    loop-less
-    loop-again
-    returns)
+cancel-by-spec = tie.close (tie.spec Inv-loop μ-loop loop-holds mul-cancel-one element-copy-out-cancel-one mul-cancel-one-2 element-copy-out-cancel-one-2 cancel-one-requires (λ c. search needs) (λ c. search needs) loop-again returns)

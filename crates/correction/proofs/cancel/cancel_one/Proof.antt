@@ -17,14 +17,8 @@ Inv-loop shape table syn₀ j error n t₀ syn t = (t ≤ n) × Toggled t (check
 abbrev μ-loop : tie.MeasureT-loop
 μ-loop shape table syn₀ j error n t₀ syn t = n - t
 
-cast-n : tie.Need-cast-n Inv-loop μ-loop
-cast-n c = search needs
-
 loop-holds : tie.Need-loop-holds Inv-loop μ-loop
 loop-holds c = (search needs, toggled-none _ _ _)
-
-number-by-requires : tie.Need-number-by-requires Inv-loop μ-loop
-number-by-requires c κs = search needs
 
 -- the check is in the table
 inside : (c : tie.After-number-by Inv-loop μ-loop) → c .number-by .result < 248
@@ -41,12 +35,6 @@ element-copy-out-syn c = inside c
 element-write-syn : tie.Need-element-write-syn Inv-loop μ-loop
 element-write-syn c = inside (c .before)
 
-add-t : tie.Need-add-t Inv-loop μ-loop
-add-t c = search needs
-
-loop-less : tie.Need-loop-less Inv-loop μ-loop
-loop-less c = search needs
-
 loop-again : tie.Need-loop-again Inv-loop μ-loop
 unfolding _⊕_
 loop-again c =
@@ -57,18 +45,4 @@ returns : tie.Need-returns Inv-loop μ-loop
 returns c = rw (le-antisymm (c .before .loop .inv .0) (c .loop-test .left)) at (c .before .loop .inv .1)
 
 pub cancel-one-spec : {M : Type 1} → statement M
-cancel-one-spec =
-    tie.close
-    (tie.spec
-    Inv-loop
-    μ-loop
-    cast-n
-    loop-holds
-    number-by-requires
-    mul-syn
-    element-copy-out-syn
-    element-write-syn
-    add-t
-    loop-less
-    loop-again
-    returns)
+cancel-one-spec = tie.close (tie.spec Inv-loop μ-loop (λ c. search needs) loop-holds (λ c κs. search needs) mul-syn element-copy-out-syn element-write-syn (λ c. search needs) (λ c. search needs) loop-again returns)

@@ -29,12 +29,6 @@ mul-bits c = omega arith
 element-copy-out-bits : tie.Need-element-copy-out-bits Inv-loop μ-loop
 element-copy-out-bits c = omega arith
 
-add-e : tie.Need-add-e Inv-loop μ-loop
-add-e c = search needs
-
-loop-less : tie.Need-loop-less Inv-loop μ-loop
-loop-less c = search needs
-
 loop-again : tie.Need-loop-again Inv-loop μ-loop
 loop-again c =
     let bits = c .before .before .loop .bits in
@@ -45,15 +39,4 @@ returns : tie.Need-returns Inv-loop μ-loop
 returns c = rw (le-antisymm (c .before .loop .inv .0) (c .loop-test .left)) at (c .before .loop .inv .1)
 
 pub is-silent-spec : {M : Type 1} → statement M
-is-silent-spec =
-    tie.close
-    (tie.spec
-    Inv-loop
-    μ-loop
-    loop-holds
-    mul-bits
-    element-copy-out-bits
-    add-e
-    loop-less
-    loop-again
-    returns)
+is-silent-spec = tie.close (tie.spec Inv-loop μ-loop loop-holds mul-bits element-copy-out-bits (λ c. search needs) (λ c. search needs) loop-again returns)

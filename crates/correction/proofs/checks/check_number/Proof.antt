@@ -10,9 +10,6 @@ use Rattle.correction.proofs.CheckNumbers.{check-lt, check-row, check-l
 use Rattle.correction.proofs.checks.check_number.Statement.{statement}
 use Rattle.correction.proofs.checks.check_number.Tie as tie
 
-cast-q : tie.Need-cast-q
-cast-q c = search needs
-
 div-row : tie.Need-div-row
 div-row c = positive _ (c .before .pre .0)
 
@@ -53,17 +50,4 @@ returns-2 : tie.Need-returns-2
 returns-2 c = same c
 
 pub check-number-spec : {M : Type 1} → statement M
-check-number-spec =
-    tie.close
-    (tie.spec
-    cast-q
-    div-row
-    returns
-    mul-result
-    rem-result
-    slope-requires
-    mul-result-2
-    add-result
-    rem-result-2
-    add-result-2
-    returns-2)
+check-number-spec = tie.close (tie.spec (λ c. search needs) div-row returns mul-result rem-result slope-requires mul-result-2 add-result rem-result-2 add-result-2 returns-2)

@@ -20,9 +20,6 @@ Inv-loop row shifts₀ q n slopes r t₀ shifts t = (1 ≤ t) × (t ≤ n) × ((
 abbrev μ-loop : tie.MeasureT-loop
 μ-loop row shifts₀ q n slopes r t₀ shifts t = n - t
 
-cast-n : tie.Need-cast-n Inv-loop μ-loop
-cast-n c = search needs
-
 cast-r : tie.Need-cast-r Inv-loop μ-loop
 cast-r c = omega (arith, bounds (c .before .before .args .shape) (c .before .before .pre .0) .q31)
 
@@ -34,9 +31,6 @@ loop-holds c =
 -- the directions there are
 few : (c : tie.In-loop Inv-loop μ-loop) → c .before .loop .t < 8
 few c = let k = c .before .before .before .before in omega (arith, bounds (k .args .shape) (k .pre .0) .n8)
-
-sub-place : tie.Need-sub-place Inv-loop μ-loop
-sub-place c = search needs
 
 mul-shifts : tie.Need-mul-shifts Inv-loop μ-loop
 mul-shifts c = omega (arith, few c)
@@ -64,12 +58,6 @@ mul-shifts-3 c = omega (arith, few c)
 element-write-shifts : tie.Need-element-write-shifts Inv-loop μ-loop
 element-write-shifts c = few c
 
-add-t : tie.Need-add-t Inv-loop μ-loop
-add-t c = search needs
-
-loop-less : tie.Need-loop-less Inv-loop μ-loop
-loop-less c = search needs
-
 loop-again : tie.Need-loop-again Inv-loop μ-loop
 unfolding slopeOf
 loop-again c =
@@ -86,23 +74,4 @@ returns c =
     rw (le-antisymm (c .before .loop .inv .1) (c .loop-test .left)) at (c .before .loop .inv .2 (k .args .shape) refl refl)
 
 pub put-shifts-spec : {M : Type 1} → statement M
-put-shifts-spec =
-    tie.close
-    (tie.spec
-    Inv-loop
-    μ-loop
-    cast-n
-    cast-r
-    loop-holds
-    sub-place
-    mul-shifts
-    array-read-shifts
-    mul-shifts-2
-    rem-shifts
-    cast-shifts
-    mul-shifts-3
-    element-write-shifts
-    add-t
-    loop-less
-    loop-again
-    returns)
+put-shifts-spec = tie.close (tie.spec Inv-loop μ-loop (λ c. search needs) cast-r loop-holds (λ c. search needs) mul-shifts array-read-shifts mul-shifts-2 rem-shifts cast-shifts mul-shifts-3 element-write-shifts (λ c. search needs) (λ c. search needs) loop-again returns)

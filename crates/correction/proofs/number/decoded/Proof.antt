@@ -5,21 +5,8 @@ use Rattle.correction.specs.Answer.{decodedNumber}
 use Rattle.correction.proofs.number.decoded.Statement.{statement}
 use Rattle.correction.proofs.number.decoded.Tie as tie
 
-enum-known-answer : tie.Need-enum-known-answer
-enum-known-answer c = search needs
-
-enum-known-answer-2 : tie.Need-enum-known-answer-2
-enum-known-answer-2 c = search needs
-
-refused-requires : tie.Need-refused-requires
-refused-requires c κs = search needs
-
-returns : tie.Need-returns
-returns c = search needs
-
 returns-2 : tie.Need-returns-2
 returns-2 c = c .refused .ensures ∙ sym (ap decodedNumber (c .before .before .answer2 .given .1))
 
 pub decoded-spec : {M : Type 1} → statement M
-decoded-spec =
-    tie.close (tie.spec enum-known-answer enum-known-answer-2 refused-requires returns returns-2)
+decoded-spec = tie.close (tie.spec (λ c. search needs) (λ c. search needs) (λ c κs. search needs) (λ c. search needs) returns-2)

@@ -10,22 +10,13 @@ returns c = other-order (c .before .before .args .shape) (c .if1 .taken)
 returns-2 : tie.Need-returns-2
 returns-2 c = other-directions (c .before .before .before .before .args .shape) (c .before .before .if1 .left) (c .if2 .taken)
 
-array-read-if3 : tie.Need-array-read-if3
-array-read-if3 c = search needs
-
 returns-3 : tie.Need-returns-3
 returns-3 c = let e = c .before .before in other-first (e .before .before .before .before .args .shape) (e .before .before .if1 .left) (e .if2 .left) (c .if3 .taken)
-
-array-read-if4 : tie.Need-array-read-if4
-array-read-if4 c = search needs
 
 returns-4 : tie.Need-returns-4
 returns-4 c =
     let e = c .before .before .before in
     other-second (e .before .before .before .before .args .shape) (e .before .before .if1 .left) (e .if2 .left) (c .before .if3 .left) (c .if4 .taken)
-
-array-read-result : tie.Need-array-read-result
-array-read-result c = search needs
 
 returns-5 : tie.Need-returns-5
 returns-5 c =
@@ -33,14 +24,4 @@ returns-5 c =
     by-third (e .before .before .before .before .args .shape) (e .before .before .if1 .left) (e .if2 .left) (c .before .if3 .left) (c .if4 .left)
 
 pub is-shipped-spec : {M : Type 1} → statement M
-is-shipped-spec =
-    tie.close
-    (tie.spec
-    returns
-    returns-2
-    array-read-if3
-    returns-3
-    array-read-if4
-    returns-4
-    array-read-result
-    returns-5)
+is-shipped-spec = tie.close (tie.spec returns returns-2 (λ c. search needs) returns-3 (λ c. search needs) returns-4 (λ c. search needs) returns-5)

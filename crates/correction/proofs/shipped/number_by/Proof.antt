@@ -29,20 +29,5 @@ returns c =
     let s = c .before .before .before in
     s .pre .1 .number (c .before .if1 .taken) (s .args .j) (s .args .t) (s .pre .3) (s .pre .2) .1
 
-check-number-requires : tie.Need-check-number-requires
-check-number-requires c κs = search needs
-
-returns-2 : tie.Need-returns-2
-returns-2 c = search needs
-
 pub number-by-spec : {M : Type 1} → statement M
-number-by-spec =
-    tie.close
-    (tie.spec
-    mul-place
-    add-place
-    shared-slice-read-result
-    cast-result
-    returns
-    check-number-requires
-    returns-2)
+number-by-spec = tie.close (tie.spec mul-place add-place shared-slice-read-result cast-result returns (λ c κs. search needs) (λ c. search needs))

@@ -5,21 +5,8 @@ use Rattle.coverage.specs.Coverage.{coveredNumber}
 use Rattle.coverage.proofs.number.covered.Statement.{statement}
 use Rattle.coverage.proofs.number.covered.Tie as tie
 
-enum-known-covered : tie.Need-enum-known-covered
-enum-known-covered c = search needs
-
-enum-known-covered-2 : tie.Need-enum-known-covered-2
-enum-known-covered-2 c = search needs
-
-refused-requires : tie.Need-refused-requires
-refused-requires c κs = search needs
-
-returns : tie.Need-returns
-returns c = search needs
-
 returns-2 : tie.Need-returns-2
 returns-2 c = c .refused .ensures ∙ sym (ap coveredNumber (c .before .before .covered2 .given .1))
 
 pub covered-spec : {M : Type 1} → statement M
-covered-spec =
-    tie.close (tie.spec enum-known-covered enum-known-covered-2 refused-requires returns returns-2)
+covered-spec = tie.close (tie.spec (λ c. search needs) (λ c. search needs) (λ c κs. search needs) (λ c. search needs) returns-2)

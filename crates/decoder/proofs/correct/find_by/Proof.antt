@@ -12,12 +12,6 @@ use Rattle.decoder.proofs.Reading.{within, found-many, found-few, found
 use Rattle.decoder.proofs.correct.find_by.Statement.{statement}
 use Rattle.decoder.proofs.correct.find_by.Tie as tie
 
-cast-q : tie.Need-cast-q
-cast-q c = search needs
-
-cast-n : tie.Need-cast-n
-cast-n c = search needs
-
 locate-requires : tie.Need-locate-requires
 locate-requires c κs = (c .before .before .before .before .before .pre .0, c .before .before .before .before .before .pre .1, c .before .before .before .before .before .pre .3)
 
@@ -67,16 +61,4 @@ returns-3 c =
     (sym (c .before .is-silent .ensures) ∙ c .if2 .left)
 
 pub find-by-spec : {M : Type 1} → statement M
-find-by-spec =
-    tie.close
-    (tie.spec
-    cast-q
-    cast-n
-    locate-requires
-    returns
-    measure-requires
-    cancel-by-requires
-    mul-is-silent
-    is-silent-requires
-    returns-2
-    returns-3)
+find-by-spec = tie.close (tie.spec (λ c. search needs) (λ c. search needs) locate-requires returns measure-requires cancel-by-requires mul-is-silent is-silent-requires returns-2 returns-3)

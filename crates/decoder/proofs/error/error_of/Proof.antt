@@ -19,17 +19,8 @@ Inv-loop shape table syn places count j n t₀ t = (t ≤ n) × ((u : ℕ) → u
 abbrev μ-loop : tie.MeasureT-loop
 μ-loop shape table syn places count j n t₀ t = n - t
 
-cast-n : tie.Need-cast-n Inv-loop μ-loop
-cast-n c = search needs
-
 loop-holds : tie.Need-loop-holds Inv-loop μ-loop
 loop-holds c = (search needs, below-none _)
-
-is-alone-requires : tie.Need-is-alone-requires Inv-loop μ-loop
-is-alone-requires c κs = search needs
-
-number-by-requires : tie.Need-number-by-requires Inv-loop μ-loop
-number-by-requires c κs = search needs
 
 -- the check is in the table
 inside : (c : tie.After-number-by Inv-loop μ-loop) → c .number-by .result < 248
@@ -52,12 +43,6 @@ returns c =
     (c .before .before .before .before .before .loop .inv .1)
     (sym (c .before .before .before .is-alone .ensures) ∙ c .before .before .if1 .taken))
 
-add-t : tie.Need-add-t Inv-loop μ-loop
-add-t c = search needs
-
-loop-less : tie.Need-loop-less Inv-loop μ-loop
-loop-less c = search needs
-
 loop-again : tie.Need-loop-again Inv-loop μ-loop
 loop-again c = (search needs, below-more _ _ (c .before .before .before .loop .inv .1) (sym (c .before .is-alone .ensures) ∙ c .if1 .left))
 
@@ -66,19 +51,4 @@ unfolding errorAmong
 returns-2 c = sym (first-none _ _ _ (rw (le-antisymm (c .before .loop .inv .0) (c .loop-test .left)) at (c .before .loop .inv .1)))
 
 pub error-of-spec : {M : Type 1} → statement M
-error-of-spec =
-    tie.close
-    (tie.spec
-    Inv-loop
-    μ-loop
-    cast-n
-    loop-holds
-    is-alone-requires
-    number-by-requires
-    mul-result
-    element-copy-out-result
-    returns
-    add-t
-    loop-less
-    loop-again
-    returns-2)
+error-of-spec = tie.close (tie.spec Inv-loop μ-loop (λ c. search needs) loop-holds (λ c κs. search needs) (λ c κs. search needs) mul-result element-copy-out-result returns (λ c. search needs) (λ c. search needs) loop-again returns-2)

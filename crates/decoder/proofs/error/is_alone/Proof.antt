@@ -40,12 +40,6 @@ returns : tie.Need-returns Inv-loop μ-loop
 unfolding aloneAmong
 returns c = sym (ap not (any-intro _ _ (c .before .before .before .before .loop .x) (c .before .before .before .loop-test .taken) (sym (c .before .shares-check .ensures) ∙ c .if1 .taken)))
 
-add-x : tie.Need-add-x Inv-loop μ-loop
-add-x c = search needs
-
-loop-less : tie.Need-loop-less Inv-loop μ-loop
-loop-less c = search needs
-
 loop-again : tie.Need-loop-again Inv-loop μ-loop
 loop-again c = (search needs, any-more _ _ ∙ ap₂ (λ (x y : Bool). x || y) (c .before .before .before .before .loop .inv .1) (sym (c .before .shares-check .ensures) ∙ c .if1 .left))
 
@@ -54,17 +48,4 @@ unfolding aloneAmong
 returns-2 c = sym (ap not (rw (le-antisymm (c .before .loop .inv .0) (c .loop-test .left)) at (c .before .loop .inv .1)))
 
 pub is-alone-spec : {M : Type 1} → statement M
-is-alone-spec =
-    tie.close
-    (tie.spec
-    Inv-loop
-    μ-loop
-    loop-holds
-    mul-shares-check
-    element-copy-out-shares-check
-    shares-check-requires
-    returns
-    add-x
-    loop-less
-    loop-again
-    returns-2)
+is-alone-spec = tie.close (tie.spec Inv-loop μ-loop loop-holds mul-shares-check element-copy-out-shares-check shares-check-requires returns (λ c. search needs) (λ c. search needs) loop-again returns-2)

@@ -12,9 +12,6 @@ use Rattle.correction.proofs.Rows.{in-word, shift-lt, shift-check}
 use Rattle.decoder.proofs.locate.check_in_row.Statement.{statement}
 use Rattle.decoder.proofs.locate.check_in_row.Tie as tie
 
-cast-q : tie.Need-cast-q
-cast-q c = search needs
-
 -- the position is small
 place : (s : tie.Start) → s .args .row * s .args .shape .q + s .args .column < 961
 place s = lt-of-lt-of-le (in-word (s .args .shape) (s .pre .5) (s .pre .6)) (square-le (s .args .shape .q) (bounds (s .args .shape) (s .pre .0) .q31))
@@ -65,17 +62,4 @@ returns-2 c =
     shift-check (s .pre .2 (c .before .before .if1 .left)) (s .args .t) (s .args .column) (s .pre .6) (s .pre .4) (s .pre .3) (c .add-mod .ensures .0)
 
 pub check-in-row-spec : {M : Type 1} → statement M
-check-in-row-spec =
-    tie.close
-    (tie.spec
-    cast-q
-    mul-number-by
-    add-number-by
-    number-by-requires
-    returns
-    mul-result
-    mul-add-mod
-    element-copy-out-add-mod
-    add-mod-requires
-    add-result
-    returns-2)
+check-in-row-spec = tie.close (tie.spec (λ c. search needs) mul-number-by add-number-by number-by-requires returns mul-result mul-add-mod element-copy-out-add-mod add-mod-requires add-result returns-2)

@@ -23,9 +23,6 @@ returns c =
     let s = c .before .before in
     one-look (s .args .shape) (s .pre .0) (s .args .syn .now) (s .args .row) (sym (s .pre .3) ∙ c .if1 .taken) (s .args .column) (s .pre .5) refl refl
 
-cast-n : tie.Need-cast-n Inv-loop μ-loop
-cast-n c = search needs
-
 loop-holds : tie.Need-loop-holds Inv-loop μ-loop
 loop-holds c =
     let b = bounds _ (c .before .before .before .pre .0) in
@@ -70,12 +67,6 @@ returns-2 c =
     judges-silent (s .args .shape) (s .args .syn .now) (s .args .row) (s .args .column) (s .pre .5) (λ z. l .before .before .if1 .left (s .pre .3 ∙ z))
     (l .loop .t) (a .before .loop-test .taken) (l .loop .inv .2) (a .check-in-row .ensures) (c .if2 .taken) refl refl
 
-add-t : tie.Need-add-t Inv-loop μ-loop
-add-t c = search needs
-
-loop-less : tie.Need-loop-less Inv-loop μ-loop
-loop-less c = search needs
-
 loop-again : tie.Need-loop-again Inv-loop μ-loop
 loop-again c =
     let a = c .before .before in
@@ -89,21 +80,4 @@ returns-3 c =
     (rw (le-antisymm (l .loop .inv .1) (c .loop-test .left)) at (l .loop .inv .2)) refl refl
 
 pub judge-spec : {M : Type 1} → statement M
-judge-spec =
-    tie.close
-    (tie.spec
-    Inv-loop
-    μ-loop
-    returns
-    cast-n
-    loop-holds
-    check-in-row-requires
-    mul-if2
-    element-copy-out-if2
-    cast-looked
-    add-looked
-    returns-2
-    add-t
-    loop-less
-    loop-again
-    returns-3)
+judge-spec = tie.close (tie.spec Inv-loop μ-loop returns (λ c. search needs) loop-holds check-in-row-requires mul-if2 element-copy-out-if2 cast-looked add-looked returns-2 (λ c. search needs) (λ c. search needs) loop-again returns-3)

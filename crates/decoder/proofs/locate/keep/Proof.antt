@@ -11,9 +11,6 @@ use Rattle.correction.proofs.Listing.{listed-keep, listed-skip}
 use Rattle.decoder.proofs.locate.keep.Statement.{statement}
 use Rattle.decoder.proofs.locate.keep.Tie as tie
 
-cast-q : tie.Need-cast-q
-cast-q c = search needs
-
 judge-requires : tie.Need-judge-requires
 judge-requires c κs = let p = c .before .before .pre in (p .0, p .1, p .2, p .3, p .4, p .5)
 
@@ -49,15 +46,4 @@ returns-2 : tie.Need-returns-2
 returns-2 c = listed-skip (sym (c .before .judge .ensures .located) ∙ c .if1 .left) (c .before .before .before .before .pre .7)
 
 pub keep-spec : {M : Type 1} → statement M
-keep-spec =
-    tie.close
-    (tie.spec
-    cast-q
-    judge-requires
-    mul-places
-    add-places
-    mul-places-2
-    element-write-places
-    add-result
-    returns
-    returns-2)
+keep-spec = tie.close (tie.spec (λ c. search needs) judge-requires mul-places add-places mul-places-2 element-write-places add-result returns returns-2)

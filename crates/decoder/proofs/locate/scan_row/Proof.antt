@@ -34,15 +34,6 @@ returns c =
     let passed = passed-over (s .args .shape) (s .pre .0) (s .args .syn .now) (s .args .row) (c .if1 .taken) in
     (scanned-few (s .pre .3) (listed-skips (s .args .shape .q) (passed .located) (s .pre .4)), λ _. passed)
 
-cast-q : tie.Need-cast-q Inv-loop μ-loop
-cast-q c = search needs
-
-cast-n : tie.Need-cast-n Inv-loop μ-loop
-cast-n c = search needs
-
-shifts-by-requires : tie.Need-shifts-by-requires Inv-loop μ-loop
-shifts-by-requires c κs = search needs
-
 loop-holds : tie.Need-loop-holds Inv-loop μ-loop
 loop-holds c =
     let s = c .before .before .before .before .before .before .before in
@@ -64,12 +55,6 @@ returns-2 c =
       λ z. absurd (e .if1 .left z),
     )
 
-add-c : tie.Need-add-c Inv-loop μ-loop
-add-c c = search needs
-
-loop-less : tie.Need-loop-less Inv-loop μ-loop
-loop-less c = search needs
-
 loop-again : tie.Need-loop-again Inv-loop μ-loop
 loop-again c = (search needs, c .if2 .left, rw (← add-assoc) (c .before .keep .ensures))
 
@@ -81,21 +66,4 @@ returns-3 c =
     )
 
 pub scan-row-spec : {M : Type 1} → statement M
-scan-row-spec =
-    tie.close
-    (tie.spec
-    Inv-loop
-    μ-loop
-    mul-check
-    element-copy-out-check
-    returns
-    cast-q
-    cast-n
-    shifts-by-requires
-    loop-holds
-    keep-requires
-    returns-2
-    add-c
-    loop-less
-    loop-again
-    returns-3)
+scan-row-spec = tie.close (tie.spec Inv-loop μ-loop mul-check element-copy-out-check returns (λ c. search needs) (λ c. search needs) (λ c κs. search needs) loop-holds keep-requires returns-2 (λ c. search needs) (λ c. search needs) loop-again returns-3)

@@ -14,34 +14,13 @@ Inv-loop shape word looked₀ none syn q row₀ looked row = (row ≤ q) × Note
 abbrev μ-loop : tie.MeasureT-loop
 μ-loop shape word looked₀ none syn q row₀ looked row = q - row
 
-syndromes-requires : tie.Need-syndromes-requires Inv-loop μ-loop
-syndromes-requires c κs = search needs
-
-cast-q : tie.Need-cast-q Inv-loop μ-loop
-cast-q c = search needs
-
 loop-holds : tie.Need-loop-holds Inv-loop μ-loop
 loop-holds c =
     let s = c .before .before .before .before in
     (search needs, rw (zero-mul (s .args .shape .q)) (noted-none _ _ _ (s .pre .2)))
 
-slice-aggregate-note-row : tie.Need-slice-aggregate-note-row Inv-loop μ-loop
-slice-aggregate-note-row c = search needs
-
-note-row-requires : tie.Need-note-row-requires Inv-loop μ-loop
-note-row-requires c κs = search needs
-
-add-row : tie.Need-add-row Inv-loop μ-loop
-add-row c = search needs
-
-loop-less : tie.Need-loop-less Inv-loop μ-loop
-loop-less c = search needs
-
 loop-again : tie.Need-loop-again Inv-loop μ-loop
 loop-again c = (search needs, rw next-row (c .before .before .note-row .ensures))
-
-same-length : tie.Need-same-length Inv-loop μ-loop
-same-length c = search needs
 
 returns : tie.Need-returns Inv-loop μ-loop
 returns c =
@@ -50,18 +29,4 @@ returns c =
     noted-all (y .before .before .before .pre .0) (y .syndromes .ensures) (rw (le-antisymm (l .loop .inv .0) (c .loop-test .left)) at (l .loop .inv .1))
 
 pub note-spec : {M : Type 1} → statement M
-note-spec =
-    tie.close
-    (tie.spec
-    Inv-loop
-    μ-loop
-    syndromes-requires
-    cast-q
-    loop-holds
-    slice-aggregate-note-row
-    note-row-requires
-    add-row
-    loop-less
-    loop-again
-    same-length
-    returns)
+note-spec = tie.close (tie.spec Inv-loop μ-loop (λ c κs. search needs) (λ c. search needs) loop-holds (λ c. search needs) (λ c κs. search needs) (λ c. search needs) (λ c. search needs) loop-again (λ c. search needs) returns)

@@ -19,9 +19,6 @@ Inv-loop shape table syn row looked₀ q own shifts c₀ looked c = (c ≤ q) ×
 abbrev μ-loop : tie.MeasureT-loop
 μ-loop shape table syn row looked₀ q own shifts c₀ looked c = q - c
 
-cast-q : tie.Need-cast-q Inv-loop μ-loop
-cast-q c = search needs
-
 -- a row's own check is in the table
 inside : (c : tie.After-struct-known Inv-loop μ-loop) → c .before .before .before .args .row < 248
 inside c =
@@ -33,9 +30,6 @@ mul-own c = omega (arith, inside c)
 
 element-copy-out-own : tie.Need-element-copy-out-own Inv-loop μ-loop
 element-copy-out-own c = inside c
-
-shifts-by-requires : tie.Need-shifts-by-requires Inv-loop μ-loop
-shifts-by-requires c κs = search needs
 
 loop-holds : tie.Need-loop-holds Inv-loop μ-loop
 loop-holds c =
@@ -71,39 +65,11 @@ mul-looked-2 c = omega (arith, small c)
 slice-write-looked : tie.Need-slice-write-looked Inv-loop μ-loop
 slice-write-looked c = rw (c .before .before .before .loop .inv .1 .size) (place c)
 
-add-c : tie.Need-add-c Inv-loop μ-loop
-add-c c = search needs
-
-loop-less : tie.Need-loop-less Inv-loop μ-loop
-loop-less c = search needs
-
 loop-again : tie.Need-loop-again Inv-loop μ-loop
 loop-again c = (search needs, rw (← add-assoc) (noted-more _ (place c) (c .judge .ensures .looked) (c .before .before .before .loop .inv .1)))
-
-same-length : tie.Need-same-length Inv-loop μ-loop
-same-length c = search needs
 
 returns : tie.Need-returns Inv-loop μ-loop
 returns c = rw (le-antisymm (c .before .loop .inv .0) (c .loop-test .left)) at (c .before .loop .inv .1)
 
 pub note-row-spec : {M : Type 1} → statement M
-note-row-spec =
-    tie.close
-    (tie.spec
-    Inv-loop
-    μ-loop
-    cast-q
-    mul-own
-    element-copy-out-own
-    shifts-by-requires
-    loop-holds
-    judge-requires
-    mul-looked
-    add-looked
-    mul-looked-2
-    slice-write-looked
-    add-c
-    loop-less
-    loop-again
-    same-length
-    returns)
+note-row-spec = tie.close (tie.spec Inv-loop μ-loop (λ c. search needs) mul-own element-copy-out-own (λ c κs. search needs) loop-holds judge-requires mul-looked add-looked mul-looked-2 slice-write-looked (λ c. search needs) (λ c. search needs) loop-again (λ c. search needs) returns)

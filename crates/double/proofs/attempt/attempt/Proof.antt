@@ -7,21 +7,6 @@ use Rattle.double.proofs.Finding.{attempt-straight, attempt-crossed}
 use Rattle.double.proofs.attempt.attempt.Statement.{statement}
 use Rattle.double.proofs.attempt.attempt.Tie as tie
 
-cast-q : tie.Need-cast-q
-cast-q c = search needs
-
-first-line-requires : tie.Need-first-line-requires
-first-line-requires c κs = search needs
-
-last-line-requires : tie.Need-last-line-requires
-last-line-requires c κs = search needs
-
-first-line-requires-2 : tie.Need-first-line-requires-2
-first-line-requires-2 c κs = search needs
-
-last-line-requires-2 : tie.Need-last-line-requires-2
-last-line-requires-2 c κs = search needs
-
 -- both checks are in the table
 module _ (c : tie.After-last-line2) where
   first-inside : let s = c .before .before .before .before .before in s .args .t * s .args .shape .q + c .before .before .before .first-line .result < 248
@@ -61,15 +46,6 @@ add-second-value-2 c = omega (arith, last-inside (c .before))
 second-value-requires : tie.Need-second-value-requires
 second-value-requires c κs = last-inside (c .before)
 
-cross-requires : tie.Need-cross-requires
-cross-requires c κs = search needs
-
-cross-requires-2 : tie.Need-cross-requires-2
-cross-requires-2 c κs = search needs
-
-test-pair-requires : tie.Need-test-pair-requires
-test-pair-requires c κs = search needs
-
 returns : tie.Need-returns
 returns c =
     let l = c .before .before .before .before .before .before in
@@ -77,12 +53,6 @@ returns c =
     attempt-straight (s .args .shape) (s .pre .0) _ _ _ _ _ _ _ (s .pre .2) (s .pre .3) (l .before .before .before .first-line .ensures) (l .before .before .last-line .ensures) (l .before .first-line2 .ensures)
     (l .last-line2 .ensures) (c .before .before .before .before .second-value .ensures) (c .before .before .before .cross .ensures) (c .before .before .cross2 .ensures) (c .before .test-pair .ensures)
     (c .if1 .taken)
-
-cross-requires-3 : tie.Need-cross-requires-3
-cross-requires-3 c κs = search needs
-
-cross-requires-4 : tie.Need-cross-requires-4
-cross-requires-4 c κs = search needs
 
 test-pair-requires-2 : tie.Need-test-pair-requires-2
 test-pair-requires-2 c κs =
@@ -99,28 +69,4 @@ returns-2 c =
     (c .before .before .cross3 .ensures) (c .before .cross4 .ensures) (c .test-pair2 .ensures) (e .if1 .left)
 
 pub attempt-spec : {M : Type 1} → statement M
-attempt-spec =
-    tie.close
-    (tie.spec
-    cast-q
-    first-line-requires
-    last-line-requires
-    first-line-requires-2
-    last-line-requires-2
-    mul-x
-    add-x
-    mul-x-2
-    element-copy-out-x
-    mul-second-value
-    add-second-value
-    mul-second-value-2
-    add-second-value-2
-    second-value-requires
-    cross-requires
-    cross-requires-2
-    test-pair-requires
-    returns
-    cross-requires-3
-    cross-requires-4
-    test-pair-requires-2
-    returns-2)
+attempt-spec = tie.close (tie.spec (λ c. search needs) (λ c κs. search needs) (λ c κs. search needs) (λ c κs. search needs) (λ c κs. search needs) mul-x add-x mul-x-2 element-copy-out-x mul-second-value add-second-value mul-second-value-2 add-second-value-2 second-value-requires (λ c κs. search needs) (λ c κs. search needs) (λ c κs. search needs) returns (λ c κs. search needs) (λ c κs. search needs) test-pair-requires-2 returns-2)

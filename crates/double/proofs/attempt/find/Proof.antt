@@ -4,20 +4,11 @@ use Rattle.double.proofs.Finding.{found-early, found-last}
 use Rattle.double.proofs.attempt.find.Statement.{statement}
 use Rattle.double.proofs.attempt.find.Tie as tie
 
-attempt-requires : tie.Need-attempt-requires
-attempt-requires c κs = search needs
-
 returns : tie.Need-returns
 returns c = found-early (c .before .attempt .ensures) (c .if1 .taken)
 
-attempt-requires-2 : tie.Need-attempt-requires-2
-attempt-requires-2 c κs = search needs
-
 returns-2 : tie.Need-returns-2
 returns-2 c = found-early (c .before .attempt2 .ensures) (c .if2 .taken)
-
-attempt-requires-3 : tie.Need-attempt-requires-3
-attempt-requires-3 c κs = search needs
 
 returns-3 : tie.Need-returns-3
 returns-3 c =
@@ -26,6 +17,4 @@ returns-3 c =
     found-last (start .pre .0) (start .pre .2) (e .before .before .before .attempt .ensures) (e .before .before .if1 .left) (e .before .attempt2 .ensures) (e .if2 .left) (c .attempt3 .ensures)
 
 pub find-spec : {M : Type 1} → statement M
-find-spec =
-    tie.close
-    (tie.spec attempt-requires returns attempt-requires-2 returns-2 attempt-requires-3 returns-3)
+find-spec = tie.close (tie.spec (λ c κs. search needs) returns (λ c κs. search needs) returns-2 (λ c κs. search needs) returns-3)

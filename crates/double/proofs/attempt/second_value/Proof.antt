@@ -7,14 +7,8 @@ use Rattle.double.proofs.attempt.second_value.Tie as tie
 returns : tie.Need-returns
 returns c = rw (eq-eqb _ _ (c .if1 .taken))
 
-mul-result : tie.Need-mul-result
-mul-result c = search needs
-
-element-copy-out-result : tie.Need-element-copy-out-result
-element-copy-out-result c = search needs
-
 returns-2 : tie.Need-returns-2
 returns-2 c = rw (ne-eqb _ _ (c .before .if1 .left))
 
 pub second-value-spec : {M : Type 1} → statement M
-second-value-spec = tie.close (tie.spec returns mul-result element-copy-out-result returns-2)
+second-value-spec = tie.close (tie.spec returns (λ c. search needs) (λ c. search needs) returns-2)

@@ -8,12 +8,6 @@ use Rattle.double.proofs.Trials.{pair-within, pair-tried}
 use Rattle.double.proofs.attempt.test_pair.Statement.{statement}
 use Rattle.double.proofs.attempt.test_pair.Tie as tie
 
-cast-q : tie.Need-cast-q
-cast-q c = search needs
-
-cast-n : tie.Need-cast-n
-cast-n c = search needs
-
 cancel-requires : tie.Need-cancel-requires
 cancel-requires c κs =
     let start = c .before .before .before .before .before .before in
@@ -35,5 +29,4 @@ returns c =
     pair-tried _ _ _ (start .pre .2) (start .pre .3) (start .pre .0) (c .before .before .cancel .ensures) (c .is-silent .ensures)
 
 pub test-pair-spec : {M : Type 1} → statement M
-test-pair-spec =
-    tie.close (tie.spec cast-q cast-n cancel-requires mul-is-silent is-silent-requires returns)
+test-pair-spec = tie.close (tie.spec (λ c. search needs) (λ c. search needs) cancel-requires mul-is-silent is-silent-requires returns)

@@ -18,23 +18,14 @@ Inv-loop shape t u a b q row₀ row = (row ≤ q) × ((r : ℕ) → r < row → 
 abbrev μ-loop : tie.MeasureT-loop
 μ-loop shape t u a b q row₀ row = q - row
 
-on-row-requires : tie.Need-on-row-requires Inv-loop μ-loop
-on-row-requires c κs = search needs
-
 returns : tie.Need-returns Inv-loop μ-loop
 returns c =
     let s = c .before .before in
     let on = c .on-row .ensures in
     crosses-here _ (s .pre .0) _ _ _ _ _ (s .pre .1) (s .pre .2) (on .below) (ap (λ (t : ℕ). lineOf (s .args .shape) t (c .on-row .result)) (c .before .if1 .taken) ∙ on .row-of) (on .line-of)
 
-cast-q : tie.Need-cast-q Inv-loop μ-loop
-cast-q c = search needs
-
 loop-holds : tie.Need-loop-holds Inv-loop μ-loop
 loop-holds c = (search needs, below-none _)
-
-on-row-requires-2 : tie.Need-on-row-requires-2 Inv-loop μ-loop
-on-row-requires-2 c κs = search needs
 
 check-number-requires : tie.Need-check-number-requires Inv-loop μ-loop
 check-number-requires c κs =
@@ -57,12 +48,6 @@ returns-2 c =
     let on = c .before .before .on-row2 .ensures in
     crosses-here _ (s .pre .0) _ _ _ _ _ (s .pre .1) (s .pre .2) (on .below) (omega (arith, c .before .check-number .ensures, c .if2 .taken)) (on .line-of)
 
-add-row : tie.Need-add-row Inv-loop μ-loop
-add-row c = search needs
-
-loop-less : tie.Need-loop-less Inv-loop μ-loop
-loop-less c = search needs
-
 loop-again : tie.Need-loop-again Inv-loop μ-loop
 loop-again c =
     let s = c .before .before .before .before .before .before .before in (
@@ -78,21 +63,4 @@ returns-3 c =
     crosses-none _ (s .pre .0) _ _ _ _ (s .pre .1) (s .pre .2) (rw (le-antisymm (c .before .loop .inv .0) (c .loop-test .left)) at (c .before .loop .inv .1))
 
 pub cross-spec : {M : Type 1} → statement M
-cross-spec =
-    tie.close
-    (tie.spec
-    Inv-loop
-    μ-loop
-    on-row-requires
-    returns
-    cast-q
-    loop-holds
-    on-row-requires-2
-    check-number-requires
-    mul-if2
-    add-if2
-    returns-2
-    add-row
-    loop-less
-    loop-again
-    returns-3)
+cross-spec = tie.close (tie.spec Inv-loop μ-loop (λ c κs. search needs) returns (λ c. search needs) loop-holds (λ c κs. search needs) check-number-requires mul-if2 add-if2 returns-2 (λ c. search needs) (λ c. search needs) loop-again returns-3)

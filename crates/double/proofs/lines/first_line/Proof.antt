@@ -18,9 +18,6 @@ Inv-loop syn t q line₀ line = (line ≤ q) × ((L : ℕ) → L < line → at s
 abbrev μ-loop : tie.MeasureT-loop
 μ-loop syn t q line₀ line = q - line
 
-cast-q : tie.Need-cast-q Inv-loop μ-loop
-cast-q c = search needs
-
 loop-holds : tie.Need-loop-holds Inv-loop μ-loop
 loop-holds c = (search needs, below-none _)
 
@@ -43,12 +40,6 @@ element-copy-out-if1 c = inside c
 returns : tie.Need-returns Inv-loop μ-loop
 returns c = first-here _ _ _ _ (c .before .before .loop-test .taken) (c .before .before .before .loop .inv .1) (c .if1 .taken)
 
-add-line : tie.Need-add-line Inv-loop μ-loop
-add-line c = search needs
-
-loop-less : tie.Need-loop-less Inv-loop μ-loop
-loop-less c = search needs
-
 loop-again : tie.Need-loop-again Inv-loop μ-loop
 loop-again c = (search needs, below-more _ _ (c .before .before .before .loop .inv .1) (c .if1 .left))
 
@@ -57,19 +48,4 @@ returns-2 c =
     first-none _ _ _ (positive _ (c .before .before .before .pre .0)) (rw (le-antisymm (c .before .loop .inv .0) (c .loop-test .left)) at (c .before .loop .inv .1))
 
 pub first-line-spec : {M : Type 1} → statement M
-first-line-spec =
-    tie.close
-    (tie.spec
-    Inv-loop
-    μ-loop
-    cast-q
-    loop-holds
-    mul-if1
-    add-if1
-    mul-if1-2
-    element-copy-out-if1
-    returns
-    add-line
-    loop-less
-    loop-again
-    returns-2)
+first-line-spec = tie.close (tie.spec Inv-loop μ-loop (λ c. search needs) loop-holds mul-if1 add-if1 mul-if1-2 element-copy-out-if1 returns (λ c. search needs) (λ c. search needs) loop-again returns-2)

@@ -18,9 +18,6 @@ Inv-loop syn t q k₀ k = (k ≤ q) × ((m : ℕ) → m < k → at syn (t * q + 
 abbrev μ-loop : tie.MeasureT-loop
 μ-loop syn t q k₀ k = q - k
 
-cast-q : tie.Need-cast-q Inv-loop μ-loop
-cast-q c = search needs
-
 loop-holds : tie.Need-loop-holds Inv-loop μ-loop
 loop-holds c = (search needs, below-none _)
 
@@ -49,12 +46,6 @@ element-copy-out-if1 c = inside c
 returns : tie.Need-returns Inv-loop μ-loop
 returns c = last-here _ _ _ _ _ (c .before .before .loop-test .taken) refl (c .before .before .before .loop .inv .1) (c .if1 .taken)
 
-add-k : tie.Need-add-k Inv-loop μ-loop
-add-k c = search needs
-
-loop-less : tie.Need-loop-less Inv-loop μ-loop
-loop-less c = search needs
-
 loop-again : tie.Need-loop-again Inv-loop μ-loop
 loop-again c = (search needs, below-more _ _ (c .before .before .before .loop .inv .1) (c .if1 .left))
 
@@ -63,21 +54,4 @@ returns-2 c =
     last-none _ _ _ (positive _ (c .before .before .before .pre .0)) (rw (le-antisymm (c .before .loop .inv .0) (c .loop-test .left)) at (c .before .loop .inv .1))
 
 pub last-line-spec : {M : Type 1} → statement M
-last-line-spec =
-    tie.close
-    (tie.spec
-    Inv-loop
-    μ-loop
-    cast-q
-    loop-holds
-    sub-line
-    sub-line-2
-    mul-if1
-    add-if1
-    mul-if1-2
-    element-copy-out-if1
-    returns
-    add-k
-    loop-less
-    loop-again
-    returns-2)
+last-line-spec = tie.close (tie.spec Inv-loop μ-loop (λ c. search needs) loop-holds sub-line sub-line-2 mul-if1 add-if1 mul-if1-2 element-copy-out-if1 returns (λ c. search needs) (λ c. search needs) loop-again returns-2)

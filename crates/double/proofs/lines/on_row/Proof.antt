@@ -9,9 +9,6 @@ use Rattle.double.proofs.Crossings.{row-position}
 use Rattle.double.proofs.lines.on_row.Statement.{statement}
 use Rattle.double.proofs.lines.on_row.Tie as tie
 
-cast-q : tie.Need-cast-q
-cast-q c = search needs
-
 -- row × q fits
 rows : (s : tie.Start) → s .args .row * s .args .shape .q ≤ 961
 rows s = let b = bounds _ (s .pre .0) in mul-le-mul {n₂ = 31} {m₂ = 31} (omega (arith, b .q31, s .pre .3)) (b .q31)
@@ -53,15 +50,4 @@ returns : tie.Need-returns
 returns c = let s = c .before .before in rw (c .slope .ensures) (row-position (s .args .shape) (s .pre .0) (s .args .u) (s .args .row) (s .args .line) (s .pre .1) (s .pre .2) (s .pre .3) (s .pre .4))
 
 pub on-row-spec : {M : Type 1} → statement M
-on-row-spec =
-    tie.close
-    (tie.spec
-    cast-q
-    mul-result
-    slope-requires
-    sub-result
-    mul-result-2
-    add-result
-    rem-result
-    add-result-2
-    returns)
+on-row-spec = tie.close (tie.spec (λ c. search needs) mul-result slope-requires sub-result mul-result-2 add-result rem-result add-result-2 returns)

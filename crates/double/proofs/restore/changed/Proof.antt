@@ -12,20 +12,11 @@ use Rattle.double.proofs.Pairs.{same-place, two-places}
 use Rattle.double.proofs.restore.changed.Statement.{statement}
 use Rattle.double.proofs.restore.changed.Tie as tie
 
-is-change-requires : tie.Need-is-change-requires
-is-change-requires c κs = search needs
-
 returns : tie.Need-returns
 unfolding pairChanges _⊕_
 returns c =
     let s = c .before .before .before .before in
     c .is-change .ensures ∙ sym (same-place _ _ _ _ _ (s .pre .0) (s .pre .1) (c .before .before .if1 .taken))
-
-is-change-requires-2 : tie.Need-is-change-requires-2
-is-change-requires-2 c κs = search needs
-
-is-change-requires-3 : tie.Need-is-change-requires-3
-is-change-requires-3 c κs = search needs
 
 add-result : tie.Need-add-result
 add-result c =
@@ -39,12 +30,4 @@ returns-2 c =
     ap₂ (λ (x y : ℕ). x + y) (c .before .is-change2 .ensures) (c .is-change3 .ensures) ∙ sym (two-places _ _ _ _ _ (s .pre .0) (s .pre .1) (c .before .before .if1 .left))
 
 pub changed-spec : {M : Type 1} → statement M
-changed-spec =
-    tie.close
-    (tie.spec
-    is-change-requires
-    returns
-    is-change-requires-2
-    is-change-requires-3
-    add-result
-    returns-2)
+changed-spec = tie.close (tie.spec (λ c κs. search needs) returns (λ c κs. search needs) (λ c κs. search needs) add-result returns-2)

@@ -9,15 +9,6 @@ use Rattle.double.proofs.Answers.{keeps-silent, refuses-far, takes-pair
 use Rattle.double.proofs.restore.restore.Statement.{statement}
 use Rattle.double.proofs.restore.restore.Tie as tie
 
-cast-q : tie.Need-cast-q
-cast-q c = search needs
-
-cast-n : tie.Need-cast-n
-cast-n c = search needs
-
-syndromes-requires : tie.Need-syndromes-requires
-syndromes-requires c κs = search needs
-
 -- all checks are in the table
 checks : (s : tie.Start) → s .args .shape .n * s .args .shape .q ≤ 248
 checks s = checks-fit _ (s .pre .0)
@@ -28,20 +19,11 @@ mul-is-silent c = omega (arith, checks (c .before .before .before .before .befor
 is-silent-requires : tie.Need-is-silent-requires
 is-silent-requires c κs = checks (c .before .before .before .before .before .before)
 
-same-length : tie.Need-same-length
-same-length c = search needs
-
 returns : tie.Need-returns
 returns c =
     let a = c .before in
     let s = a .before .before .before .before .before .before .before in
     keeps-silent (s .pre .0) (s .pre .1) (s .pre .2) (a .before .before .syndromes .ensures) (sym (a .is-silent .ensures) ∙ c .if1 .taken)
-
-find-requires : tie.Need-find-requires
-find-requires c κs = search needs
-
-same-length-2 : tie.Need-same-length-2
-same-length-2 c = search needs
 
 returns-2 : tie.Need-returns-2
 returns-2 c =
@@ -49,15 +31,6 @@ returns-2 c =
     let a = f .before .before .before in
     let s = a .before .before .before .before .before .before .before in
     refuses-far (s .pre .0) (s .pre .1) (s .pre .2) (a .before .before .syndromes .ensures) (f .find .ensures) (not-true _ (c .if2 .taken))
-
-changed-requires : tie.Need-changed-requires
-changed-requires c κs = search needs
-
-take-off-requires : tie.Need-take-off-requires
-take-off-requires c κs = search needs
-
-same-length-3 : tie.Need-same-length-3
-same-length-3 c = search needs
 
 returns-3 : tie.Need-returns-3
 returns-3 c =
@@ -69,20 +42,4 @@ returns-3 c =
     (c .before .before .take-off .ensures)
 
 pub restore-spec : {M : Type 1} → statement M
-restore-spec =
-    tie.close
-    (tie.spec
-    cast-q
-    cast-n
-    syndromes-requires
-    mul-is-silent
-    is-silent-requires
-    same-length
-    returns
-    find-requires
-    same-length-2
-    returns-2
-    changed-requires
-    take-off-requires
-    same-length-3
-    returns-3)
+restore-spec = tie.close (tie.spec (λ c. search needs) (λ c. search needs) (λ c κs. search needs) mul-is-silent is-silent-requires (λ c. search needs) returns (λ c κs. search needs) (λ c. search needs) returns-2 (λ c κs. search needs) (λ c κs. search needs) (λ c. search needs) returns-3)

@@ -19,13 +19,10 @@ apply-requires c κs =
     let start = c .before .before .before .before in
     placed {places = places (start .args .pair)} (start .args .word .now) (start .pre .0) (pair-within (start .args .shape) (places (start .args .pair)) [] (start .pre .1) (start .pre .2))
 
-same-length : tie.Need-same-length
-same-length c = search needs
-
 returns : tie.Need-returns
 returns c =
     let start = c .before .before .before .before .before .before .before in
     pair-taken (start .args .shape) (places (start .args .pair)) (errors (start .args .pair)) (start .pre .1) (start .pre .2) (start .pre .0) (c .before .before .apply .ensures)
 
 pub take-off-spec : {M : Type 1} → statement M
-take-off-spec = tie.close (tie.spec apply-requires same-length returns)
+take-off-spec = tie.close (tie.spec apply-requires (λ c. search needs) returns)

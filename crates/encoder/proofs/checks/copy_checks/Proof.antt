@@ -7,20 +7,8 @@ use Rattle.encoder.proofs.Upper.{raised-copied}
 use Rattle.encoder.proofs.checks.copy_checks.Statement.{statement}
 use Rattle.encoder.proofs.checks.copy_checks.Tie as tie
 
-cast-q : tie.Need-cast-q
-cast-q c = search needs
-
-cast-m : tie.Need-cast-m
-cast-m c = search needs
-
 sub-m : tie.Need-sub-m
 sub-m c = let b = bounds _ (c .before .before .before .pre .0) in omega arith
-
-fill-requires : tie.Need-fill-requires
-fill-requires c κs = search needs
-
-slice-aggregate-copy-run : tie.Need-slice-aggregate-copy-run
-slice-aggregate-copy-run c = search needs
 
 mul-copy-run : tie.Need-mul-copy-run
 mul-copy-run c = let f = upper-fits _ (c .before .before .before .before .before .before .before .before .pre .0) in omega arith
@@ -28,22 +16,8 @@ mul-copy-run c = let f = upper-fits _ (c .before .before .before .before .before
 copy-run-requires : tie.Need-copy-run-requires
 copy-run-requires c κs = let f = upper-fits _ (c .before .before .before .before .before .before .before .before .pre .0) in omega (arith, c .before .before .fill .ensures .size)
 
-same-length : tie.Need-same-length
-same-length c = search needs
-
 returns : tie.Need-returns
 returns c = raised-copied _ (c .before .before .before .before .before .before .before .before .before .before .before .pre .0) _ _ _ (c .before .before .before .before .before .fill .ensures) (c .before .before .copy-run .ensures)
 
 pub copy-checks-spec : {M : Type 1} → statement M
-copy-checks-spec =
-    tie.close
-    (tie.spec
-    cast-q
-    cast-m
-    sub-m
-    fill-requires
-    slice-aggregate-copy-run
-    mul-copy-run
-    copy-run-requires
-    same-length
-    returns)
+copy-checks-spec = tie.close (tie.spec (λ c. search needs) (λ c. search needs) sub-m (λ c κs. search needs) (λ c. search needs) mul-copy-run copy-run-requires (λ c. search needs) returns)

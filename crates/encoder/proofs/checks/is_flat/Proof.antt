@@ -13,13 +13,10 @@ use Rattle.encoder.proofs.checks.is_flat.Tie as tie
 returns : tie.Need-returns
 returns c = sym (and-no-left _ (ne-eqb _ _ (c .if1 .taken)))
 
-slope-requires : tie.Need-slope-requires
-slope-requires c κs = search needs
-
 returns-2 : tie.Need-returns-2
 returns-2 c =
     let a = c .before .before .before .args in
     ap (λ (x : ℕ). eqb x 0) (c .slope .ensures) ∙ sym (ap (λ (x : Bool). x && eqb (slopeOf (a .shape) 1) 0) (eq-eqb _ _ (c .before .if1 .left)))
 
 pub is-flat-spec : {M : Type 1} → statement M
-is-flat-spec = tie.close (tie.spec returns slope-requires returns-2)
+is-flat-spec = tie.close (tie.spec returns (λ c κs. search needs) returns-2)

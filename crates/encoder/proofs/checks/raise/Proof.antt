@@ -12,20 +12,11 @@ use Rattle.encoder.proofs.Upper.{raised-stacked}
 use Rattle.encoder.proofs.checks.raise.Statement.{statement}
 use Rattle.encoder.proofs.checks.raise.Tie as tie
 
-is-flat-requires : tie.Need-is-flat-requires
-is-flat-requires c κs = search needs
-
-cast-q : tie.Need-cast-q
-cast-q c = search needs
-
 stack-requires : tie.Need-stack-requires
 stack-requires c κs =
     let st = c .before .before .before .before .before in
     let b = bounds _ (st .pre .0) in
     (omega arith, b .q31, st .pre .1)
-
-same-length : tie.Need-same-length
-same-length c = search needs
 
 returns : tie.Need-returns
 returns c =
@@ -35,24 +26,8 @@ returns c =
     raised-stacked _ (st .pre .0) _ _ (eqb-true _ _ (and-left (eqb (s .n) 2) (eqb (slopeOf s 1) 0) flat))
     (eqb-true _ _ (and-right (eqb (s .n) 2) (eqb (slopeOf s 1) 0) flat)) (c .before .before .stack .ensures)
 
-copy-checks-requires : tie.Need-copy-checks-requires
-copy-checks-requires c κs = search needs
-
-same-length-2 : tie.Need-same-length-2
-same-length-2 c = search needs
-
 returns-2 : tie.Need-returns-2
 returns-2 c = c .before .before .copy-checks .ensures
 
 pub raise-spec : {M : Type 1} → statement M
-raise-spec =
-    tie.close
-    (tie.spec
-    is-flat-requires
-    cast-q
-    stack-requires
-    same-length
-    returns
-    copy-checks-requires
-    same-length-2
-    returns-2)
+raise-spec = tie.close (tie.spec (λ c κs. search needs) (λ c. search needs) stack-requires (λ c. search needs) returns (λ c κs. search needs) (λ c. search needs) returns-2)

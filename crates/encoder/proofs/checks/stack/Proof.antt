@@ -35,109 +35,38 @@ stack-by-requires-9 c κs = (omega arith, omega arith, literal-size (c .before .
 stack-by-requires-10 : tie.Need-stack-by-requires-10
 stack-by-requires-10 c κs = (omega arith, omega arith, literal-size (c .before .match .keys10) (c .before .before .before .pre .2))
 
-stack-by-requires-11 : tie.Need-stack-by-requires-11
-stack-by-requires-11 c κs = search needs
-
-same-length : tie.Need-same-length
-same-length c = search needs
-
 returns : tie.Need-returns
 returns c = literal-stack _ _ (c .before .before .before .before .match .keys1) (c .before .before .stack-by .ensures)
-
-same-length-2 : tie.Need-same-length-2
-same-length-2 c = search needs
 
 returns-2 : tie.Need-returns-2
 returns-2 c = literal-stack _ _ (c .before .before .before .before .match .keys2) (c .before .before .stack-by2 .ensures)
 
-same-length-3 : tie.Need-same-length-3
-same-length-3 c = search needs
-
 returns-3 : tie.Need-returns-3
 returns-3 c = literal-stack _ _ (c .before .before .before .before .match .keys3) (c .before .before .stack-by3 .ensures)
-
-same-length-4 : tie.Need-same-length-4
-same-length-4 c = search needs
 
 returns-4 : tie.Need-returns-4
 returns-4 c = literal-stack _ _ (c .before .before .before .before .match .keys4) (c .before .before .stack-by4 .ensures)
 
-same-length-5 : tie.Need-same-length-5
-same-length-5 c = search needs
-
 returns-5 : tie.Need-returns-5
 returns-5 c = literal-stack _ _ (c .before .before .before .before .match .keys5) (c .before .before .stack-by5 .ensures)
-
-same-length-6 : tie.Need-same-length-6
-same-length-6 c = search needs
 
 returns-6 : tie.Need-returns-6
 returns-6 c = literal-stack _ _ (c .before .before .before .before .match .keys6) (c .before .before .stack-by6 .ensures)
 
-same-length-7 : tie.Need-same-length-7
-same-length-7 c = search needs
-
 returns-7 : tie.Need-returns-7
 returns-7 c = literal-stack _ _ (c .before .before .before .before .match .keys7) (c .before .before .stack-by7 .ensures)
-
-same-length-8 : tie.Need-same-length-8
-same-length-8 c = search needs
 
 returns-8 : tie.Need-returns-8
 returns-8 c = literal-stack _ _ (c .before .before .before .before .match .keys8) (c .before .before .stack-by8 .ensures)
 
-same-length-9 : tie.Need-same-length-9
-same-length-9 c = search needs
-
 returns-9 : tie.Need-returns-9
 returns-9 c = literal-stack _ _ (c .before .before .before .before .match .keys9) (c .before .before .stack-by9 .ensures)
 
-same-length-10 : tie.Need-same-length-10
-same-length-10 c = search needs
-
 returns-10 : tie.Need-returns-10
 returns-10 c = literal-stack _ _ (c .before .before .before .before .match .keys10) (c .before .before .stack-by10 .ensures)
-
-same-length-11 : tie.Need-same-length-11
-same-length-11 c = search needs
 
 returns-11 : tie.Need-returns-11
 returns-11 c = c .before .before .stack-by11 .ensures
 
 pub stack-spec : {M : Type 1} → statement M
-stack-spec =
-    tie.close
-    (tie.spec
-    stack-by-requires
-    stack-by-requires-2
-    stack-by-requires-3
-    stack-by-requires-4
-    stack-by-requires-5
-    stack-by-requires-6
-    stack-by-requires-7
-    stack-by-requires-8
-    stack-by-requires-9
-    stack-by-requires-10
-    stack-by-requires-11
-    same-length
-    returns
-    same-length-2
-    returns-2
-    same-length-3
-    returns-3
-    same-length-4
-    returns-4
-    same-length-5
-    returns-5
-    same-length-6
-    returns-6
-    same-length-7
-    returns-7
-    same-length-8
-    returns-8
-    same-length-9
-    returns-9
-    same-length-10
-    returns-10
-    same-length-11
-    returns-11)
+stack-spec = tie.close (tie.spec stack-by-requires stack-by-requires-2 stack-by-requires-3 stack-by-requires-4 stack-by-requires-5 stack-by-requires-6 stack-by-requires-7 stack-by-requires-8 stack-by-requires-9 stack-by-requires-10 (λ c κs. search needs) (λ c. search needs) returns (λ c. search needs) returns-2 (λ c. search needs) returns-3 (λ c. search needs) returns-4 (λ c. search needs) returns-5 (λ c. search needs) returns-6 (λ c. search needs) returns-7 (λ c. search needs) returns-8 (λ c. search needs) returns-9 (λ c. search needs) returns-10 (λ c. search needs) returns-11)

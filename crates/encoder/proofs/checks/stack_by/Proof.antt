@@ -31,12 +31,6 @@ join-run-requires c κs =
     let l = c .before .before .loop in
     omega (arith, after-first (st .args .q) (l .r) (l .inv .0), row-in (l .r) (st .args .q) (c .before .loop-test .taken), l .inv .2 .size ∙ st .pre .2)
 
-add-r : tie.Need-add-r Inv-loop μ-loop
-add-r c = search needs
-
-loop-less : tie.Need-loop-less Inv-loop μ-loop
-loop-less c = search needs
-
 loop-again : tie.Need-loop-again Inv-loop μ-loop
 loop-again c =
     let turn = c .before .before in
@@ -52,16 +46,4 @@ returns c =
     rw e at (c .before .loop .inv .2)
 
 pub stack-by-spec : {M : Type 1} → statement M
-stack-by-spec =
-    tie.close
-    (tie.spec
-    Inv-loop
-    μ-loop
-    loop-holds
-    mul-join-run
-    join-run-requires
-    add-r
-    loop-less
-    loop-again
-    same-length
-    returns)
+stack-by-spec = tie.close (tie.spec Inv-loop μ-loop loop-holds mul-join-run join-run-requires (λ c. search needs) (λ c. search needs) loop-again same-length returns)

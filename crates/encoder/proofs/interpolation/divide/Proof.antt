@@ -15,12 +15,6 @@ Inv-loop shape word₀ k n m t₀ word t = (k < t) × (t ≤ m) × Divided shape
 abbrev μ-loop : tie.MeasureT-loop
 μ-loop shape word₀ k n m t₀ word t = m - t
 
-cast-n : tie.Need-cast-n Inv-loop μ-loop
-cast-n c = search needs
-
-sub-m : tie.Need-sub-m Inv-loop μ-loop
-sub-m c = search needs
-
 add-t : tie.Need-add-t Inv-loop μ-loop
 add-t c = let b = bounds _ (c .before .before .pre .lawful) in omega arith
 
@@ -32,20 +26,11 @@ divide-row-requires c κs =
     let l = c .before .before .loop in
     divisible _ _ _ (c .before .before .before .before .before .pre) _ (l .inv .0) (omega arith) _ (l .inv .2)
 
-add-t-2 : tie.Need-add-t-2 Inv-loop μ-loop
-add-t-2 c = search needs
-
-loop-less : tie.Need-loop-less Inv-loop μ-loop
-loop-less c = search needs
-
 loop-again : tie.Need-loop-again Inv-loop μ-loop
 loop-again c =
     let turn = c .before .before in
     let l = turn .before .before .before .loop in
     (omega arith, omega arith, divided-more _ _ _ (turn .before .before .before .before .before .before .pre) _ (l .inv .0) (omega arith) _ (l .inv .2) _ (turn .divide-row .ensures))
-
-same-length : tie.Need-same-length Inv-loop μ-loop
-same-length c = search needs
 
 returns : tie.Need-returns Inv-loop μ-loop
 returns c =
@@ -54,18 +39,4 @@ returns c =
     rw e at (l .inv .2)
 
 pub divide-spec : {M : Type 1} → statement M
-divide-spec =
-    tie.close
-    (tie.spec
-    Inv-loop
-    μ-loop
-    cast-n
-    sub-m
-    add-t
-    loop-holds
-    divide-row-requires
-    add-t-2
-    loop-less
-    loop-again
-    same-length
-    returns)
+divide-spec = tie.close (tie.spec Inv-loop μ-loop (λ c. search needs) (λ c. search needs) add-t loop-holds divide-row-requires (λ c. search needs) (λ c. search needs) loop-again (λ c. search needs) returns)

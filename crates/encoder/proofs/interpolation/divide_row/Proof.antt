@@ -11,17 +11,8 @@ use Rattle.encoder.proofs.interpolation.divide_row.Tie as tie
 at-start : (c : tie.Start) → Numbers (c .args .shape) (c .args .k) (c .args .t) (c .args .word .now)
 at-start c = numbers _ _ _ _ (c .pre)
 
-cast-q : tie.Need-cast-q
-cast-q c = search needs
-
-shift-requires : tie.Need-shift-requires
-shift-requires c κs = search needs
-
 sub-z : tie.Need-sub-z
 sub-z c = let f = at-start (c .before .before .before) in omega (arith, c .shift .ensures)
-
-shift-requires-2 : tie.Need-shift-requires-2
-shift-requires-2 c κs = search needs
 
 add-mod-requires : tie.Need-add-mod-requires
 add-mod-requires c κs = let f = at-start (c .before .before .before .before) in omega (arith, c .before .shift .ensures, c .shift2 .ensures)
@@ -32,23 +23,14 @@ walk-requires c κs =
     let f = at-start st in
     (f .low, f .high, c .before .add-mod .ensures .1, f .root-fits, f .row-fits′, both _ _ _ (st .pre .value .cyclic) (st .pre .root .cyclic))
 
-slice-aggregate-run-sum : tie.Need-slice-aggregate-run-sum
-slice-aggregate-run-sum c = search needs
-
 run-sum-requires : tie.Need-run-sum-requires
 run-sum-requires c κs = let f = at-start (c .before .before .before .before .before .before .before .before) in omega (arith, c .before .walk .ensures .size)
-
-slice-aggregate-store-row : tie.Need-slice-aggregate-store-row
-slice-aggregate-store-row c = search needs
 
 mul-store-row : tie.Need-mul-store-row
 mul-store-row c = let f = at-start (c .before .before .before .before .before .before .before .before .before .before .before) in omega arith
 
 store-row-requires : tie.Need-store-row-requires
 store-row-requires c κs = let f = at-start (c .before .before .before .before .before .before .before .before .before .before .before) in omega (arith, c .before .before .before .before .walk .ensures .size)
-
-same-length : tie.Need-same-length
-same-length c = search needs
 
 returns : tie.Need-returns
 returns c =
@@ -62,19 +44,4 @@ returns c =
     (walk .walk .ensures) (c .before .before .before .before .before .run-sum .ensures) (c .before .before .store-row .ensures)
 
 pub divide-row-spec : {M : Type 1} → statement M
-divide-row-spec =
-    tie.close
-    (tie.spec
-    cast-q
-    shift-requires
-    sub-z
-    shift-requires-2
-    add-mod-requires
-    walk-requires
-    slice-aggregate-run-sum
-    run-sum-requires
-    slice-aggregate-store-row
-    mul-store-row
-    store-row-requires
-    same-length
-    returns)
+divide-row-spec = tie.close (tie.spec (λ c. search needs) (λ c κs. search needs) sub-z (λ c κs. search needs) add-mod-requires walk-requires (λ c. search needs) run-sum-requires (λ c. search needs) mul-store-row store-row-requires (λ c. search needs) returns)

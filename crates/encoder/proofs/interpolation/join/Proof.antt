@@ -19,18 +19,6 @@ Inv-loop word₀ k q n last x r₀ word r = (k ≤ r) × (r ≤ last) × Joined 
 abbrev μ-loop : tie.MeasureT-loop
 μ-loop word₀ k q n last x r₀ word r = last - r
 
-cast-q : tie.Need-cast-q Inv-loop μ-loop
-cast-q c = search needs
-
-cast-n : tie.Need-cast-n Inv-loop μ-loop
-cast-n c = search needs
-
-sub-last : tie.Need-sub-last Inv-loop μ-loop
-sub-last c = search needs
-
-shift-requires : tie.Need-shift-requires Inv-loop μ-loop
-shift-requires c κs = search needs
-
 loop-holds : tie.Need-loop-holds Inv-loop μ-loop
 loop-holds c = (search needs, omega arith, joined-none _ _ _ _)
 
@@ -58,21 +46,12 @@ join-row-requires c κs =
     let x = shift-bounds (st .args .shape) (st .pre .0) (st .args .k) (st .pre .2) in
     omega (arith, fit (c .before), c .before .before .before .shift .ensures)
 
-add-r : tie.Need-add-r Inv-loop μ-loop
-add-r c = search needs
-
-loop-less : tie.Need-loop-less Inv-loop μ-loop
-loop-less c = search needs
-
 loop-again : tie.Need-loop-again Inv-loop μ-loop
 loop-again c =
     let turn = c .before .before in
     let l = turn .before .before .before .loop in
     let b = bounds _ (start (turn .before .before) .pre .0) in
     (omega arith, omega arith, joined-more _ _ _ _ (omega arith) _ (l .inv .0) _ _ (l .inv .2) (turn .join-row .ensures))
-
-same-length : tie.Need-same-length Inv-loop μ-loop
-same-length c = search needs
 
 returns : tie.Need-returns Inv-loop μ-loop
 returns c =
@@ -82,20 +61,4 @@ returns c =
     rw (shift .shift .ensures, e) at (l .inv .2)
 
 pub join-spec : {M : Type 1} → statement M
-join-spec =
-    tie.close
-    (tie.spec
-    Inv-loop
-    μ-loop
-    cast-q
-    cast-n
-    sub-last
-    shift-requires
-    loop-holds
-    mul-join-row
-    join-row-requires
-    add-r
-    loop-less
-    loop-again
-    same-length
-    returns)
+join-spec = tie.close (tie.spec Inv-loop μ-loop (λ c. search needs) (λ c. search needs) (λ c. search needs) (λ c κs. search needs) loop-holds mul-join-row join-row-requires (λ c. search needs) (λ c. search needs) loop-again (λ c. search needs) returns)

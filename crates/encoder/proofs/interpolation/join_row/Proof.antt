@@ -9,30 +9,6 @@ use Rattle.encoder.proofs.Turned.{written-turned}
 use Rattle.encoder.proofs.interpolation.join_row.Statement.{statement}
 use Rattle.encoder.proofs.interpolation.join_row.Tie as tie
 
-sub-rest : tie.Need-sub-rest
-sub-rest c = search needs
-
-add-join-run : tie.Need-add-join-run
-add-join-run c = search needs
-
-add-join-run-2 : tie.Need-add-join-run-2
-add-join-run-2 c = search needs
-
-join-run-requires : tie.Need-join-run-requires
-join-run-requires c κs = search needs
-
-add-join-run-3 : tie.Need-add-join-run-3
-add-join-run-3 c = search needs
-
-add-join-run-4 : tie.Need-add-join-run-4
-add-join-run-4 c = search needs
-
-join-run-requires-2 : tie.Need-join-run-requires-2
-join-run-requires-2 c κs = search needs
-
-same-length : tie.Need-same-length
-same-length c = search needs
-
 returns : tie.Need-returns
 returns c =
     let first = c .before .before .before .before .before .before in
@@ -45,15 +21,4 @@ returns c =
     ap₂ (λ (x y : ℕ). x ⊕ y) (first .join-run .ensures .above _ (omega arith) ∙ ap (at w) (omega arith)) (first .join-run .ensures .above _ (omega arith)))
 
 pub join-row-spec : {M : Type 1} → statement M
-join-row-spec =
-    tie.close
-    (tie.spec
-    sub-rest
-    add-join-run
-    add-join-run-2
-    join-run-requires
-    add-join-run-3
-    add-join-run-4
-    join-run-requires-2
-    same-length
-    returns)
+join-row-spec = tie.close (tie.spec (λ c. search needs) (λ c. search needs) (λ c. search needs) (λ c κs. search needs) (λ c. search needs) (λ c. search needs) (λ c κs. search needs) (λ c. search needs) returns)

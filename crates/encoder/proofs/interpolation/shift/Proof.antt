@@ -11,12 +11,6 @@ use Rattle.gtb.specs.Rows.{shiftOf}
 use Rattle.encoder.proofs.interpolation.shift.Statement.{statement}
 use Rattle.encoder.proofs.interpolation.shift.Tie as tie
 
-cast-q : tie.Need-cast-q
-cast-q c = search needs
-
-add-slope : tie.Need-add-slope
-add-slope c = search needs
-
 slope-requires : tie.Need-slope-requires
 slope-requires c κs = omega (arith, bounds _ (c .before .pre .0) .n8, c .before .pre .1)
 
@@ -32,4 +26,4 @@ returns c =
     ap (λ (x : ℕ). a .shape .q - x) (c .slope .ensures ∙ ap (slopeOf (a .shape)) (add-one (a .t)))
 
 pub shift-spec : {M : Type 1} → statement M
-shift-spec = tie.close (tie.spec cast-q add-slope slope-requires sub-result returns)
+shift-spec = tie.close (tie.spec (λ c. search needs) (λ c. search needs) slope-requires sub-result returns)

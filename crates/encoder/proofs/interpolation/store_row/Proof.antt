@@ -10,21 +10,6 @@ use Rattle.encoder.proofs.Turned.{written-turned}
 use Rattle.encoder.proofs.interpolation.store_row.Statement.{statement}
 use Rattle.encoder.proofs.interpolation.store_row.Tie as tie
 
-sub-rest : tie.Need-sub-rest
-sub-rest c = search needs
-
-store-run-requires : tie.Need-store-run-requires
-store-run-requires c κs = search needs
-
-add-store-run : tie.Need-add-store-run
-add-store-run c = search needs
-
-store-run-requires-2 : tie.Need-store-run-requires-2
-store-run-requires-2 c κs = search needs
-
-same-length : tie.Need-same-length
-same-length c = search needs
-
 returns : tie.Need-returns
 returns c =
     let first = c .before .before .before .before .before .before in
@@ -35,6 +20,4 @@ returns c =
     (λ i l. refl) (λ i l. ap (λ (k : ℕ). at v k ⊕ a .total) (zero-add i))
 
 pub store-row-spec : {M : Type 1} → statement M
-store-row-spec =
-    tie.close
-    (tie.spec sub-rest store-run-requires add-store-run store-run-requires-2 same-length returns)
+store-row-spec = tie.close (tie.spec (λ c. search needs) (λ c κs. search needs) (λ c. search needs) (λ c κs. search needs) (λ c. search needs) returns)

@@ -18,52 +18,10 @@ Inv-loop word q k t delta walked₀ u₀ value₀ last i₀ walked u value i = (
 abbrev μ-loop : tie.MeasureT-loop
 μ-loop word q k t delta walked₀ u₀ value₀ last i₀ walked u value i = last - i
 
-sub-last : tie.Need-sub-last Inv-loop μ-loop
-sub-last c = search needs
-
 loop-holds : tie.Need-loop-holds Inv-loop μ-loop
 loop-holds c =
     let a = c .before .args in
     (search needs, turn-none (a .delta) (a .q), search needs, refl, walking-none (a .q) (a .delta) _ (search needs))
-
-mul-value : tie.Need-mul-value Inv-loop μ-loop
-mul-value c = search needs
-
-add-value : tie.Need-add-value Inv-loop μ-loop
-add-value c = search needs
-
-mul-value-2 : tie.Need-mul-value-2 Inv-loop μ-loop
-mul-value-2 c = search needs
-
-shared-slice-read-value : tie.Need-shared-slice-read-value Inv-loop μ-loop
-shared-slice-read-value c = search needs
-
-mul-value-3 : tie.Need-mul-value-3 Inv-loop μ-loop
-mul-value-3 c = search needs
-
-add-value-2 : tie.Need-add-value-2 Inv-loop μ-loop
-add-value-2 c = search needs
-
-mul-value-4 : tie.Need-mul-value-4 Inv-loop μ-loop
-mul-value-4 c = search needs
-
-shared-slice-read-value-2 : tie.Need-shared-slice-read-value-2 Inv-loop μ-loop
-shared-slice-read-value-2 c = search needs
-
-add-mod-requires : tie.Need-add-mod-requires Inv-loop μ-loop
-add-mod-requires c κs = search needs
-
-mul-walked : tie.Need-mul-walked Inv-loop μ-loop
-mul-walked c = search needs
-
-array-write-walked : tie.Need-array-write-walked Inv-loop μ-loop
-array-write-walked c = search needs
-
-add-i : tie.Need-add-i Inv-loop μ-loop
-add-i c = search needs
-
-loop-less : tie.Need-loop-less Inv-loop μ-loop
-loop-less c = search needs
 
 loop-again : tie.Need-loop-again Inv-loop μ-loop
 unfolding _⊕_
@@ -87,25 +45,4 @@ returns c =
     walking-all (a .q) (a .delta) _ (omega arith) _ (rw e at (l .inv .4))
 
 pub walk-spec : {M : Type 1} → statement M
-walk-spec =
-    tie.close
-    (tie.spec
-    Inv-loop
-    μ-loop
-    sub-last
-    loop-holds
-    mul-value
-    add-value
-    mul-value-2
-    shared-slice-read-value
-    mul-value-3
-    add-value-2
-    mul-value-4
-    shared-slice-read-value-2
-    add-mod-requires
-    mul-walked
-    array-write-walked
-    add-i
-    loop-less
-    loop-again
-    returns)
+walk-spec = tie.close (tie.spec Inv-loop μ-loop (λ c. search needs) loop-holds (λ c. search needs) (λ c. search needs) (λ c. search needs) (λ c. search needs) (λ c. search needs) (λ c. search needs) (λ c. search needs) (λ c. search needs) (λ c κs. search needs) (λ c. search needs) (λ c. search needs) (λ c. search needs) (λ c. search needs) loop-again returns)

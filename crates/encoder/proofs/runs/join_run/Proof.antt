@@ -19,33 +19,6 @@ abbrev μ-loop : tie.MeasureT-loop
 loop-holds : tie.Need-loop-holds Inv-loop μ-loop
 loop-holds c = (search needs, written-none _ _ _)
 
-add-word : tie.Need-add-word Inv-loop μ-loop
-add-word c = search needs
-
-mul-word : tie.Need-mul-word Inv-loop μ-loop
-mul-word c = search needs
-
-slice-read-word : tie.Need-slice-read-word Inv-loop μ-loop
-slice-read-word c = search needs
-
-add-word-2 : tie.Need-add-word-2 Inv-loop μ-loop
-add-word-2 c = search needs
-
-mul-word-2 : tie.Need-mul-word-2 Inv-loop μ-loop
-mul-word-2 c = search needs
-
-slice-read-word-2 : tie.Need-slice-read-word-2 Inv-loop μ-loop
-slice-read-word-2 c = search needs
-
-slice-write-word : tie.Need-slice-write-word Inv-loop μ-loop
-slice-write-word c = search needs
-
-add-c : tie.Need-add-c Inv-loop μ-loop
-add-c c = search needs
-
-loop-less : tie.Need-loop-less Inv-loop μ-loop
-loop-less c = search needs
-
 loop-again : tie.Need-loop-again Inv-loop μ-loop
 unfolding _⊕_
 loop-again c =
@@ -54,30 +27,10 @@ loop-again c =
     let kept : (j : ℕ) → a .a + l .c ≤ j → at (l .word) j ≡ at (a .word .now) j = l .inv .1 .above in
     (omega arith, written-more _ _ _ _ _ _ (omega arith) (ap₂ (λ (x y : ℕ). x ⊕ y) (kept (a .a + l .c) (omega arith)) (kept (a .from + l .c) (omega arith))) (l .inv .1))
 
-same-length : tie.Need-same-length Inv-loop μ-loop
-same-length c = search needs
-
 returns : tie.Need-returns Inv-loop μ-loop
 returns c =
     let e : c .before .loop .c ≡ c .before .before .args .count = omega arith in
     rw e at (c .before .loop .inv .1)
 
 pub join-run-spec : {M : Type 1} → statement M
-join-run-spec =
-    tie.close
-    (tie.spec
-    Inv-loop
-    μ-loop
-    loop-holds
-    add-word
-    mul-word
-    slice-read-word
-    add-word-2
-    mul-word-2
-    slice-read-word-2
-    slice-write-word
-    add-c
-    loop-less
-    loop-again
-    same-length
-    returns)
+join-run-spec = tie.close (tie.spec Inv-loop μ-loop loop-holds (λ c. search needs) (λ c. search needs) (λ c. search needs) (λ c. search needs) (λ c. search needs) (λ c. search needs) (λ c. search needs) (λ c. search needs) (λ c. search needs) loop-again (λ c. search needs) returns)

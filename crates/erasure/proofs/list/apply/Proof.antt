@@ -33,12 +33,6 @@ place c = c .before .before .before .before .pre .1 (c .before .loop .k) (omega 
 inside : (c : tie.In-loop Inv-loop μ-loop) → c .before .loop .k < 248
 inside c = omega (arith, c .before .before .before .before .pre .0)
 
-mul-j : tie.Need-mul-j Inv-loop μ-loop
-mul-j c = search needs
-
-shared-slice-read-j : tie.Need-shared-slice-read-j Inv-loop μ-loop
-shared-slice-read-j c = search needs
-
 cast-j : tie.Need-cast-j Inv-loop μ-loop
 cast-j c = omega (arith, c .shared-slice-known2 .given (c .before .before .loop .k))
 
@@ -63,20 +57,11 @@ mul-changes-one c = omega (arith, inside (c .before .before .before))
 element-copy-out-changes-one : tie.Need-element-copy-out-changes-one Inv-loop μ-loop
 element-copy-out-changes-one c = inside (c .before .before .before)
 
-changes-one-requires : tie.Need-changes-one-requires Inv-loop μ-loop
-changes-one-requires c κs = search needs
-
 add-changed : tie.Need-add-changed Inv-loop μ-loop
 add-changed c =
     let l = c .before .before .before .before .before .before .loop in
     let a = c .before .before .before .before .before .before .before .before .before .args in
     omega (arith, inside (c .before .before .before .before .before), l .inv .2 .changed, c .changes-one .ensures, count-bound (l .k) (λ x. not (eqb (at (a .changes .now) x) 0)), bit-le (not (eqb (at (a .changes .now) (l .k)) 0)))
-
-add-k : tie.Need-add-k Inv-loop μ-loop
-add-k c = search needs
-
-loop-less : tie.Need-loop-less Inv-loop μ-loop
-loop-less c = search needs
 
 loop-again : tie.Need-loop-again Inv-loop μ-loop
 unfolding _⊕_
@@ -99,26 +84,4 @@ returns : tie.Need-returns Inv-loop μ-loop
 returns c = rw (le-antisymm (c .before .loop .inv .1) (search needs)) at (c .before .loop .inv .2)
 
 pub apply-spec : {M : Type 1} → statement M
-apply-spec =
-    tie.close
-    (tie.spec
-    Inv-loop
-    μ-loop
-    loop-holds
-    mul-j
-    shared-slice-read-j
-    cast-j
-    mul-word
-    element-copy-out-word
-    mul-word-2
-    slice-read-word
-    slice-write-word
-    mul-changes-one
-    element-copy-out-changes-one
-    changes-one-requires
-    add-changed
-    add-k
-    loop-less
-    loop-again
-    same-length
-    returns)
+apply-spec = tie.close (tie.spec Inv-loop μ-loop loop-holds (λ c. search needs) (λ c. search needs) cast-j mul-word element-copy-out-word mul-word-2 slice-read-word slice-write-word mul-changes-one element-copy-out-changes-one (λ c κs. search needs) add-changed (λ c. search needs) (λ c. search needs) loop-again same-length returns)

@@ -24,12 +24,6 @@ abbrev μ-loop : tie.MeasureT-loop
 loop-holds : tie.Need-loop-holds Inv-loop μ-loop
 loop-holds c = (search needs, search needs, all-zero _, above-none _)
 
-mul-j : tie.Need-mul-j Inv-loop μ-loop
-mul-j c = search needs
-
-shared-slice-read-j : tie.Need-shared-slice-read-j Inv-loop μ-loop
-shared-slice-read-j c = search needs
-
 cast-j : tie.Need-cast-j Inv-loop μ-loop
 cast-j c = omega (arith, c .shared-slice-known .given (c .before .before .loop .i))
 
@@ -47,15 +41,6 @@ returns-2 c =
     let a = c .before .before .before .before .before .args in
     sym (all-no (length (a .places .now)) (fits (a .size) (a .places .now)) (l .i) (omega arith) (fits-not-below (a .size) (a .places .now) (l .i) (omega arith)))
 
-add-next : tie.Need-add-next Inv-loop μ-loop
-add-next c = search needs
-
-add-i : tie.Need-add-i Inv-loop μ-loop
-add-i c = search needs
-
-loop-less : tie.Need-loop-less Inv-loop μ-loop
-loop-less c = search needs
-
 loop-again : tie.Need-loop-again Inv-loop μ-loop
 loop-again c =
     let l = c .before .before .before .before .loop in
@@ -67,19 +52,4 @@ unfolding rising
 returns-3 c = sym (rw (le-antisymm (c .before .loop .inv .1) (search needs)) at (c .before .loop .inv .2))
 
 pub is-rising-spec : {M : Type 1} → statement M
-is-rising-spec =
-    tie.close
-    (tie.spec
-    Inv-loop
-    μ-loop
-    loop-holds
-    mul-j
-    shared-slice-read-j
-    cast-j
-    returns
-    returns-2
-    add-next
-    add-i
-    loop-less
-    loop-again
-    returns-3)
+is-rising-spec = tie.close (tie.spec Inv-loop μ-loop loop-holds (λ c. search needs) (λ c. search needs) cast-j returns returns-2 (λ c. search needs) (λ c. search needs) (λ c. search needs) loop-again returns-3)

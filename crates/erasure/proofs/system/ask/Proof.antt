@@ -18,9 +18,6 @@ Inv-loop shape syn values₀ rows i₀ values i = (i ≤ rows) × (rows ≡ kept
 abbrev μ-loop : tie.MeasureT-loop
 μ-loop shape syn values₀ rows i₀ values i = rows - i
 
-kept-checks-requires : tie.Need-kept-checks-requires Inv-loop μ-loop
-kept-checks-requires c κs = search needs
-
 loop-holds : tie.Need-loop-holds Inv-loop μ-loop
 loop-holds c = (search needs, c .kept-checks .ensures, asked-none _ _ _ (c .before .pre .1))
 
@@ -51,12 +48,6 @@ mul-values-2 c = omega (arith, inside (c .before .before))
 element-write-values : tie.Need-element-write-values Inv-loop μ-loop
 element-write-values c = inside (c .before .before)
 
-add-i : tie.Need-add-i Inv-loop μ-loop
-add-i c = search needs
-
-loop-less : tie.Need-loop-less Inv-loop μ-loop
-loop-less c = search needs
-
 loop-again : tie.Need-loop-again Inv-loop μ-loop
 loop-again c =
     let k = c .before in
@@ -69,19 +60,4 @@ returns c =
     rw (l .inv .1) at (rw (le-antisymm (l .inv .0) (c .loop-test .left)) at (l .inv .2))
 
 pub ask-spec : {M : Type 1} → statement M
-ask-spec =
-    tie.close
-    (tie.spec
-    Inv-loop
-    μ-loop
-    kept-checks-requires
-    loop-holds
-    kept-check-requires
-    mul-values
-    element-copy-out-values
-    mul-values-2
-    element-write-values
-    add-i
-    loop-less
-    loop-again
-    returns)
+ask-spec = tie.close (tie.spec Inv-loop μ-loop (λ c κs. search needs) loop-holds kept-check-requires mul-values element-copy-out-values mul-values-2 element-write-values (λ c. search needs) (λ c. search needs) loop-again returns)

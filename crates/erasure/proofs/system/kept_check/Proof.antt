@@ -9,9 +9,6 @@ use borrow.Author.Needs.{needs}
 use Rattle.erasure.proofs.system.kept_check.Statement.{statement}
 use Rattle.erasure.proofs.system.kept_check.Tie as tie
 
-cast-q : tie.Need-cast-q
-cast-q c = search needs
-
 returns : tie.Need-returns
 returns c = let s = c .before .before in check-first (s .args .shape) (s .pre .0) (s .args .i) (c .if1 .taken)
 
@@ -57,16 +54,4 @@ returns-2 : tie.Need-returns-2
 returns-2 c = number c
 
 pub kept-check-spec : {M : Type 1} → statement M
-kept-check-spec =
-    tie.close
-    (tie.spec
-    cast-q
-    returns
-    sub-others
-    sub-t
-    div-t
-    mul-result
-    sub-result
-    rem-result
-    add-result
-    returns-2)
+kept-check-spec = tie.close (tie.spec (λ c. search needs) returns sub-others sub-t div-t mul-result sub-result rem-result add-result returns-2)

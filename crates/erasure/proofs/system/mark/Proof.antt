@@ -13,12 +13,6 @@ use borrow.Author.Needs.{needs}
 use Rattle.erasure.proofs.system.mark.Statement.{statement}
 use Rattle.erasure.proofs.system.mark.Tie as tie
 
-cast-bit : tie.Need-cast-bit
-cast-bit c = search needs
-
-shl-bit : tie.Need-shl-bit
-shl-bit c = search needs
-
 -- the value is in the scratch
 inside : (c : tie.Start) → c .args .row * c .args .width + c .args .k / 32 < length (c .args .scratch .now)
 inside c = cell-inside (c .args .width) (c .args .rows) (c .args .row) (c .args .k) (length (c .args .scratch .now)) (c .pre .0) (c .pre .1) (c .pre .2)
@@ -38,9 +32,6 @@ slice-read-scratch c = inside (c .before)
 slice-write-scratch : tie.Need-slice-write-scratch
 slice-write-scratch c = inside (c .before)
 
-same-length : tie.Need-same-length
-same-length c = search needs
-
 returns : tie.Need-returns
 unfolding _⊕_
 returns c =
@@ -50,15 +41,4 @@ returns c =
     (sym (one-shifted (a .k % 32) (omega arith))) (flipped-one (a .width) (a .scratch .now) (a .row) (a .k) (s .pre .1) (a .rows) (inside s))
 
 pub mark-spec : {M : Type 1} → statement M
-mark-spec =
-    tie.close
-    (tie.spec
-    cast-bit
-    shl-bit
-    mul-scratch
-    add-scratch
-    mul-scratch-2
-    slice-read-scratch
-    slice-write-scratch
-    same-length
-    returns)
+mark-spec = tie.close (tie.spec (λ c. search needs) (λ c. search needs) mul-scratch add-scratch mul-scratch-2 slice-read-scratch slice-write-scratch (λ c. search needs) returns)

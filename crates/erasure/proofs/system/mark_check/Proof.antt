@@ -4,12 +4,6 @@ use borrow.Author.Needs.{needs}
 use Rattle.erasure.proofs.system.mark_check.Statement.{statement}
 use Rattle.erasure.proofs.system.mark_check.Tie as tie
 
-kept-checks-requires : tie.Need-kept-checks-requires
-kept-checks-requires c κs = search needs
-
-row-of-requires : tie.Need-row-of-requires
-row-of-requires c κs = search needs
-
 returns : tie.Need-returns
 returns c =
     let r = c .before in
@@ -21,9 +15,6 @@ mark-requires c κs =
     let p = r .before .before .before .pre in
     (c .before .if1 .left, p .3, rw (r .before .kept-checks .ensures) (p .4))
 
-same-length : tie.Need-same-length
-same-length c = search needs
-
 returns-2 : tie.Need-returns-2
 returns-2 c =
     let m = c .before .before in
@@ -31,6 +22,4 @@ returns-2 c =
     check-marked (r .before .before .before .args .k) (r .row-of .ensures) (rw (r .before .kept-checks .ensures) at (m .mark .ensures))
 
 pub mark-check-spec : {M : Type 1} → statement M
-mark-check-spec =
-    tie.close
-    (tie.spec kept-checks-requires row-of-requires returns mark-requires same-length returns-2)
+mark-check-spec = tie.close (tie.spec (λ c κs. search needs) (λ c κs. search needs) returns mark-requires (λ c. search needs) returns-2)

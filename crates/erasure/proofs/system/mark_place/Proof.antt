@@ -14,9 +14,6 @@ Inv-loop shape width scratch₀ k j n t₀ scratch t = (t ≤ n) × Flipped widt
 abbrev μ-loop : tie.MeasureT-loop
 μ-loop shape width scratch₀ k j n t₀ scratch t = n - t
 
-cast-n : tie.Need-cast-n Inv-loop μ-loop
-cast-n c = search needs
-
 loop-holds : tie.Need-loop-holds Inv-loop μ-loop
 loop-holds c = let a = c .before .before .args in (search needs, directions-none (a .shape) (a .k) (a .j) _)
 
@@ -25,12 +22,6 @@ mark-check-requires c κs =
     let l = c .before .before in
     let p = l .before .before .before .pre in
     (p .0, c .before .loop-test .taken, p .1, p .2, rw (l .loop .inv .1 .size) (p .3))
-
-add-t : tie.Need-add-t Inv-loop μ-loop
-add-t c = search needs
-
-loop-less : tie.Need-loop-less Inv-loop μ-loop
-loop-less c = search needs
 
 loop-again : tie.Need-loop-again Inv-loop μ-loop
 loop-again c =
@@ -49,16 +40,4 @@ returns c =
     directions-all (s .args .shape) (s .args .k) (s .args .j) (s .pre .0) (rw (le-antisymm (l .loop .inv .0) (c .loop-test .left)) at (l .loop .inv .1))
 
 pub mark-place-spec : {M : Type 1} → statement M
-mark-place-spec =
-    tie.close
-    (tie.spec
-    Inv-loop
-    μ-loop
-    cast-n
-    loop-holds
-    mark-check-requires
-    add-t
-    loop-less
-    loop-again
-    same-length
-    returns)
+mark-place-spec = tie.close (tie.spec Inv-loop μ-loop (λ c. search needs) loop-holds mark-check-requires (λ c. search needs) (λ c. search needs) loop-again same-length returns)

@@ -25,12 +25,6 @@ loop-holds c = let a = c .before .before .args in (search needs, search needs, p
 listed : (c : tie.In-loop Inv-loop μ-loop) → c .before .loop .k < length (c .before .before .before .before .args .places .now)
 listed c = omega arith
 
-mul-j : tie.Need-mul-j Inv-loop μ-loop
-mul-j c = search needs
-
-shared-slice-read-j : tie.Need-shared-slice-read-j Inv-loop μ-loop
-shared-slice-read-j c = search needs
-
 cast-j : tie.Need-cast-j Inv-loop μ-loop
 cast-j c = omega (arith, c .shared-slice-known2 .given (c .before .before .loop .k))
 
@@ -40,12 +34,6 @@ mark-place-requires c κs =
     let p = l .before .before .before .pre in
     let i = listed (c .before .before) in
     (p .0, p .2 (l .loop .k) i, omega (arith, i, p .1 .columns), rw (l .loop .inv .2 .size) (p .1 .space))
-
-add-k : tie.Need-add-k Inv-loop μ-loop
-add-k c = search needs
-
-loop-less : tie.Need-loop-less Inv-loop μ-loop
-loop-less c = search needs
 
 loop-again : tie.Need-loop-again Inv-loop μ-loop
 loop-again c =
@@ -61,18 +49,4 @@ returns : tie.Need-returns Inv-loop μ-loop
 returns c = rw (le-antisymm (c .before .loop .inv .1) (search needs)) at (c .before .loop .inv .2)
 
 pub mark-places-spec : {M : Type 1} → statement M
-mark-places-spec =
-    tie.close
-    (tie.spec
-    Inv-loop
-    μ-loop
-    loop-holds
-    mul-j
-    shared-slice-read-j
-    cast-j
-    mark-place-requires
-    add-k
-    loop-less
-    loop-again
-    same-length
-    returns)
+mark-places-spec = tie.close (tie.spec Inv-loop μ-loop loop-holds (λ c. search needs) (λ c. search needs) cast-j mark-place-requires (λ c. search needs) (λ c. search needs) loop-again same-length returns)

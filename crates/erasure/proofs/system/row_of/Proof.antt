@@ -7,12 +7,6 @@ use borrow.Author.Needs.{needs}
 use Rattle.erasure.proofs.system.row_of.Statement.{statement}
 use Rattle.erasure.proofs.system.row_of.Tie as tie
 
-cast-q : tie.Need-cast-q
-cast-q c = search needs
-
-check-number-requires : tie.Need-check-number-requires
-check-number-requires c κs = search needs
-
 returns : tie.Need-returns
 returns c =
     let s = c .before .before .before in
@@ -32,9 +26,6 @@ module _ (c : tie.Else1) where
 
 add-if2 : tie.Need-add-if2
 add-if2 c = omega (arith, inside c)
-
-add-if2-2 : tie.Need-add-if2-2
-add-if2-2 c = search needs
 
 mul-if2 : tie.Need-mul-if2
 mul-if2 c = omega (arith, turned c)
@@ -58,16 +49,4 @@ returns-3 c =
     rw (n .check-number .ensures) (numbered-later (s .args .shape) (s .pre .0) (s .args .t) (s .args .j) (s .pre .1) (s .pre .2) (c .before .if1 .left) (rw (n .check-number .ensures) at (c .if2 .left)))
 
 pub row-of-spec : {M : Type 1} → statement M
-row-of-spec =
-    tie.close
-    (tie.spec
-    cast-q
-    check-number-requires
-    returns
-    add-if2
-    add-if2-2
-    mul-if2
-    returns-2
-    add-result
-    sub-result
-    returns-3)
+row-of-spec = tie.close (tie.spec (λ c. search needs) (λ c κs. search needs) returns add-if2 (λ c. search needs) mul-if2 returns-2 add-result sub-result returns-3)

@@ -15,9 +15,6 @@ row-small c = omega (arith, row-in (c .args .r) (c .args .q) (c .pre .0), square
 place-small : (c : tie.Start) → c .args .r * (c .args .q + c .args .q) + (c .args .q + c .args .q) ≤ 1922
 place-small c = omega (arith, place-in (c .args .r) (c .args .q) (c .pre .0), doubled-small (c .args .q) (c .pre .1))
 
-add-to : tie.Need-add-to
-add-to c = search needs
-
 mul-to : tie.Need-mul-to
 mul-to c = omega (arith, place-small (c .before .before))
 
@@ -45,9 +42,6 @@ copy-run-requires-2 c κs =
     let kept = c .before .before .before .copy-run .ensures .size in
     (omega arith, omega (arith, row-in (s .args .r) (s .args .q) (s .pre .0)))
 
-same-length : tie.Need-same-length
-same-length c = search needs
-
 returns : tie.Need-returns
 returns c =
     let second = c .before .before in
@@ -55,15 +49,4 @@ returns c =
     doubled-more _ _ _ _ _ _ (first .before .before .before .before .pre .3) (first .copy-run .ensures) (second .copy-run2 .ensures)
 
 pub lay-row-spec : {M : Type 1} → statement M
-lay-row-spec =
-    tie.close
-    (tie.spec
-    add-to
-    mul-to
-    mul-copy-run
-    copy-run-requires
-    add-copy-run
-    mul-copy-run-2
-    copy-run-requires-2
-    same-length
-    returns)
+lay-row-spec = tie.close (tie.spec (λ c. search needs) mul-to mul-copy-run copy-run-requires add-copy-run mul-copy-run-2 copy-run-requires-2 (λ c. search needs) returns)

@@ -18,9 +18,6 @@ Inv-loop shape word syn₀ twice q n t₀ syn t = (1 ≤ t) × (t ≤ n) × Dire
 abbrev μ-loop : tie.MeasureT-loop
 μ-loop shape word syn₀ twice q n t₀ syn t = n - t
 
-cast-n : tie.Need-cast-n Inv-loop μ-loop
-cast-n c = search needs
-
 -- the lent order is the shape's
 small : (k : tie.Start Inv-loop μ-loop) → k .args .q ≤ 31
 small k = rw (k .pre .4) (bounds _ (k .pre .0) .q31)
@@ -68,12 +65,6 @@ sweep-twice-requires c κs =
       small k,
     )
 
-add-t : tie.Need-add-t Inv-loop μ-loop
-add-t c = search needs
-
-loop-less : tie.Need-loop-less Inv-loop μ-loop
-loop-less c = search needs
-
 loop-again : tie.Need-loop-again Inv-loop μ-loop
 loop-again c =
     let l = c .before .before .before .before .before in
@@ -84,9 +75,6 @@ loop-again c =
           (l .loop .inv .0) (c .before .before .before .before .loop-test .taken) (c .before .slope .ensures) (l .loop .inv .2) (c .sweep-twice .ensures),
     )
 
-same-length : tie.Need-same-length Inv-loop μ-loop
-same-length c = search needs
-
 returns : tie.Need-returns Inv-loop μ-loop
 returns c =
     let l = c .before in
@@ -94,20 +82,4 @@ returns c =
     direction-last (k .args .shape) (k .pre .0) (k .args .word .now) (l .loop .t) (l .loop .syn) (omega arith) (l .loop .inv .2)
 
 pub other-directions-spec : {M : Type 1} → statement M
-other-directions-spec =
-    tie.close
-    (tie.spec
-    Inv-loop
-    μ-loop
-    cast-n
-    lay-requires
-    loop-holds
-    mul-sweep-twice
-    slope-requires
-    sub-sweep-twice
-    sweep-twice-requires
-    add-t
-    loop-less
-    loop-again
-    same-length
-    returns)
+other-directions-spec = tie.close (tie.spec Inv-loop μ-loop (λ c. search needs) lay-requires loop-holds mul-sweep-twice slope-requires sub-sweep-twice sweep-twice-requires (λ c. search needs) (λ c. search needs) loop-again (λ c. search needs) returns)

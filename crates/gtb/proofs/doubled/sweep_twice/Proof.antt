@@ -31,9 +31,6 @@ run-in c =
 run-small : (c : tie.In-loop Inv-loop μ-loop) → c .before .loop .r * (c .before .before .before .args .q + c .before .before .before .args .q) + c .before .loop .place + c .before .before .before .args .q ≤ 1922
 run-small c = omega (arith, run-in c, doubled-small (c .before .before .before .args .q) (c .before .before .before .pre .4))
 
-add-add-run : tie.Need-add-add-run Inv-loop μ-loop
-add-add-run c = search needs
-
 mul-add-run : tie.Need-mul-add-run Inv-loop μ-loop
 mul-add-run c = omega (arith, run-small (c .before))
 
@@ -47,12 +44,6 @@ add-run-requires c κs =
 
 add-mod-requires : tie.Need-add-mod-requires Inv-loop μ-loop
 add-mod-requires c κs = (turn-lt _ _ _ _ (c .before .before .before .loop .inv .1) (c .before .before .loop-test .taken), search needs, search needs)
-
-add-r : tie.Need-add-r Inv-loop μ-loop
-add-r c = search needs
-
-loop-less : tie.Need-loop-less Inv-loop μ-loop
-loop-less c = search needs
 
 loop-again : tie.Need-loop-again Inv-loop μ-loop
 loop-again c =
@@ -68,18 +59,4 @@ returns : tie.Need-returns Inv-loop μ-loop
 returns c = rounds-end _ (c .before .loop .inv .2) (omega arith)
 
 pub sweep-twice-spec : {M : Type 1} → statement M
-sweep-twice-spec =
-    tie.close
-    (tie.spec
-    Inv-loop
-    μ-loop
-    loop-holds
-    add-add-run
-    mul-add-run
-    add-add-run-2
-    add-run-requires
-    add-mod-requires
-    add-r
-    loop-less
-    loop-again
-    returns)
+sweep-twice-spec = tie.close (tie.spec Inv-loop μ-loop loop-holds (λ c. search needs) mul-add-run add-add-run-2 add-run-requires add-mod-requires (λ c. search needs) (λ c. search needs) loop-again returns)

@@ -5,14 +5,8 @@ use Rattle.gtb.proofs.Answers.{refusal-small}
 use Rattle.gtb.proofs.number.refused.Statement.{statement}
 use Rattle.gtb.proofs.number.refused.Tie as tie
 
-refusal-requires : tie.Need-refusal-requires
-refusal-requires c κs = search needs
-
 add-result : tie.Need-add-result
 add-result c = omega (arith, refusal-small (c .before .args .e))
 
-returns : tie.Need-returns
-returns c = search needs
-
 pub refused-spec : {M : Type 1} → statement M
-refused-spec = tie.close (tie.spec refusal-requires add-result returns)
+refused-spec = tie.close (tie.spec (λ c κs. search needs) add-result (λ c. search needs))

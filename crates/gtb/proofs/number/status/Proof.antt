@@ -5,21 +5,8 @@ use Rattle.gtb.specs.Answer.{statusNumber}
 use Rattle.gtb.proofs.number.status.Statement.{statement}
 use Rattle.gtb.proofs.number.status.Tie as tie
 
-enum-told : tie.Need-enum-told
-enum-told c = search needs
-
-enum-known-status : tie.Need-enum-known-status
-enum-known-status c = search needs
-
-refused-requires : tie.Need-refused-requires
-refused-requires c κs = search needs
-
-returns : tie.Need-returns
-returns c = search needs
-
 returns-2 : tie.Need-returns-2
 returns-2 c = c .refused .ensures ∙ sym (ap statusNumber (c .before .before .status .given .1))
 
 pub status-spec : {M : Type 1} → statement M
-status-spec =
-    tie.close (tie.spec enum-told enum-known-status refused-requires returns returns-2)
+status-spec = tie.close (tie.spec (λ c. search needs) (λ c. search needs) (λ c κs. search needs) (λ c. search needs) returns-2)

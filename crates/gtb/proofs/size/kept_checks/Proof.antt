@@ -6,12 +6,6 @@ use Rattle.gtb.proofs.Sizes.{sizes}
 use Rattle.gtb.proofs.size.kept_checks.Statement.{statement}
 use Rattle.gtb.proofs.size.kept_checks.Tie as tie
 
-cast-q : tie.Need-cast-q
-cast-q c = search needs
-
-cast-n : tie.Need-cast-n
-cast-n c = search needs
-
 mul-result : tie.Need-mul-result
 mul-result c = let b = sizes (c .before .before .args .shape) (c .before .before .pre) in omega arith
 
@@ -26,4 +20,4 @@ unfolding keptChecks
 returns c = search needs
 
 pub kept-checks-spec : {M : Type 1} → statement M
-kept-checks-spec = tie.close (tie.spec cast-q cast-n mul-result sub-result add-result returns)
+kept-checks-spec = tie.close (tie.spec (λ c. search needs) (λ c. search needs) mul-result sub-result add-result returns)

@@ -8,12 +8,6 @@ use Rattle.gtb.proofs.Sizes.{sizes}
 use Rattle.gtb.proofs.size.scratch_length.Statement.{statement}
 use Rattle.gtb.proofs.size.scratch_length.Tie as tie
 
-cast-q : tie.Need-cast-q
-cast-q c = search needs
-
-kept-checks-requires : tie.Need-kept-checks-requires
-kept-checks-requires c κs = search needs
-
 mul-result : tie.Need-mul-result
 mul-result c = let b = sizes (c .before .before .args .shape) (c .before .before .pre) in omega arith
 
@@ -34,5 +28,4 @@ returns c =
     ap (λ (k : ℕ). k * ((s .q * s .q + 31) / 32)) (c .kept-checks .ensures)
 
 pub scratch-length-spec : {M : Type 1} → statement M
-scratch-length-spec =
-    tie.close (tie.spec cast-q kept-checks-requires mul-result add-result mul-result-2 returns)
+scratch-length-spec = tie.close (tie.spec (λ c. search needs) (λ c κs. search needs) mul-result add-result mul-result-2 returns)

@@ -27,21 +27,6 @@ mul-run-sum c =
 run-sum-requires : tie.Need-run-sum-requires Inv-loop μ-loop
 run-sum-requires c κs = omega (arith, row-in (c .before .loop .row) (c .before .before .before .args .q) (c .loop-test .taken))
 
-mul-syn : tie.Need-mul-syn Inv-loop μ-loop
-mul-syn c = search needs
-
-element-copy-out-syn : tie.Need-element-copy-out-syn Inv-loop μ-loop
-element-copy-out-syn c = search needs
-
-element-write-syn : tie.Need-element-write-syn Inv-loop μ-loop
-element-write-syn c = search needs
-
-add-row : tie.Need-add-row Inv-loop μ-loop
-add-row c = search needs
-
-loop-less : tie.Need-loop-less Inv-loop μ-loop
-loop-less c = search needs
-
 loop-again : tie.Need-loop-again Inv-loop μ-loop
 unfolding _⊕_
 loop-again c = (search needs, added-entry _ _ _ _ (c .before .before .before .loop .inv .1) (c .before .run-sum .ensures) (omega arith))
@@ -50,18 +35,4 @@ returns : tie.Need-returns Inv-loop μ-loop
 returns c = added-end (c .before .loop .inv .1) (omega arith)
 
 pub add-rows-spec : {M : Type 1} → statement M
-add-rows-spec =
-    tie.close
-    (tie.spec
-    Inv-loop
-    μ-loop
-    loop-holds
-    mul-run-sum
-    run-sum-requires
-    mul-syn
-    element-copy-out-syn
-    element-write-syn
-    add-row
-    loop-less
-    loop-again
-    returns)
+add-rows-spec = tie.close (tie.spec Inv-loop μ-loop loop-holds mul-run-sum run-sum-requires (λ c. search needs) (λ c. search needs) (λ c. search needs) (λ c. search needs) (λ c. search needs) loop-again returns)

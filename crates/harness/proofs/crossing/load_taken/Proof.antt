@@ -16,24 +16,6 @@ Inv-loop values taken₀ i₀ taken i = (i ≤ 1024) × (length taken ≡ 1024) 
 abbrev μ-loop : tie.MeasureT-loop
 μ-loop values taken₀ i₀ taken i = 1024 - i
 
-loop-holds : tie.Need-loop-holds Inv-loop μ-loop
-loop-holds c = search needs
-
-mul-taken : tie.Need-mul-taken Inv-loop μ-loop
-mul-taken c = search needs
-
-shared-slice-read-taken : tie.Need-shared-slice-read-taken Inv-loop μ-loop
-shared-slice-read-taken c = search needs
-
-array-write-taken : tie.Need-array-write-taken Inv-loop μ-loop
-array-write-taken c = search needs
-
-add-i : tie.Need-add-i Inv-loop μ-loop
-add-i c = search needs
-
-loop-less : tie.Need-loop-less Inv-loop μ-loop
-loop-less c = search needs
-
 loop-again : tie.Need-loop-again Inv-loop μ-loop
 loop-again c =
     let at = c .before .before in (
@@ -46,16 +28,4 @@ returns : tie.Need-returns Inv-loop μ-loop
 returns c = all-crossed isYes _ _ (c .before .loop .i) (c .before .loop .inv .2) (omega arith) (omega arith)
 
 pub load-taken-spec : {M : Type 1} → statement M
-load-taken-spec =
-    tie.close
-    (tie.spec
-    Inv-loop
-    μ-loop
-    loop-holds
-    mul-taken
-    shared-slice-read-taken
-    array-write-taken
-    add-i
-    loop-less
-    loop-again
-    returns)
+load-taken-spec = tie.close (tie.spec Inv-loop μ-loop (λ c. search needs) (λ c. search needs) (λ c. search needs) (λ c. search needs) (λ c. search needs) (λ c. search needs) loop-again returns)

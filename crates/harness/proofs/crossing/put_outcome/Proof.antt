@@ -7,18 +7,6 @@ use Rattle.session.proofs.Joins.{outcome-size}
 use Rattle.harness.proofs.crossing.put_outcome.Statement.{statement}
 use Rattle.harness.proofs.crossing.put_outcome.Tie as tie
 
-outcome-requires : tie.Need-outcome-requires
-outcome-requires c κs = search needs
-
-slice-aggregate-copy : tie.Need-slice-aggregate-copy
-slice-aggregate-copy c = search needs
-
-copy-requires : tie.Need-copy-requires
-copy-requires c κs = search needs
-
-same-length : tie.Need-same-length
-same-length c = search needs
-
 returns : tie.Need-returns
 returns c =
     let made = c .before .before .before .before .before in
@@ -27,5 +15,4 @@ returns c =
     ∙ made .outcome .ensures
 
 pub put-outcome-spec : {M : Type 1} → statement M
-put-outcome-spec =
-    tie.close (tie.spec outcome-requires slice-aggregate-copy copy-requires same-length returns)
+put-outcome-spec = tie.close (tie.spec (λ c κs. search needs) (λ c. search needs) (λ c κs. search needs) (λ c. search needs) returns)

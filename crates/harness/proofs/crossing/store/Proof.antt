@@ -12,9 +12,6 @@ use Rattle.harness.proofs.Crossings.{paged-size, figured-size, begun, b
 use Rattle.harness.proofs.crossing.store.Statement.{statement}
 use Rattle.harness.proofs.crossing.store.Tie as tie
 
-slice-relend-prefix-store-shape : tie.Need-slice-relend-prefix-store-shape
-slice-relend-prefix-store-shape c = search needs
-
 slice-aggregate-store-shape : tie.Need-slice-aggregate-store-shape
 slice-aggregate-store-shape c = sym (length-take-le 10 (c .before .before .before .before .before .args .values .now) (omega arith))
 
@@ -25,32 +22,17 @@ store-shape-requires c κs = length-take-le 10 (c .before .before .before .befor
 ten : (c : tie.After-store-shape) → length (c .store-shape .last .1 .0) ≡ 10
 ten c = c .store-shape .kept .1 .0 ∙ length-take-le 10 (c .before .before .before .before .before .before .args .values .now) (omega arith)
 
-slice-write-values : tie.Need-slice-write-values
-slice-write-values c = search needs
-
 slice-write-values-2 : tie.Need-slice-write-values-2
 slice-write-values-2 c =
     let head = c .before .before in
     let start = head .before .before .before .before .before .before in
     omega (arith, paged-size (start .args .values .now) (head .store-shape .last .1 .0) (start .args .session) (start .pre) (ten head))
 
-sub-store-taken : tie.Need-sub-store-taken
-sub-store-taken c = search needs
-
-part-store-taken-start : tie.Need-part-store-taken-start
-part-store-taken-start c = search needs
-
 part-store-taken-end : tie.Need-part-store-taken-end
 part-store-taken-end c =
     let head = c .before .before in
     let start = head .before .before .before .before .before .before in
     omega (arith, figured-size (start .args .values .now) (head .store-shape .last .1 .0) (start .args .session) (start .pre) (ten head))
-
-store-taken-requires : tie.Need-store-taken-requires
-store-taken-requires c κs = search needs
-
-slice-aggregate-copy : tie.Need-slice-aggregate-copy
-slice-aggregate-copy c = search needs
 
 -- all values are still there
 all-begun : (c : tie.After-store-taken) → length (begun (c .before .before .before .before .before .before .before .before .before .before .args .values .now) (c .before .before .before .before .store-shape .last .1 .0) (c .before .before .before .before .before .before .before .before .before .before .args .session) (c .store-taken .last .1 .0)) ≡ 1292
@@ -64,9 +46,6 @@ sub-copy c = omega (arith, all-begun (c .before .before .before))
 
 part-copy-start : tie.Need-part-copy-start
 part-copy-start c = omega (arith, all-begun (c .before .before .before))
-
-part-copy-end : tie.Need-part-copy-end
-part-copy-end c = search needs
 
 copy-requires : tie.Need-copy-requires
 copy-requires c κs =
@@ -95,22 +74,4 @@ returns c =
     (counts (start .args .session .calls) _ (start .good .0 .1 .1 .1 .1 .0) .size) (c .before .before .copy .ensures)
 
 pub store-spec : {M : Type 1} → statement M
-store-spec =
-    tie.close
-    (tie.spec
-    slice-relend-prefix-store-shape
-    slice-aggregate-store-shape
-    store-shape-requires
-    slice-write-values
-    slice-write-values-2
-    sub-store-taken
-    part-store-taken-start
-    part-store-taken-end
-    store-taken-requires
-    slice-aggregate-copy
-    sub-copy
-    part-copy-start
-    part-copy-end
-    copy-requires
-    same-length
-    returns)
+store-spec = tie.close (tie.spec (λ c. search needs) slice-aggregate-store-shape store-shape-requires (λ c. search needs) slice-write-values-2 (λ c. search needs) (λ c. search needs) part-store-taken-end (λ c κs. search needs) (λ c. search needs) sub-copy part-copy-start (λ c. search needs) copy-requires same-length returns)

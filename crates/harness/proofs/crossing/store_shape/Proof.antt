@@ -10,18 +10,6 @@ use Rattle.harness.proofs.Crossings.{slopes-size, headed, headed-size, 
 use Rattle.harness.proofs.crossing.store_shape.Statement.{statement}
 use Rattle.harness.proofs.crossing.store_shape.Tie as tie
 
-slice-write-values : tie.Need-slice-write-values
-slice-write-values c = search needs
-
-slice-write-values-2 : tie.Need-slice-write-values-2
-slice-write-values-2 c = search needs
-
-slice-write-values-3 : tie.Need-slice-write-values-3
-slice-write-values-3 c = search needs
-
-slice-aggregate-copy : tie.Need-slice-aggregate-copy
-slice-aggregate-copy c = search needs
-
 -- three values fit
 fit : (c : tie.After-slopes2) → 3 ≤ length (headed (c .before .before .before .args .values .now) (c .before .before .before .args .shape))
 fit c = omega (arith, headed-size (c .before .before .before .args .values .now) (c .before .before .before .args .shape))
@@ -31,9 +19,6 @@ sub-copy c = fit c
 
 part-copy-start : tie.Need-part-copy-start
 part-copy-start c = fit c
-
-part-copy-end : tie.Need-part-copy-end
-part-copy-end c = search needs
 
 copy-requires : tie.Need-copy-requires
 copy-requires c κs =
@@ -55,16 +40,4 @@ returns c =
     shape-stored (start .args .values .now) s (start .pre) (slopes-size (s .slopes) _ (start .good .0 .1 .1 .1 .1 .1 .0)) (c .before .before .copy .ensures)
 
 pub store-shape-spec : {M : Type 1} → statement M
-store-shape-spec =
-    tie.close
-    (tie.spec
-    slice-write-values
-    slice-write-values-2
-    slice-write-values-3
-    slice-aggregate-copy
-    sub-copy
-    part-copy-start
-    part-copy-end
-    copy-requires
-    same-length
-    returns)
+store-shape-spec = tie.close (tie.spec (λ c. search needs) (λ c. search needs) (λ c. search needs) (λ c. search needs) sub-copy part-copy-start (λ c. search needs) copy-requires same-length returns)

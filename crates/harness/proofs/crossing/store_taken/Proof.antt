@@ -18,27 +18,6 @@ Inv-loop values₀ taken i₀ values i = (i ≤ 1024) × (length values ≡ 1024
 abbrev μ-loop : tie.MeasureT-loop
 μ-loop values₀ taken i₀ values i = 1024 - i
 
-loop-holds : tie.Need-loop-holds Inv-loop μ-loop
-loop-holds c = search needs
-
-array-read-values : tie.Need-array-read-values Inv-loop μ-loop
-array-read-values c = search needs
-
-cast-values : tie.Need-cast-values Inv-loop μ-loop
-cast-values c = search needs
-
-mul-values : tie.Need-mul-values Inv-loop μ-loop
-mul-values c = search needs
-
-slice-write-values : tie.Need-slice-write-values Inv-loop μ-loop
-slice-write-values c = search needs
-
-add-i : tie.Need-add-i Inv-loop μ-loop
-add-i c = search needs
-
-loop-less : tie.Need-loop-less Inv-loop μ-loop
-loop-less c = search needs
-
 loop-again : tie.Need-loop-again Inv-loop μ-loop
 loop-again c =
     let at = c .before in (
@@ -47,25 +26,8 @@ loop-again c =
       crossed bit (at .before .args .t1) (at .loop .values) (at .loop .i) (at .loop .inv .2) false (bit-byte _) (rw (at .before .good .0 .1 .0 .1) (omega arith)) (omega arith),
     )
 
-same-length : tie.Need-same-length Inv-loop μ-loop
-same-length c = search needs
-
 returns : tie.Need-returns Inv-loop μ-loop
 returns c = all-crossed bit _ _ (c .before .loop .i) (c .before .loop .inv .2) (omega (arith, c .before .before .good .0 .1 .0 .1)) (omega arith)
 
 pub store-taken-spec : {M : Type 1} → statement M
-store-taken-spec =
-    tie.close
-    (tie.spec
-    Inv-loop
-    μ-loop
-    loop-holds
-    array-read-values
-    cast-values
-    mul-values
-    slice-write-values
-    add-i
-    loop-less
-    loop-again
-    same-length
-    returns)
+store-taken-spec = tie.close (tie.spec Inv-loop μ-loop (λ c. search needs) (λ c. search needs) (λ c. search needs) (λ c. search needs) (λ c. search needs) (λ c. search needs) (λ c. search needs) loop-again (λ c. search needs) returns)

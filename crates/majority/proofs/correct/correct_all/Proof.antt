@@ -6,9 +6,6 @@ use Rattle.majority.proofs.Answers.{uncorrected, corrected}
 use Rattle.majority.proofs.correct.correct_all.Statement.{statement}
 use Rattle.majority.proofs.correct.correct_all.Tie as tie
 
-cast-n : tie.Need-cast-n
-cast-n c = search needs
-
 find-requires : tie.Need-find-requires
 find-requires c κs = let p = c .before .before .before .before .before .pre in (p .0, p .2 .size, search needs, search needs)
 
@@ -20,17 +17,10 @@ restore-requires c κs =
     let e = c .before .before .before in
     (e .before .before .before .before .before .before .before .pre .1, e .before .find .ensures .within (omega (arith, e .if1 .left)))
 
-cast-changed : tie.Need-cast-changed
-cast-changed c = search needs
-
-same-length : tie.Need-same-length
-same-length c = search needs
-
 returns-2 : tie.Need-returns-2
 returns-2 c =
     let e = c .before .before .before .before .before .before in
     corrected (e .before .find .ensures .few (omega (arith, e .if1 .left)) _ (e .before .before .before .before .before .before .before .pre .2)) (c .before .before .restore .ensures)
 
 pub correct-all-spec : {M : Type 1} → statement M
-correct-all-spec =
-    tie.close (tie.spec cast-n find-requires returns restore-requires cast-changed same-length returns-2)
+correct-all-spec = tie.close (tie.spec (λ c. search needs) find-requires returns restore-requires (λ c. search needs) (λ c. search needs) returns-2)

@@ -13,12 +13,6 @@ use Rattle.majority.proofs.Reading.{within, found-many, found-few, foun
 use Rattle.majority.proofs.correct.find.Statement.{statement}
 use Rattle.majority.proofs.correct.find.Tie as tie
 
-cast-q : tie.Need-cast-q
-cast-q c = search needs
-
-cast-n : tie.Need-cast-n
-cast-n c = search needs
-
 add-limit : tie.Need-add-limit
 add-limit c = omega (arith, bounds _ (c .before .before .pre .0) .n8)
 
@@ -77,17 +71,4 @@ returns-3 c =
     found-none (start (e .before) .args .loud) (start (e .before) .pre .0) (e .if1 .left) (listed e) (m .measure .ensures) (c .before .before .before .cancel .ensures) (sym (c .before .is-silent .ensures) ∙ c .if2 .left)
 
 pub find-spec : {M : Type 1} → statement M
-find-spec =
-    tie.close
-    (tie.spec
-    cast-q
-    cast-n
-    add-limit
-    locate-requires
-    returns
-    measure-requires
-    cancel-requires
-    mul-is-silent
-    is-silent-requires
-    returns-2
-    returns-3)
+find-spec = tie.close (tie.spec (λ c. search needs) (λ c. search needs) add-limit locate-requires returns measure-requires cancel-requires mul-is-silent is-silent-requires returns-2 returns-3)

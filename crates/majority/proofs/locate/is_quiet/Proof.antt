@@ -18,12 +18,6 @@ Inv-loop syn shifts row column own q n silent₀ t₀ silent t = (1 ≤ t) × (t
 abbrev μ-loop : tie.MeasureT-loop
 μ-loop syn shifts row column own q n silent₀ t₀ silent t = n - t
 
-cast-q : tie.Need-cast-q Inv-loop μ-loop
-cast-q c = search needs
-
-cast-n : tie.Need-cast-n Inv-loop μ-loop
-cast-n c = search needs
-
 loop-holds : tie.Need-loop-holds Inv-loop μ-loop
 loop-holds c =
     let b = bounds _ (c .before .before .pre .0) in
@@ -63,9 +57,6 @@ mul-hit-2 c = omega (arith, check c)
 element-copy-out-hit : tie.Need-element-copy-out-hit Inv-loop μ-loop
 element-copy-out-hit c = check c
 
-hit-requires : tie.Need-hit-requires Inv-loop μ-loop
-hit-requires c κs = search needs
-
 -- one check more
 module _ (c : tie.After-hit Inv-loop μ-loop) where
   abbrev loop : tie.At-loop Inv-loop μ-loop
@@ -92,12 +83,6 @@ returns c = λ _.
     let s = start (c .before) in
     silent-half (s .pre .1) (s .args .syn .now) (s .args .column) (s .pre .3) (l .loop .t + 1) (omega (arith, c .before .before .before .before .before .loop-test .taken)) (next (c .before)) (c .if1 .taken)
 
-add-t : tie.Need-add-t Inv-loop μ-loop
-add-t c = search needs
-
-loop-less : tie.Need-loop-less Inv-loop μ-loop
-loop-less c = search needs
-
 loop-again : tie.Need-loop-again Inv-loop μ-loop
 loop-again c = (search needs, search needs, next (c .before))
 
@@ -105,26 +90,4 @@ returns-2 : tie.Need-returns-2 Inv-loop μ-loop
 returns-2 c = λ e. absurd (clash e refl)
 
 pub is-quiet-spec : {M : Type 1} → statement M
-is-quiet-spec =
-    tie.close
-    (tie.spec
-    Inv-loop
-    μ-loop
-    cast-q
-    cast-n
-    loop-holds
-    mul-add-mod
-    element-copy-out-add-mod
-    add-mod-requires
-    mul-hit
-    add-hit
-    mul-hit-2
-    element-copy-out-hit
-    hit-requires
-    add-silent
-    mul-if1
-    returns
-    add-t
-    loop-less
-    loop-again
-    returns-2)
+is-quiet-spec = tie.close (tie.spec Inv-loop μ-loop (λ c. search needs) (λ c. search needs) loop-holds mul-add-mod element-copy-out-add-mod add-mod-requires mul-hit add-hit mul-hit-2 element-copy-out-hit (λ c κs. search needs) add-silent mul-if1 returns (λ c. search needs) (λ c. search needs) loop-again returns-2)

@@ -12,12 +12,6 @@ use Rattle.majority.proofs.Table.{stays, changes-there}
 use Rattle.majority.proofs.locate.keep.Statement.{statement}
 use Rattle.majority.proofs.locate.keep.Tie as tie
 
-cast-q : tie.Need-cast-q
-cast-q c = search needs
-
-is-quiet-requires : tie.Need-is-quiet-requires
-is-quiet-requires c κs = search needs
-
 returns : tie.Need-returns
 returns c = record { next = λ p same. listed-skip (same ∙ stays _ _ _ (c .before .is-quiet .ensures (c .if1 .taken))) }
 
@@ -56,17 +50,4 @@ returns-3 : tie.Need-returns-3
 returns-3 c = record { next = λ p same. listed-keep (same ∙ changes-there _ _ _ (λ z. c .if2 .left (c .before .vote .ensures ∙ z))) (room c) }
 
 pub keep-spec : {M : Type 1} → statement M
-keep-spec =
-    tie.close
-    (tie.spec
-    cast-q
-    is-quiet-requires
-    returns
-    mul-j
-    add-j
-    vote-requires
-    returns-2
-    mul-places
-    element-write-places
-    add-result
-    returns-3)
+keep-spec = tie.close (tie.spec (λ c. search needs) (λ c κs. search needs) returns mul-j add-j vote-requires returns-2 mul-places element-write-places add-result returns-3)

@@ -18,12 +18,6 @@ Inv-loop shape syn loud row places₀ count q n limit value shifts own found₀ 
 abbrev μ-loop : tie.MeasureT-loop
 μ-loop shape syn loud row places₀ count q n limit value shifts own found₀ c₀ places found c = q - c
 
-cast-q : tie.Need-cast-q Inv-loop μ-loop
-cast-q c = search needs
-
-cast-n : tie.Need-cast-n Inv-loop μ-loop
-cast-n c = search needs
-
 add-limit : tie.Need-add-limit Inv-loop μ-loop
 add-limit c = omega (arith, bounds _ (c .before .before .pre .0) .n8)
 
@@ -37,9 +31,6 @@ mul-value c = omega (arith, inside c)
 element-copy-out-value : tie.Need-element-copy-out-value Inv-loop μ-loop
 element-copy-out-value c = inside c
 
-is-passed-over-requires : tie.Need-is-passed-over-requires Inv-loop μ-loop
-is-passed-over-requires c κs = search needs
-
 returns : tie.Need-returns Inv-loop μ-loop
 returns c =
     let s = c .before .before .before .before .before in
@@ -47,12 +38,6 @@ returns c =
     (listed-skips (s .args .shape .q)
     (λ column l. nothing-found (s .args .shape) (s .args .syn .now) (s .args .loud) (s .args .row) column l (sym (c .before .is-passed-over .ensures) ∙ c .if1 .taken))
     (s .pre .3))
-
-put-shifts-requires : tie.Need-put-shifts-requires Inv-loop μ-loop
-put-shifts-requires c κs = search needs
-
-hit-requires : tie.Need-hit-requires Inv-loop μ-loop
-hit-requires c κs = search needs
 
 loop-holds : tie.Need-loop-holds Inv-loop μ-loop
 loop-holds c =
@@ -86,12 +71,6 @@ returns-2 c =
     let listed = k .keep .ensures .next (foundIn (s .shape) (s .syn .now) (s .loud)) (same k) (loop k .loop .inv .2) in
     scanned-many (s .row * s .shape .q + loop k .loop .c + 1) (omega (arith, k .before .before .before .loop-test .taken)) (omega (arith, listed .counted, c .if2 .taken))
 
-add-c : tie.Need-add-c Inv-loop μ-loop
-add-c c = search needs
-
-loop-less : tie.Need-loop-less Inv-loop μ-loop
-loop-less c = search needs
-
 loop-again : tie.Need-loop-again Inv-loop μ-loop
 loop-again c =
     let k = c .before in
@@ -102,24 +81,4 @@ returns-3 : tie.Need-returns-3 Inv-loop μ-loop
 returns-3 c = scanned-few (c .before .loop .inv .1) (rw (le-antisymm (c .before .loop .inv .0) (c .loop-test .left)) at (c .before .loop .inv .2))
 
 pub scan-row-spec : {M : Type 1} → statement M
-scan-row-spec =
-    tie.close
-    (tie.spec
-    Inv-loop
-    μ-loop
-    cast-q
-    cast-n
-    add-limit
-    mul-value
-    element-copy-out-value
-    is-passed-over-requires
-    returns
-    put-shifts-requires
-    hit-requires
-    loop-holds
-    keep-requires
-    returns-2
-    add-c
-    loop-less
-    loop-again
-    returns-3)
+scan-row-spec = tie.close (tie.spec Inv-loop μ-loop (λ c. search needs) (λ c. search needs) add-limit mul-value element-copy-out-value (λ c κs. search needs) returns (λ c κs. search needs) (λ c κs. search needs) loop-holds keep-requires returns-2 (λ c. search needs) (λ c. search needs) loop-again returns-3)

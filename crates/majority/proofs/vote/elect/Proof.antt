@@ -28,19 +28,10 @@ mul-value c = omega (arith, inside c)
 element-copy-out-value : tie.Need-element-copy-out-value Inv-loop μ-loop
 element-copy-out-value c = inside c
 
-prevails-requires : tie.Need-prevails-requires Inv-loop μ-loop
-prevails-requires c κs = search needs
-
 returns : tie.Need-returns Inv-loop μ-loop
 returns c =
     let l = c .before .before .before in
     elects (l .loop-test .taken) (l .before .loop .inv .1) (sym (c .before .prevails .ensures) ∙ c .if1 .taken)
-
-add-t : tie.Need-add-t Inv-loop μ-loop
-add-t c = search needs
-
-loop-less : tie.Need-loop-less Inv-loop μ-loop
-loop-less c = search needs
 
 loop-again : tie.Need-loop-again Inv-loop μ-loop
 loop-again c = (search needs, failed-more (sym (c .before .prevails .ensures) ∙ c .if1 .left) (c .before .before .before .before .loop .inv .1))
@@ -49,17 +40,4 @@ returns-2 : tie.Need-returns-2 Inv-loop μ-loop
 returns-2 c = elects-none (rw (le-antisymm (c .before .loop .inv .0) (c .loop-test .left)) at (c .before .loop .inv .1))
 
 pub elect-spec : {M : Type 1} → statement M
-elect-spec =
-    tie.close
-    (tie.spec
-    Inv-loop
-    μ-loop
-    loop-holds
-    mul-value
-    element-copy-out-value
-    prevails-requires
-    returns
-    add-t
-    loop-less
-    loop-again
-    returns-2)
+elect-spec = tie.close (tie.spec Inv-loop μ-loop loop-holds mul-value element-copy-out-value (λ c κs. search needs) returns (λ c. search needs) (λ c. search needs) loop-again returns-2)

@@ -16,14 +16,8 @@ Inv-loop shape syn j n values₀ t₀ values t = (t ≤ n) × Gathered shape syn
 abbrev μ-loop : tie.MeasureT-loop
 μ-loop shape syn j n values₀ t₀ values t = n - t
 
-cast-n : tie.Need-cast-n Inv-loop μ-loop
-cast-n c = search needs
-
 loop-holds : tie.Need-loop-holds Inv-loop μ-loop
 loop-holds c = (search needs, gathered-none _ _ _)
-
-check-number-requires : tie.Need-check-number-requires Inv-loop μ-loop
-check-number-requires c κs = search needs
 
 -- the check is in the table, and the direction in the list
 inside : (c : tie.After-check-number Inv-loop μ-loop) → c .check-number .result < 248
@@ -46,12 +40,6 @@ mul-values-2 c = omega (arith, room (c .before))
 array-write-values : tie.Need-array-write-values Inv-loop μ-loop
 array-write-values c = room (c .before)
 
-add-t : tie.Need-add-t Inv-loop μ-loop
-add-t c = search needs
-
-loop-less : tie.Need-loop-less Inv-loop μ-loop
-loop-less c = search needs
-
 loop-again : tie.Need-loop-again Inv-loop μ-loop
 loop-again c = (search needs, gathered-more _ (room (c .before)) (rw (c .before .check-number .ensures)) (c .before .before .before .loop .inv .1))
 
@@ -59,19 +47,4 @@ returns : tie.Need-returns Inv-loop μ-loop
 returns c = rw (le-antisymm (c .before .loop .inv .0) (c .loop-test .left)) at (c .before .loop .inv .1)
 
 pub gather-spec : {M : Type 1} → statement M
-gather-spec =
-    tie.close
-    (tie.spec
-    Inv-loop
-    μ-loop
-    cast-n
-    loop-holds
-    check-number-requires
-    mul-values
-    element-copy-out-values
-    mul-values-2
-    array-write-values
-    add-t
-    loop-less
-    loop-again
-    returns)
+gather-spec = tie.close (tie.spec Inv-loop μ-loop (λ c. search needs) loop-holds (λ c κs. search needs) mul-values element-copy-out-values mul-values-2 array-write-values (λ c. search needs) (λ c. search needs) loop-again returns)

@@ -10,9 +10,6 @@ use Rattle.majority.proofs.vote.prevails.Tie as tie
 returns : tie.Need-returns
 returns c = no-zero _ _ _ (c .if1 .taken)
 
-shown-requires : tie.Need-shown-requires
-shown-requires c κs = search needs
-
 mul-result : tie.Need-mul-result
 mul-result c =
     let s = c .before .before in
@@ -22,4 +19,4 @@ returns-2 : tie.Need-returns-2
 returns-2 c = by-number _ _ _ _ (c .before .if1 .left) (c .shown .ensures)
 
 pub prevails-spec : {M : Type 1} → statement M
-prevails-spec = tie.close (tie.spec returns shown-requires mul-result returns-2)
+prevails-spec = tie.close (tie.spec returns (λ c κs. search needs) mul-result returns-2)

@@ -29,21 +29,12 @@ mul-hit c = omega (arith, inside c)
 element-copy-out-hit : tie.Need-element-copy-out-hit Inv-loop μ-loop
 element-copy-out-hit c = inside c
 
-hit-requires : tie.Need-hit-requires Inv-loop μ-loop
-hit-requires c κs = search needs
-
 -- one more
 next : (c : tie.After-hit Inv-loop μ-loop) → c .before .before .before .loop .count + c .hit .result ≡ shows (c .before .before .before .loop .t + 1) (at (c .before .before .before .before .args .values .now)) (c .before .before .before .before .args .x)
 next c = shows-more _ _ _ (c .before .before .before .loop .inv .1) (c .hit .ensures)
 
 add-count : tie.Need-add-count Inv-loop μ-loop
 add-count c = omega (arith, next c, shows-le (c .before .before .before .loop .t + 1) (at (c .before .before .before .before .args .values .now)) (c .before .before .before .before .args .x), inside (c .before .before))
-
-add-t : tie.Need-add-t Inv-loop μ-loop
-add-t c = search needs
-
-loop-less : tie.Need-loop-less Inv-loop μ-loop
-loop-less c = search needs
 
 loop-again : tie.Need-loop-again Inv-loop μ-loop
 loop-again c = (search needs, next c)
@@ -52,17 +43,4 @@ returns : tie.Need-returns Inv-loop μ-loop
 returns c = rw (le-antisymm (c .before .loop .inv .0) (c .loop-test .left)) at (c .before .loop .inv .1)
 
 pub shown-spec : {M : Type 1} → statement M
-shown-spec =
-    tie.close
-    (tie.spec
-    Inv-loop
-    μ-loop
-    loop-holds
-    mul-hit
-    element-copy-out-hit
-    hit-requires
-    add-count
-    add-t
-    loop-less
-    loop-again
-    returns)
+shown-spec = tie.close (tie.spec Inv-loop μ-loop loop-holds mul-hit element-copy-out-hit (λ c κs. search needs) add-count (λ c. search needs) (λ c. search needs) loop-again returns)

@@ -6,12 +6,6 @@ use Rattle.majority.proofs.Table.{gathered-vote}
 use Rattle.majority.proofs.vote.vote.Statement.{statement}
 use Rattle.majority.proofs.vote.vote.Tie as tie
 
-cast-n : tie.Need-cast-n
-cast-n c = search needs
-
-gather-requires : tie.Need-gather-requires
-gather-requires c κs = search needs
-
 elect-requires : tie.Need-elect-requires
 elect-requires c κs = bounds _ (c .before .before .before .pre .0) .n8
 
@@ -19,4 +13,4 @@ returns : tie.Need-returns
 returns c = c .elect .ensures ∙ gathered-vote (c .before .before .gather .ensures)
 
 pub vote-spec : {M : Type 1} → statement M
-vote-spec = tie.close (tie.spec cast-n gather-requires elect-requires returns)
+vote-spec = tie.close (tie.spec (λ c. search needs) (λ c κs. search needs) elect-requires returns)

@@ -6,20 +6,11 @@ use Rattle.page.specs.Page.{readNumber}
 use Rattle.page.proofs.number.read.Statement.{statement}
 use Rattle.page.proofs.number.read.Tie as tie
 
-enum-known-answer : tie.Need-enum-known-answer
-enum-known-answer c = search needs
-
 mul-result : tie.Need-mul-result
 mul-result c = omega (arith, ap readNumber (c .before .answer .given .1))
 
 add-result : tie.Need-add-result
 add-result c = omega (arith, ap readNumber (c .before .answer .given .1))
-
-enum-known-answer-2 : tie.Need-enum-known-answer-2
-enum-known-answer-2 c = search needs
-
-refused-requires : tie.Need-refused-requires
-refused-requires c κs = search needs
 
 returns : tie.Need-returns
 returns c = sym (ap readNumber (c .before .answer .given .1))
@@ -28,13 +19,4 @@ returns-2 : tie.Need-returns-2
 returns-2 c = c .refused .ensures ∙ sym (ap readNumber (c .before .before .answer2 .given .1))
 
 pub read-spec : {M : Type 1} → statement M
-read-spec =
-    tie.close
-    (tie.spec
-    enum-known-answer
-    mul-result
-    add-result
-    enum-known-answer-2
-    refused-requires
-    returns
-    returns-2)
+read-spec = tie.close (tie.spec (λ c. search needs) mul-result add-result (λ c. search needs) (λ c κs. search needs) returns returns-2)

@@ -25,25 +25,10 @@ legal c = sym (c .before .is-lawful .ensures) ∙ not-false _ (c .if2 .left)
 right : (c : tie.Else3) → Consistent (start (c .before .before .before .before .before) .args .self)
 right c = sym (c .before .is-consistent .ensures) ∙ not-false _ (c .if3 .left)
 
-is-way-requires : tie.Need-is-way-requires
-is-way-requires c κs = search needs
-
-refused-requires : tie.Need-refused-requires
-refused-requires c κs = search needs
-
 returns : tie.Need-returns
 returns c =
     arriving-bad (presented-way theWays _ _ _ _ (sym (c .before .before .is-way .ensures) ∙ not-true _ (c .before .if1 .taken))) way-scratch
     (c .refused .ensures)
-
-is-lawful-requires : tie.Need-is-lawful-requires
-is-lawful-requires c κs = search needs
-
-shape-refusal-requires : tie.Need-shape-refusal-requires
-shape-refusal-requires c κs = search needs
-
-refused-requires-2 : tie.Need-refused-requires-2
-refused-requires-2 c κs = search needs
 
 returns-2 : tie.Need-returns-2
 returns-2 c =
@@ -52,12 +37,6 @@ returns-2 c =
     arriving-bad
     (presented-shape theWays _ _ _ _ (known (asked .before .before)) (sym (asked .is-lawful .ensures) ∙ not-true _ (c .before .before .if2 .taken)) ∙ ap Bad (sym by))
     (rw by (shape-scratch _ _)) (c .refused2 .ensures)
-
-is-consistent-requires : tie.Need-is-consistent-requires
-is-consistent-requires c κs = search needs
-
-refused-requires-3 : tie.Need-refused-requires-3
-refused-requires-3 c κs = search needs
 
 returns-3 : tie.Need-returns-3
 returns-3 c =
@@ -71,32 +50,10 @@ settle-word-requires c κs =
     let passed = c .before .before in
     (known (passed .before .before .before .before .before), legal (passed .before .before), right passed)
 
-same-length : tie.Need-same-length
-same-length c = search needs
-
-same-length-2 : tie.Need-same-length-2
-same-length-2 c = search needs
-
 returns-4 : tie.Need-returns-4
 returns-4 c =
     let done = c .before .before .before .before in
     step-arrives theWays _ _ (right (done .before .before .before)) (done .settle-word .ensures)
 
 pub arrive-spec : {M : Type 1} → statement M
-arrive-spec =
-    tie.close
-    (tie.spec
-    is-way-requires
-    refused-requires
-    returns
-    is-lawful-requires
-    shape-refusal-requires
-    refused-requires-2
-    returns-2
-    is-consistent-requires
-    refused-requires-3
-    returns-3
-    settle-word-requires
-    same-length
-    same-length-2
-    returns-4)
+arrive-spec = tie.close (tie.spec (λ c κs. search needs) (λ c κs. search needs) returns (λ c κs. search needs) (λ c κs. search needs) (λ c κs. search needs) returns-2 (λ c κs. search needs) (λ c κs. search needs) returns-3 settle-word-requires (λ c. search needs) (λ c. search needs) returns-4)

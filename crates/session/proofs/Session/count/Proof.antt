@@ -22,18 +22,9 @@ right c = sym (c .before .is-consistent .ensures) ∙ not-false _ (c .if2 .left)
 abbrev asked : tie.Else2 → ℕ
 asked c = c .before .before .before .before .before .args .function
 
-is-lawful-requires : tie.Need-is-lawful-requires
-is-lawful-requires c κs = search needs
-
-shape-refusal-requires : tie.Need-shape-refusal-requires
-shape-refusal-requires c κs = search needs
-
 returns : tie.Need-returns
 unfolding countedOf
 returns c = answered countedNumber (rw (sym (c .before .before .is-lawful .ensures) ∙ not-true _ (c .before .if1 .taken)) (ap Refused (c .shape-refusal .ensures)))
-
-is-consistent-requires : tie.Need-is-consistent-requires
-is-consistent-requires c κs = search needs
 
 returns-2 : tie.Need-returns-2
 unfolding countedOf
@@ -44,27 +35,10 @@ returns-3 : tie.Need-returns-3
 unfolding countedOf
 returns-3 c = answered countedNumber (rw (legal (c .before .before .before), right (c .before), le-ltb (asked (c .before)) 256 (omega arith)))
 
-mul-t11 : tie.Need-mul-t11
-mul-t11 c = search needs
-
-array-read-t14 : tie.Need-array-read-t14
-array-read-t14 c = search needs
-
 returns-4 : tie.Need-returns-4
 unfolding countedOf
 returns-4 c =
     answered countedNumber (rw (legal (c .before .before .before .before), right (c .before .before), lt-ltb (asked (c .before .before)) 256 (omega arith)))
 
 pub count-spec : {M : Type 1} → statement M
-count-spec =
-    tie.close
-    (tie.spec
-    is-lawful-requires
-    shape-refusal-requires
-    returns
-    is-consistent-requires
-    returns-2
-    returns-3
-    mul-t11
-    array-read-t14
-    returns-4)
+count-spec = tie.close (tie.spec (λ c κs. search needs) (λ c κs. search needs) returns (λ c κs. search needs) returns-2 returns-3 (λ c. search needs) (λ c. search needs) returns-4)

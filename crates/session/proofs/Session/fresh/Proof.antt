@@ -13,19 +13,13 @@ use Rattle.session.proofs.Session.fresh.Tie as tie
 beginning : {s : Shape} {r : Fresh} → r .session ≡ freshOf s → r .status ≡ freshStatus s → Beginning s r
 beginning session status = record { session = session; status = status; number = ap statusNumber status }
 
-is-lawful-requires : tie.Need-is-lawful-requires
-is-lawful-requires c κs = search needs
-
 returns : tie.Need-returns
 unfolding freshOf freshStatus
 returns c = beginning refl (rw (sym (c .before .is-lawful .ensures) ∙ c .if1 .taken))
-
-shape-refusal-requires : tie.Need-shape-refusal-requires
-shape-refusal-requires c κs = search needs
 
 returns-2 : tie.Need-returns-2
 unfolding freshOf freshStatus
 returns-2 c = beginning refl (rw (sym (c .before .before .is-lawful .ensures) ∙ c .before .if1 .left) (ap Refused (c .shape-refusal .ensures)))
 
 pub fresh-spec : {M : Type 1} → statement M
-fresh-spec = tie.close (tie.spec is-lawful-requires returns shape-refusal-requires returns-2)
+fresh-spec = tie.close (tie.spec (λ c κs. search needs) returns (λ c κs. search needs) returns-2)

@@ -4,12 +4,9 @@ use Rattle.session.specs.Session.{consistent}
 use Rattle.session.proofs.Session.is_consistent.Statement.{statement}
 use Rattle.session.proofs.Session.is_consistent.Tie as tie
 
-agree-requires : tie.Need-agree-requires
-agree-requires c κs = search needs
-
 returns : tie.Need-returns
 unfolding consistent
 returns c = search needs
 
 pub is-consistent-spec : {M : Type 1} → statement M
-is-consistent-spec = tie.close (tie.spec agree-requires returns)
+is-consistent-spec = tie.close (tie.spec (λ c κs. search needs) returns)

@@ -24,38 +24,14 @@ restored c h =
     let asked = start c .pre in
     read-good (start c .args .self) (start c .args .way) (asked .0) (asked .1) (asked .3) (copying c .copy .ensures) (c .read-word .ensures) h
 
-copy-requires : tie.Need-copy-requires
-copy-requires c κs = search needs
-
 read-word-requires : tie.Need-read-word-requires
 read-word-requires c κs = c .before .before .before .before .before .before .before .before .before .before .before .pre .0
-
-enum-known-e : tie.Need-enum-known-e
-enum-known-e c = search needs
-
-clear-requires : tie.Need-clear-requires
-clear-requires c κs = search needs
-
-refused-requires : tie.Need-refused-requires
-refused-requires c κs = search needs
-
-enum-known-k : tie.Need-enum-known-k
-enum-known-k c = search needs
 
 open-requires : tie.Need-open-requires
 open-requires c κs =
     let k = c .before .before .before .before .before in
     let d = k .before .before .before .before in
     (start d .pre .2, restored d (k .k .given .1) .0)
-
-same-length : tie.Need-same-length
-same-length c = search needs
-
-same-length-2 : tie.Need-same-length-2
-same-length-2 c = search needs
-
-same-length-3 : tie.Need-same-length-3
-same-length-3 c = search needs
 
 returns : tie.Need-returns
 returns c =
@@ -65,18 +41,6 @@ returns c =
     read-bad (start d .args .self) (start d .args .way) (asked .0) (asked .1) (asked .3) (copying d .copy .ensures) (d .read-word .ensures) (e .e .given .1)
     (c .before .before .before .clear .ensures) (c .refused .ensures)
 
-same-length-4 : tie.Need-same-length-4
-same-length-4 c = search needs
-
-same-length-5 : tie.Need-same-length-5
-same-length-5 c = search needs
-
-same-length-6 : tie.Need-same-length-6
-same-length-6 c = search needs
-
-same-length-7 : tie.Need-same-length-7
-same-length-7 c = search needs
-
 returns-2 : tie.Need-returns-2
 returns-2 c =
     let opening = c .before .before .before .before .before .before in
@@ -85,22 +49,4 @@ returns-2 c =
     opening .«open» .ensures .steps (start d .args .way) (start d .pre .0) (restored d (k .k .given .1) .1)
 
 pub read-spec : {M : Type 1} → statement M
-read-spec =
-    tie.close
-    (tie.spec
-    copy-requires
-    read-word-requires
-    enum-known-e
-    clear-requires
-    refused-requires
-    enum-known-k
-    open-requires
-    same-length
-    same-length-2
-    same-length-3
-    returns
-    same-length-4
-    same-length-5
-    same-length-6
-    same-length-7
-    returns-2)
+read-spec = tie.close (tie.spec (λ c κs. search needs) read-word-requires (λ c. search needs) (λ c κs. search needs) (λ c κs. search needs) (λ c. search needs) open-requires (λ c. search needs) (λ c. search needs) (λ c. search needs) returns (λ c. search needs) (λ c. search needs) (λ c. search needs) (λ c. search needs) returns-2)

@@ -31,12 +31,6 @@ measuring c = c .before .before .before .before
 info-room : (c : tie.After-info-length) → c .info-length .result ≤ 900
 info-room c = omega (arith, c .info-length .ensures, sizes _ (start (measuring c .before) .pre .1) .info)
 
-suits-requires : tie.Need-suits-requires
-suits-requires c κs = search needs
-
-refused-requires : tie.Need-refused-requires
-refused-requires c κs = search needs
-
 returns : tie.Need-returns
 returns c =
     let asked = c .before .before in
@@ -48,9 +42,6 @@ returns c =
 word-length-requires : tie.Need-word-length-requires
 word-length-requires c κs = start c .pre .1
 
-refused-requires-2 : tie.Need-refused-requires-2
-refused-requires-2 c κs = search needs
-
 returns-2 : tie.Need-returns-2
 returns-2 c =
     let w = c .before .before in
@@ -61,9 +52,6 @@ returns-2 c =
 
 scratch-length-requires : tie.Need-scratch-length-requires
 scratch-length-requires c κs = start (c .before .before) .pre .1
-
-refused-requires-3 : tie.Need-refused-requires-3
-refused-requires-3 c κs = search needs
 
 returns-3 : tie.Need-returns-3
 returns-3 c =
@@ -106,34 +94,8 @@ read-requires c κs =
       },
     )
 
-same-length : tie.Need-same-length
-same-length c = search needs
-
-same-length-2 : tie.Need-same-length-2
-same-length-2 c = search needs
-
 returns-4 : tie.Need-returns-4
 returns-4 c = c .before .before .before .before .before .before .read .ensures
 
 pub settle-word-spec : {M : Type 1} → statement M
-settle-word-spec =
-    tie.close
-    (tie.spec
-    suits-requires
-    refused-requires
-    returns
-    word-length-requires
-    refused-requires-2
-    returns-2
-    scratch-length-requires
-    refused-requires-3
-    returns-3
-    info-length-requires
-    array-borrow-prefix-copied
-    slice-aggregate-read
-    array-borrow-prefix-symbols
-    slice-aggregate-read-2
-    read-requires
-    same-length
-    same-length-2
-    returns-4)
+settle-word-spec = tie.close (tie.spec (λ c κs. search needs) (λ c κs. search needs) returns word-length-requires (λ c κs. search needs) returns-2 scratch-length-requires (λ c κs. search needs) returns-3 info-length-requires array-borrow-prefix-copied slice-aggregate-read array-borrow-prefix-symbols slice-aggregate-read-2 read-requires (λ c. search needs) (λ c. search needs) returns-4)

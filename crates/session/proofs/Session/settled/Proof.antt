@@ -13,9 +13,6 @@ use Rattle.session.proofs.Settle.{settle-again, settle-overflow, settle
 use Rattle.session.proofs.Session.settled.Statement.{statement}
 use Rattle.session.proofs.Session.settled.Tie as tie
 
-array-read-if1 : tie.Need-array-read-if1
-array-read-if1 c = search needs
-
 returns : tie.Need-returns
 returns c = settle-again (c .if1 .taken)
 
@@ -35,17 +32,11 @@ add-marks-requires c κs =
 abbrev new : tie.After-add-marks → tie.Else1
 new c = c .before .before .before
 
-refused-requires : tie.Need-refused-requires
-refused-requires c κs = search needs
-
 returns-2 : tie.Need-returns-2
 returns-2 c =
     let added = c .before .before in
     settle-overflow {σ = entry (new added) .args .self} (new added .if1 .left)
     (not-false _ (sym (added .add-marks .ensures .fits) ∙ not-true _ (c .before .if2 .taken))) (c .refused .ensures)
-
-array-write-taken : tie.Need-array-write-taken
-array-write-taken c = search needs
 
 lowest-from-requires : tie.Need-lowest-from-requires
 lowest-from-requires c κs =
@@ -70,6 +61,4 @@ returns-3 c =
     (not-true _ (sym (added .add-marks .ensures .fits) ∙ ok)) (cc (added .add-marks .ensures .sums ok, number, c .before .lowest-from .ensures), refl)
 
 pub settled-spec : {M : Type 1} → statement M
-settled-spec =
-    tie.close
-    (tie.spec array-read-if1 returns add-marks-requires refused-requires returns-2 array-write-taken lowest-from-requires add-t22 returns-3)
+settled-spec = tie.close (tie.spec (λ c. search needs) returns add-marks-requires (λ c κs. search needs) returns-2 (λ c. search needs) lowest-from-requires add-t22 returns-3)

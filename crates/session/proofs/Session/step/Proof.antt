@@ -21,25 +21,10 @@ known c = sym (c .before .is-way .ensures) ∙ not-false _ (c .if1 .left)
 legal : (c : tie.Else2) → Lawful (start (c .before .before .before) .args .self .shape)
 legal c = sym (c .before .is-lawful .ensures) ∙ not-false _ (c .if2 .left)
 
-is-way-requires : tie.Need-is-way-requires
-is-way-requires c κs = search needs
-
-refused-requires : tie.Need-refused-requires
-refused-requires c κs = search needs
-
 returns : tie.Need-returns
 returns c =
     arriving-bad (opened-way theWays _ _ _ _ (sym (c .before .before .is-way .ensures) ∙ not-true _ (c .before .if1 .taken))) way-scratch
     (c .refused .ensures)
-
-is-lawful-requires : tie.Need-is-lawful-requires
-is-lawful-requires c κs = search needs
-
-shape-refusal-requires : tie.Need-shape-refusal-requires
-shape-refusal-requires c κs = search needs
-
-refused-requires-2 : tie.Need-refused-requires-2
-refused-requires-2 c κs = search needs
 
 returns-2 : tie.Need-returns-2
 returns-2 c =
@@ -55,27 +40,8 @@ settle-word-requires c κs =
     let named = passed .before .before .before in
     (known named, legal passed, start named .pre)
 
-same-length : tie.Need-same-length
-same-length c = search needs
-
-same-length-2 : tie.Need-same-length-2
-same-length-2 c = search needs
-
 returns-3 : tie.Need-returns-3
 returns-3 c = c .before .before .before .before .settle-word .ensures
 
 pub step-spec : {M : Type 1} → statement M
-step-spec =
-    tie.close
-    (tie.spec
-    is-way-requires
-    refused-requires
-    returns
-    is-lawful-requires
-    shape-refusal-requires
-    refused-requires-2
-    returns-2
-    settle-word-requires
-    same-length
-    same-length-2
-    returns-3)
+step-spec = tie.close (tie.spec (λ c κs. search needs) (λ c κs. search needs) returns (λ c κs. search needs) (λ c κs. search needs) (λ c κs. search needs) returns-2 settle-word-requires (λ c. search needs) (λ c. search needs) returns-3)

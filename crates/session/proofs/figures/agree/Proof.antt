@@ -16,9 +16,6 @@ right : (c : tie.Else1) → c .before .before .args .pages ≡ pagesOf (c .befor
 unfolding pagesOf
 right c = sym (c .if1 .left) ∙ c .before .marked-below .ensures
 
-marked-below-requires : tie.Need-marked-below-requires
-marked-below-requires c κs = search needs
-
 returns : tie.Need-returns
 unfolding pagesOf
 returns c = pages-differ (c .before .before .args .taken .now) _ _ (λ e. c .if1 .taken (c .before .marked-below .ensures ∙ sym e))
@@ -55,6 +52,4 @@ returns-5 : tie.Need-returns-5
 returns-5 c = last-test (c .before .before .before .before .before .before .before .args .taken .now) _ _ (right (c .before .before .before .before .before)) (below (c .before)) (full (c .before .before))
 
 pub agree-spec : {M : Type 1} → statement M
-agree-spec =
-    tie.close
-    (tie.spec marked-below-requires returns returns-2 marked-below-requires-2 returns-3 element-copy-out-result returns-4 returns-5)
+agree-spec = tie.close (tie.spec (λ c κs. search needs) returns returns-2 marked-below-requires-2 returns-3 element-copy-out-result returns-4 returns-5)

@@ -28,9 +28,6 @@ cast-result c = omega (arith, c .before .before .before .loop .inv .0)
 returns : tie.Need-returns Inv-loop μ-loop
 returns c = lowest-found _ _ (c .before .before .before .loop .inv .0) (c .before .before .before .loop .inv .1) (λ l. not-true _ (c .if1 .taken))
 
-add-at : tie.Need-add-at Inv-loop μ-loop
-add-at c = search needs
-
 loop-less : tie.Need-loop-less Inv-loop μ-loop
 loop-less c = omega (arith, c .before .before .loop-test .taken)
 
@@ -41,5 +38,4 @@ returns-2 : tie.Need-returns-2 Inv-loop μ-loop
 returns-2 c = let e : c .before .loop .at ≡ 1024 = omega (arith, c .before .loop .inv .0, c .loop-test .left) in sym e ∙ lowest-found _ _ (c .before .loop .inv .0) (c .before .loop .inv .1) (λ l. absurd (omega arith))
 
 pub lowest-from-spec : {M : Type 1} → statement M
-lowest-from-spec =
-    tie.close (tie.spec Inv-loop μ-loop loop-holds element-copy-out-if1 cast-result returns add-at loop-less loop-again returns-2)
+lowest-from-spec = tie.close (tie.spec Inv-loop μ-loop loop-holds element-copy-out-if1 cast-result returns (λ c. search needs) loop-less loop-again returns-2)

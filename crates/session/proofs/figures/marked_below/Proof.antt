@@ -29,9 +29,6 @@ marked-in-requires : tie.Need-marked-in-requires Inv-loop μ-loop
 marked-in-requires c κs =
     (omega arith, omega arith, omega (arith, c .loop-test .taken, c .before .before .pre))
 
-cast-pages : tie.Need-cast-pages Inv-loop μ-loop
-cast-pages c = search needs
-
 -- a piece more is counted
 more : (c : tie.After-marked-in Inv-loop μ-loop)
     → c .before .before .loop .pages + c .marked-in .result ≡ count (c .before .before .loop .from + 128) (marked (c .before .before .before .args .taken .now))
@@ -53,9 +50,6 @@ marked-in-requires-2 : tie.Need-marked-in-requires-2 Inv-loop μ-loop
 marked-in-requires-2 c κs =
     (c .before .loop .inv .0, omega (arith, c .loop-test .left), c .before .before .pre)
 
-cast-result : tie.Need-cast-result Inv-loop μ-loop
-cast-result c = search needs
-
 -- the last piece
 whole : (c : tie.After-marked-in2 Inv-loop μ-loop)
     → c .before .before .loop .pages + c .marked-in2 .result ≡ count (c .before .before .before .args .end) (marked (c .before .before .before .args .taken .now))
@@ -71,20 +65,4 @@ returns : tie.Need-returns Inv-loop μ-loop
 returns c = whole c
 
 pub marked-below-spec : {M : Type 1} → statement M
-marked-below-spec =
-    tie.close
-    (tie.spec
-    Inv-loop
-    μ-loop
-    loop-holds
-    sub-loop
-    add-next
-    marked-in-requires
-    cast-pages
-    add-pages
-    loop-less
-    loop-again
-    marked-in-requires-2
-    cast-result
-    add-result
-    returns)
+marked-below-spec = tie.close (tie.spec Inv-loop μ-loop loop-holds sub-loop add-next marked-in-requires (λ c. search needs) add-pages loop-less loop-again marked-in-requires-2 (λ c. search needs) add-result returns)

@@ -21,19 +21,10 @@ loop-holds c = (omega arith, c .pre .0, none-marked (c .args .taken .now) (c .ar
 element-copy-out-pages : tie.Need-element-copy-out-pages Inv-loop μ-loop
 element-copy-out-pages c = omega (arith, c .loop-test .taken, c .before .before .pre .2)
 
-cast-pages : tie.Need-cast-pages Inv-loop μ-loop
-cast-pages c = search needs
-
 add-pages : tie.Need-add-pages Inv-loop μ-loop
 add-pages c =
     let l = few-marked (c .before .before .before .args .taken .now) (c .before .before .before .args .from) (c .before .before .loop .i) (c .before .before .loop .pages) (c .before .before .loop .inv .2) (omega (arith, c .before .loop-test .taken, c .before .before .before .pre .1)) in
     omega (arith, l)
-
-add-i : tie.Need-add-i Inv-loop μ-loop
-add-i c = search needs
-
-loop-less : tie.Need-loop-less Inv-loop μ-loop
-loop-less c = search needs
 
 loop-again : tie.Need-loop-again Inv-loop μ-loop
 loop-again c =
@@ -47,6 +38,4 @@ returns : tie.Need-returns Inv-loop μ-loop
 returns c = c .before .loop .inv .2 ∙ ap (λ (k : ℕ). count (k - c .before .before .args .from) (λ j. marked (c .before .before .args .taken .now) (c .before .before .args .from + j))) (omega (arith, c .before .loop .inv .1, c .loop-test .left))
 
 pub marked-in-spec : {M : Type 1} → statement M
-marked-in-spec =
-    tie.close
-    (tie.spec Inv-loop μ-loop loop-holds element-copy-out-pages cast-pages add-pages add-i loop-less loop-again returns)
+marked-in-spec = tie.close (tie.spec Inv-loop μ-loop loop-holds element-copy-out-pages (λ c. search needs) add-pages (λ c. search needs) (λ c. search needs) loop-again returns)

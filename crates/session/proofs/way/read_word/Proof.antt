@@ -4,29 +4,11 @@ use Rattle.session.proofs.Ways.{reads-clean, reads-vote, reads-two}
 use Rattle.session.proofs.way.read_word.Statement.{statement}
 use Rattle.session.proofs.way.read_word.Tie as tie
 
-decode-requires : tie.Need-decode-requires
-decode-requires c κs = search needs
-
-same-length : tie.Need-same-length
-same-length c = search needs
-
 returns : tie.Need-returns
 returns c = reads-clean _ (c .before .before .before .before .if1 .taken) (c .before .before .decode .ensures)
 
-decode-majority-requires : tie.Need-decode-majority-requires
-decode-majority-requires c κs = search needs
-
-same-length-2 : tie.Need-same-length-2
-same-length-2 c = search needs
-
 returns-2 : tie.Need-returns-2
 returns-2 c = reads-vote _ (c .before .before .before .before .if2 .taken) (c .before .before .decode-majority .ensures)
-
-decode-two-requires : tie.Need-decode-two-requires
-decode-two-requires c κs = search needs
-
-same-length-3 : tie.Need-same-length-3
-same-length-3 c = search needs
 
 returns-3 : tie.Need-returns-3
 returns-3 c =
@@ -34,5 +16,4 @@ returns-3 c =
     reads-two _ (last .before .if1 .left) (last .if2 .left) (c .before .before .decode-two .ensures)
 
 pub read-word-spec : {M : Type 1} → statement M
-read-word-spec =
-    tie.close (tie.spec decode-requires same-length returns decode-majority-requires same-length-2 returns-2 decode-two-requires same-length-3 returns-3)
+read-word-spec = tie.close (tie.spec (λ c κs. search needs) (λ c. search needs) returns (λ c κs. search needs) (λ c. search needs) returns-2 (λ c κs. search needs) (λ c. search needs) returns-3)

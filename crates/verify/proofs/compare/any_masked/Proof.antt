@@ -39,12 +39,6 @@ is-masked-requires c κs =
 returns : tie.Need-returns Inv-loop μ-loop
 returns c = sym (any-intro _ _ (c .before .before .before .before .loop .x) (c .before .before .before .loop-test .taken) (sym (c .before .is-masked .ensures) ∙ c .if1 .taken))
 
-add-x : tie.Need-add-x Inv-loop μ-loop
-add-x c = search needs
-
-loop-less : tie.Need-loop-less Inv-loop μ-loop
-loop-less c = search needs
-
 loop-again : tie.Need-loop-again Inv-loop μ-loop
 loop-again c = (search needs, any-more _ _ ∙ ap₂ (λ (x y : Bool). x || y) (c .before .before .before .before .loop .inv .1) (sym (c .before .is-masked .ensures) ∙ c .if1 .left))
 
@@ -52,17 +46,4 @@ returns-2 : tie.Need-returns-2 Inv-loop μ-loop
 returns-2 c = sym (rw (le-antisymm (c .before .loop .inv .0) (c .loop-test .left)) at (c .before .loop .inv .1))
 
 pub any-masked-spec : {M : Type 1} → statement M
-any-masked-spec =
-    tie.close
-    (tie.spec
-    Inv-loop
-    μ-loop
-    loop-holds
-    mul-is-masked
-    element-copy-out-is-masked
-    is-masked-requires
-    returns
-    add-x
-    loop-less
-    loop-again
-    returns-2)
+any-masked-spec = tie.close (tie.spec Inv-loop μ-loop loop-holds mul-is-masked element-copy-out-is-masked is-masked-requires returns (λ c. search needs) (λ c. search needs) loop-again returns-2)

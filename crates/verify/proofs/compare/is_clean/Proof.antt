@@ -11,12 +11,6 @@ use Rattle.verify.proofs.Table.{differ-many, differ-inside, differ-few}
 use Rattle.verify.proofs.compare.is_clean.Statement.{statement}
 use Rattle.verify.proofs.compare.is_clean.Tie as tie
 
-cast-n : tie.Need-cast-n
-cast-n c = search needs
-
-locate-requires : tie.Need-locate-requires
-locate-requires c κs = search needs
-
 returns : tie.Need-returns
 returns c = differ-many _ (c .before .before .before .before .before .before .pre .0) _ _ (c .before .locate .ensures .many (omega (arith, c .if1 .taken)))
 
@@ -28,15 +22,6 @@ measure-requires c κs =
       search needs,
       differ-inside (s .args .shape) (s .args .received .now) (s .args .proposed .now) (s .pre .1) (s .pre .2) (e .before .locate .ensures .few (e .if1 .left)),
     )
-
-is-shipped-requires : tie.Need-is-shipped-requires
-is-shipped-requires c κs = search needs
-
-check-numbers-requires : tie.Need-check-numbers-requires
-check-numbers-requires c κs = search needs
-
-slice-aggregate-is-clean-by : tie.Need-slice-aggregate-is-clean-by
-slice-aggregate-is-clean-by c = search needs
 
 -- the places listed are positions of the word
 inside : (c : tie.Else1) → Within (c .before .before .before .before .before .before .args .shape) (c .before .locate .result) (c .before .locate .last .1 .1 .1 .0)
@@ -58,9 +43,6 @@ returns-2 c =
     c .is-clean-by .ensures .1
     ∙ differ-few (p .0) (e .before .locate .ensures .few (e .if1 .left)) (m .measure .ensures) (p .3) (test-silent _ _ (p .4)) (c .is-clean-by .ensures .0) (e .if1 .left)
 
-slice-aggregate-is-clean-by-2 : tie.Need-slice-aggregate-is-clean-by-2
-slice-aggregate-is-clean-by-2 c = search needs
-
 is-clean-by-requires-2 : tie.Need-is-clean-by-requires-2
 is-clean-by-requires-2 c κs =
     let e = c .before .before .before .before .before .before .before .before .before in
@@ -76,18 +58,4 @@ returns-3 c =
     ∙ differ-few (p .0) (e .before .locate .ensures .few (e .if1 .left)) (m .measure .ensures) (p .3) (test-silent _ _ (p .4)) (c .is-clean-by2 .ensures .0) (e .if1 .left)
 
 pub is-clean-spec : {M : Type 1} → statement M
-is-clean-spec =
-    tie.close
-    (tie.spec
-    cast-n
-    locate-requires
-    returns
-    measure-requires
-    is-shipped-requires
-    check-numbers-requires
-    slice-aggregate-is-clean-by
-    is-clean-by-requires
-    returns-2
-    slice-aggregate-is-clean-by-2
-    is-clean-by-requires-2
-    returns-3)
+is-clean-spec = tie.close (tie.spec (λ c. search needs) (λ c κs. search needs) returns measure-requires (λ c κs. search needs) (λ c κs. search needs) (λ c. search needs) is-clean-by-requires returns-2 (λ c. search needs) is-clean-by-requires-2 returns-3)

@@ -5,14 +5,8 @@ use borrow.Author.Needs.{needs}
 use Rattle.verify.proofs.compare.is_clean_by.Statement.{statement}
 use Rattle.verify.proofs.compare.is_clean_by.Tie as tie
 
-cancel-by-requires : tie.Need-cancel-by-requires
-cancel-by-requires c κs = search needs
-
-any-masked-requires : tie.Need-any-masked-requires
-any-masked-requires c κs = search needs
-
 returns : tie.Need-returns
 returns c = (c .before .before .cancel-by .ensures, ap not (c .any-masked .ensures))
 
 pub is-clean-by-spec : {M : Type 1} → statement M
-is-clean-by-spec = tie.close (tie.spec cancel-by-requires any-masked-requires returns)
+is-clean-by-spec = tie.close (tie.spec (λ c κs. search needs) (λ c κs. search needs) returns)

@@ -23,14 +23,8 @@ Inv-loop shape table syn j n t₀ t = (t ≤ n) × (any t (λ u. eqb (at syn (ch
 abbrev μ-loop : tie.MeasureT-loop
 μ-loop shape table syn j n t₀ t = n - t
 
-cast-n : tie.Need-cast-n Inv-loop μ-loop
-cast-n c = search needs
-
 loop-holds : tie.Need-loop-holds Inv-loop μ-loop
 loop-holds c = (let b = bounds _ (c .before .before .pre .0) in omega arith, any-zero _)
-
-number-by-requires : tie.Need-number-by-requires Inv-loop μ-loop
-number-by-requires c κs = search needs
 
 -- the check is in the table
 inside : (c : tie.After-number-by Inv-loop μ-loop) → c .number-by .result < 248
@@ -52,12 +46,6 @@ returns c =
     (any-intro _ (λ u. eqb (at (s .syn .now) (checkOf (s .shape) (s .j) u)) 0) (c .before .before .before .before .loop .t) (c .before .before .before .loop-test .taken)
     (eq-eqb _ 0 (sym (ap (at (s .syn .now)) (c .before .before .number-by .ensures)) ∙ c .if1 .taken)))
 
-add-t : tie.Need-add-t Inv-loop μ-loop
-add-t c = search needs
-
-loop-less : tie.Need-loop-less Inv-loop μ-loop
-loop-less c = search needs
-
 loop-again : tie.Need-loop-again Inv-loop μ-loop
 loop-again c =
     let s = c .before .before .before .before .before .before .before .args in (
@@ -71,18 +59,4 @@ unfolding hushed
 returns-2 c = sym (rw (le-antisymm (c .before .loop .inv .0) (c .loop-test .left)) at (c .before .loop .inv .1))
 
 pub is-masked-spec : {M : Type 1} → statement M
-is-masked-spec =
-    tie.close
-    (tie.spec
-    Inv-loop
-    μ-loop
-    cast-n
-    loop-holds
-    number-by-requires
-    mul-if1
-    element-copy-out-if1
-    returns
-    add-t
-    loop-less
-    loop-again
-    returns-2)
+is-masked-spec = tie.close (tie.spec Inv-loop μ-loop (λ c. search needs) loop-holds (λ c κs. search needs) mul-if1 element-copy-out-if1 returns (λ c. search needs) (λ c. search needs) loop-again returns-2)

@@ -11,15 +11,6 @@ use Rattle.verify.proofs.Answers.{no-codeword, codeword-decides}
 use Rattle.verify.proofs.compare.is_restored.Statement.{statement}
 use Rattle.verify.proofs.compare.is_restored.Tie as tie
 
-cast-q : tie.Need-cast-q
-cast-q c = search needs
-
-cast-n : tie.Need-cast-n
-cast-n c = search needs
-
-fill-requires : tie.Need-fill-requires
-fill-requires c κs = search needs
-
 mul-is-silent : tie.Need-mul-is-silent
 mul-is-silent c = omega (arith, checks-fit _ (c .before .before .before .before .before .before .before .pre .0))
 
@@ -47,14 +38,4 @@ returns-2 c =
     codeword-decides (s .shape) (s .received .now) (s .proposed .now) (silent (c .before .before)) (c .is-clean .ensures)
 
 pub is-restored-spec : {M : Type 1} → statement M
-is-restored-spec =
-    tie.close
-    (tie.spec
-    cast-q
-    cast-n
-    fill-requires
-    mul-is-silent
-    is-silent-requires
-    returns
-    is-clean-requires
-    returns-2)
+is-restored-spec = tie.close (tie.spec (λ c. search needs) (λ c. search needs) (λ c κs. search needs) mul-is-silent is-silent-requires returns is-clean-requires returns-2)

@@ -23,30 +23,6 @@ loop-holds : tie.Need-loop-holds Inv-loop μ-loop
 unfolding all
 loop-holds c = (search needs, refl)
 
-add-bits : tie.Need-add-bits Inv-loop μ-loop
-add-bits c = search needs
-
-mul-bits : tie.Need-mul-bits Inv-loop μ-loop
-mul-bits c = search needs
-
-shared-slice-read-bits : tie.Need-shared-slice-read-bits Inv-loop μ-loop
-shared-slice-read-bits c = search needs
-
-add-bits-2 : tie.Need-add-bits-2 Inv-loop μ-loop
-add-bits-2 c = search needs
-
-mul-bits-2 : tie.Need-mul-bits-2 Inv-loop μ-loop
-mul-bits-2 c = search needs
-
-shared-slice-read-bits-2 : tie.Need-shared-slice-read-bits-2 Inv-loop μ-loop
-shared-slice-read-bits-2 c = search needs
-
-add-i : tie.Need-add-i Inv-loop μ-loop
-add-i c = search needs
-
-loop-less : tie.Need-loop-less Inv-loop μ-loop
-loop-less c = search needs
-
 loop-again : tie.Need-loop-again Inv-loop μ-loop
 unfolding _⊕_
 loop-again c =
@@ -58,19 +34,4 @@ returns : tie.Need-returns Inv-loop μ-loop
 returns c = rw (le-antisymm (c .before .loop .inv .0) (c .loop-test .left)) at (c .before .loop .inv .1)
 
 pub are-same-spec : {M : Type 1} → statement M
-are-same-spec =
-    tie.close
-    (tie.spec
-    Inv-loop
-    μ-loop
-    loop-holds
-    add-bits
-    mul-bits
-    shared-slice-read-bits
-    add-bits-2
-    mul-bits-2
-    shared-slice-read-bits-2
-    add-i
-    loop-less
-    loop-again
-    returns)
+are-same-spec = tie.close (tie.spec Inv-loop μ-loop loop-holds (λ c. search needs) (λ c. search needs) (λ c. search needs) (λ c. search needs) (λ c. search needs) (λ c. search needs) (λ c. search needs) (λ c. search needs) loop-again returns)

@@ -23,16 +23,10 @@ abbrev μ-loop : tie.MeasureT-loop
 runs-and-rest : (size : ℕ) → size / 16 * 16 + (size - size / 16 * 16) ≡ size
 runs-and-rest size = omega arith
 
-cast-n : tie.Need-cast-n Inv-loop μ-loop
-cast-n c = search needs
-
 loop-holds : tie.Need-loop-holds Inv-loop μ-loop
 loop-holds c =
     let s = c .before .before .before in
     (search needs, omega (arith, bounds (s .args .shape) (s .pre .0) .n2), listed-none _ _ (s .pre .3))
-
-mul-scan-run : tie.Need-mul-scan-run Inv-loop μ-loop
-mul-scan-run c = search needs
 
 scan-run-requires : tie.Need-scan-run-requires Inv-loop μ-loop
 scan-run-requires c κs =
@@ -47,23 +41,8 @@ returns c =
     let s = l .before .before .before .before in
     scanned-many (l .loop .k * 16 + 16) (omega (arith, s .pre .1)) (c .before .scan-run .ensures .many (c .if1 .taken))
 
-add-k : tie.Need-add-k Inv-loop μ-loop
-add-k c = search needs
-
-loop-less : tie.Need-loop-less Inv-loop μ-loop
-loop-less c = search needs
-
 loop-again : tie.Need-loop-again Inv-loop μ-loop
 loop-again c = (search needs, c .if1 .left, rw next-row (c .before .scan-run .ensures .few (c .if1 .left)))
-
-mul-scan-run-2 : tie.Need-mul-scan-run-2 Inv-loop μ-loop
-mul-scan-run-2 c = search needs
-
-mul-scan-run-3 : tie.Need-mul-scan-run-3 Inv-loop μ-loop
-mul-scan-run-3 c = search needs
-
-sub-scan-run : tie.Need-sub-scan-run Inv-loop μ-loop
-sub-scan-run c = search needs
 
 scan-run-requires-2 : tie.Need-scan-run-requires-2 Inv-loop μ-loop
 scan-run-requires-2 c κs =
@@ -78,21 +57,4 @@ returns-2 c =
     rw (runs-and-rest (length (s .args .received .now)) ∙ s .pre .1) at (c .scan-run2 .ensures)
 
 pub locate-spec : {M : Type 1} → statement M
-locate-spec =
-    tie.close
-    (tie.spec
-    Inv-loop
-    μ-loop
-    cast-n
-    loop-holds
-    mul-scan-run
-    scan-run-requires
-    returns
-    add-k
-    loop-less
-    loop-again
-    mul-scan-run-2
-    mul-scan-run-3
-    sub-scan-run
-    scan-run-requires-2
-    returns-2)
+locate-spec = tie.close (tie.spec Inv-loop μ-loop (λ c. search needs) loop-holds (λ c. search needs) scan-run-requires returns (λ c. search needs) (λ c. search needs) loop-again (λ c. search needs) (λ c. search needs) (λ c. search needs) scan-run-requires-2 returns-2)

@@ -17,9 +17,6 @@ Inv-loop received proposed from size n places₀ count found₀ i₀ places foun
 abbrev μ-loop : tie.MeasureT-loop
 μ-loop received proposed from size n places₀ count found₀ i₀ places found i = size - i
 
-are-same-requires : tie.Need-are-same-requires Inv-loop μ-loop
-are-same-requires c κs = search needs
-
 returns : tie.Need-returns Inv-loop μ-loop
 returns c =
     let s = c .before .before .before .before in
@@ -31,22 +28,10 @@ returns c =
 loop-holds : tie.Need-loop-holds Inv-loop μ-loop
 loop-holds c = let s = c .before .before .before .before in (search needs, s .pre .3, rw (add-zero (s .args .from)) (s .pre .4))
 
-add-keep : tie.Need-add-keep Inv-loop μ-loop
-add-keep c = search needs
-
-keep-requires : tie.Need-keep-requires Inv-loop μ-loop
-keep-requires c κs = search needs
-
 returns-2 : tie.Need-returns-2 Inv-loop μ-loop
 returns-2 c =
     let l = c .before .before .before .before in
     scanned-many (l .before .before .before .before .before .args .from + l .loop .i + 1) (omega arith) (omega (arith, c .before .keep .ensures .counted))
-
-add-i : tie.Need-add-i Inv-loop μ-loop
-add-i c = search needs
-
-loop-less : tie.Need-loop-less Inv-loop μ-loop
-loop-less c = search needs
 
 loop-again : tie.Need-loop-again Inv-loop μ-loop
 loop-again c = (search needs, c .if2 .left, rw (← add-assoc) (c .before .keep .ensures))
@@ -55,18 +40,4 @@ returns-3 : tie.Need-returns-3 Inv-loop μ-loop
 returns-3 c = scanned-few (c .before .loop .inv .1) (rw (le-antisymm (c .before .loop .inv .0) (c .loop-test .left)) at (c .before .loop .inv .2))
 
 pub scan-run-spec : {M : Type 1} → statement M
-scan-run-spec =
-    tie.close
-    (tie.spec
-    Inv-loop
-    μ-loop
-    are-same-requires
-    returns
-    loop-holds
-    add-keep
-    keep-requires
-    returns-2
-    add-i
-    loop-less
-    loop-again
-    returns-3)
+scan-run-spec = tie.close (tie.spec Inv-loop μ-loop (λ c κs. search needs) returns loop-holds (λ c. search needs) (λ c κs. search needs) returns-2 (λ c. search needs) (λ c. search needs) loop-again returns-3)

@@ -5,35 +5,8 @@ use Rattle.verify.specs.Verify.{verdictNumber}
 use Rattle.verify.proofs.number.verdict.Statement.{statement}
 use Rattle.verify.proofs.number.verdict.Tie as tie
 
-enum-told : tie.Need-enum-told
-enum-told c = search needs
-
-enum-told-2 : tie.Need-enum-told-2
-enum-told-2 c = search needs
-
-enum-known-answer : tie.Need-enum-known-answer
-enum-known-answer c = search needs
-
-refused-requires : tie.Need-refused-requires
-refused-requires c κs = search needs
-
-returns : tie.Need-returns
-returns c = search needs
-
-returns-2 : tie.Need-returns-2
-returns-2 c = search needs
-
 returns-3 : tie.Need-returns-3
 returns-3 c = c .refused .ensures ∙ sym (ap verdictNumber (c .before .before .answer .given .1))
 
 pub verdict-spec : {M : Type 1} → statement M
-verdict-spec =
-    tie.close
-    (tie.spec
-    enum-told
-    enum-told-2
-    enum-known-answer
-    refused-requires
-    returns
-    returns-2
-    returns-3)
+verdict-spec = tie.close (tie.spec (λ c. search needs) (λ c. search needs) (λ c. search needs) (λ c κs. search needs) (λ c. search needs) (λ c. search needs) returns-3)
