@@ -45,7 +45,7 @@ fn find_page(
     requires { ⌜ Lawful shape × (length (now word) ≡ wordLength shape) × (length (now symbols) ≡ infoLength shape) ⌝ }
     ensures { λ r. ⌜ Seen (now (taken .entry)) (openPage shape (extractOf shape (now (word .entry))) k (pageOf shape (extractOf shape (now (word .entry))))) r × (length (now (symbols .exit)) ≡ infoLength shape) ⌝ }
 {
-    encoder::gather(shape, word, symbols);
+    gtb::gather(shape, word, symbols);
     match page::read_page(shape, symbols) {
         PageRead::Refused(e) => Foreseen::Known(Outcome::Refused(e)),
         PageRead::Page(number, _) => {

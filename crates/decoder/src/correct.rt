@@ -74,7 +74,7 @@ pub fn correct(shape: Shape, word: &mut [u32]) -> Decoded
     ensures { λ r. ⌜ Corrects shape (now (word .entry)) (now (word .exit)) r ⌝ }
 {
     let mut syn = [0u32; 248];
-    gtb::syndrome::fill(shape, word, &mut syn);
+    syndrome::fill(shape, word, &mut syn);
     let mut places = [0usize; 8];
     let mut errors = [0u32; 8];
     let n = shape.n as usize;

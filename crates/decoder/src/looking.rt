@@ -33,7 +33,7 @@ pub fn note(shape: Shape, word: &[u32], looked: &mut [u32])
     ensures { λ _. ⌜ now (looked .exit) ≡ tabulate (wordLength shape) (lookedAt shape (at (now (word .entry)))) ⌝ }
 {
     let none = [0u8; 1];
-    let syn = gtb::syndrome::syndromes(shape, word);
+    let syn = syndrome::syndromes(shape, word);
     let q = shape.q as usize;
     for row in 0..q {
         note_row(shape, &none, &syn, row, looked);

@@ -6,7 +6,7 @@ use correction::apply;
 use correction::cancel::is_silent;
 use gtb::Refusal;
 use gtb::Shape;
-use gtb::syndrome::syndromes;
+use syndrome::syndromes;
 ghost use mathlib.Core.Path.{_≡_};
 ghost use mathlib.Core.Bool.{not};
 ghost use Prim.Native.Nat.{_<_};

@@ -1,16 +1,16 @@
 -- The shifts and the places of the rows of a lawful shape, in the code's numbers.
 use mathlib.Core.List.{List}
 use Prim.Native.Nat.{ℕ, suc, _+_, _*_, _-_, _≤_, _<_}
-use native.Mathlib.Nat.{suc-mul, mul-comm, mul-le-mul-right}
+use native.Mathlib.Nat.{suc-mul, mul-le-mul-right}
 use native.Mathlib.Omega.{arith}
 use lib.ListN.{length}
 use Rattle.gtb.specs.declared.Shape.{Shape}
-use Rattle.gtb.specs.Shape.{Lawful, wordLength, infoLength}
+use Rattle.gtb.specs.Shape.{Lawful, wordLength}
 use Rattle.gtb.proofs.Bounds.{bounds}
 use Rattle.gtb.proofs.Slopes.{slope-lt}
 use Rattle.gtb.specs.Rows.{shiftOf}
 use Rattle.gtb.proofs.Turns.{row-in}
-use Rattle.gtb.proofs.Directions.{direction-room}
+use Rattle.gtb.proofs.Sizes.{direction-room}
 
 -- a shift is at least 1 and at most q
 pub shift-bounds : (s : Shape) → Lawful s → (t : ℕ) → suc t < s .n → (1 ≤ shiftOf s t) × (shiftOf s t ≤ s .q)
@@ -23,20 +23,6 @@ Room q r w = (r * q + q + q ≤ length w) × (length w ≤ 961)
 
 pub rows-fit : (s : Shape) (r : ℕ) → suc r < s .q → r * s .q + s .q + s .q ≤ wordLength s
 rows-fit s r l = omega (arith, row-in (suc r) (s .q) l, suc-mul r (s .q))
-
--- lower row i of the word, and the symbols that it takes
-pub record Lower (s : Shape) (i : ℕ) : Type 0 where
-  pub row : (s .n - 1 + i) * s .q + s .q ≤ wordLength s
-  pub run : i * (s .q - 1) + (s .q - 1) ≤ infoLength s
-
-pub lower : (s : Shape) → Lawful s → (i : ℕ) → i < s .q - (s .n - 1) → Lower s i
-lower s h i l =
-    let b = bounds s h in
-    let last : suc i * (s .q - 1) ≤ (s .q + 1 - s .n) * (s .q - 1) = mul-le-mul-right (s .q - 1) (omega arith) in
-    record {
-      row = row-in (s .n - 1 + i) (s .q) (omega arith);
-      run = omega (arith, suc-mul i (s .q - 1), mul-comm (s .q + 1 - s .n) (s .q - 1));
-    }
 
 -- the upper rows lie in the word, and their syndromes, after those of direction 0, among the 248
 pub upper-fits : (s : Shape) → Lawful s → ((s .n - 1) * s .q ≤ wordLength s) × (s .q + (s .n - 1) * s .q ≤ 248)

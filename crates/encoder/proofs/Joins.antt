@@ -9,7 +9,7 @@ use Rattle.parity.specs.Xor.{_⊕_}
 use Rattle.gtb.specs.Square.{at}
 use Rattle.gtb.specs.Rows.{rowOf}
 use Rattle.encoder.specs.Steps.{row, Joined}
-use Rattle.gtb.specs.Sweep.{Written}
+use Rattle.parity.specs.Lists.{Written}
 use Rattle.encoder.proofs.Rows.{written-row, written-other}
 
 module _ (q x k : ℕ) (w : List ℕ) where

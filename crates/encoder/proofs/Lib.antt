@@ -6,7 +6,6 @@ pub mod Bounds
 pub mod Divides
 pub mod Joins
 pub mod Newtons
-pub mod Gathers
 pub mod Answers
 pub mod Places
 pub mod Stacks

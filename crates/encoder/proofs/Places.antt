@@ -13,7 +13,7 @@ use Rattle.gtb.specs.Square.{at}
 use Rattle.gtb.proofs.Bounds.{positive}
 use Rattle.gtb.specs.Rows.{rowOf, lowerRow}
 use Rattle.encoder.specs.Steps.{row, Placed}
-use Rattle.gtb.specs.Sweep.{Written}
+use Rattle.parity.specs.Lists.{Written}
 use Rattle.encoder.proofs.Rows.{written-row, written-other}
 
 -- i lower rows are put down, row m the first; each has p symbols

@@ -9,7 +9,7 @@ use lib.Arith.{digits-lt}
 use Rattle.gtb.specs.Square.{at}
 use Rattle.gtb.specs.Rows.{rowOf}
 use Rattle.encoder.specs.Steps.{row}
-use Rattle.gtb.specs.Sweep.{Written}
+use Rattle.parity.specs.Lists.{Written}
 
 module _ (q : ℕ) (pos : 0 < q) (t : ℕ) (f : ℕ → ℕ) (w w′ : List ℕ) (h : Written (t * q) q f w w′) where
   -- the row that was written

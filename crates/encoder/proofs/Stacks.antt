@@ -8,7 +8,7 @@ use Rattle.parity.specs.Xor.{_⊕_, xorSum}
 use Rattle.parity.proofs.Xors.{zero-l}
 use Rattle.parity.proofs.XorSums.{xs-zero, more}
 use Rattle.gtb.specs.Square.{at}
-use Rattle.gtb.specs.Sweep.{Written}
+use Rattle.parity.specs.Lists.{Written}
 
 -- each other row lies after the first
 pub after-first : (q r : ℕ) → 1 ≤ r → q ≤ r * q

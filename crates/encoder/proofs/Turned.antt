@@ -6,7 +6,7 @@ use native.Mathlib.Nat.{mod-eq-of-lt, add-mod-right}
 use native.Mathlib.Decide.{decLt}
 use native.Mathlib.Omega.{arith}
 use Rattle.gtb.specs.Square.{at}
-use Rattle.gtb.specs.Sweep.{Written}
+use Rattle.parity.specs.Lists.{Written}
 
 -- a run, and the one after it
 written-both : (a p r : ℕ) (f g h : ℕ → ℕ) (w w₁ w₂ : List ℕ) → Written a p f w w₁ → Written (a + p) r g w₁ w₂

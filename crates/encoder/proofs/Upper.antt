@@ -21,7 +21,7 @@ use Rattle.gtb.proofs.Words.{narrow-at}
 use Rattle.gtb.specs.Rows.{shiftOf, rowOf, lowerRow}
 use Rattle.gtb.proofs.Rounds.{syndrome-eval, lower-cyclic, lower-width}
 use Rattle.encoder.specs.Steps.{row, Placed, Raised, Sound, Ready}
-use Rattle.gtb.specs.Sweep.{Written}
+use Rattle.parity.specs.Lists.{Written}
 use Rattle.encoder.proofs.Divides.{sound-same}
 
 module _ (s : Shape) (h : Lawful s) where

@@ -9,7 +9,7 @@ use lib.Seq.{getD-set-same, getD-set-other}
 use Rattle.parity.specs.Xor.{xorSum}
 use Rattle.gtb.specs.Square.{at}
 use Rattle.gtb.specs.Rows.{lowerRow}
-use Rattle.gtb.specs.Sweep.{Written}
+use Rattle.parity.specs.Lists.{Written}
 
 -- a lower row: its symbols are written, then their XOR in front
 pub written-lower : (a n : ℕ) (g : ℕ → ℕ) (w w′ : List ℕ) (v : ℕ) → a < length w → v ≡ xorSum n g → Written (a + 1) n g w w′ → Written a (n + 1) (lowerRow n g) w (set w′ a v)

@@ -9,7 +9,7 @@ ghost use lib.ListN.{length};
 ghost use Rattle.parity.specs.Xor.{xorSum};
 ghost use Rattle.gtb.specs.Shape.{Lawful, wordLength, slopeOf};
 ghost use Rattle.gtb.specs.Square.{at};
-ghost use Rattle.gtb.specs.Sweep.{Written};
+ghost use Rattle.parity.specs.Lists.{Written};
 ghost use Rattle.encoder.specs.Steps.{Raised};
 
 // Row 0 takes in every other row.
@@ -61,7 +61,7 @@ fn copy_checks(shape: Shape, word: &mut [u32])
     let q = shape.q as usize;
     let m = shape.n as usize - 1;
     let mut syn = [0u32; 248];
-    gtb::syndrome::fill(shape, word, &mut syn);
+    syndrome::fill(shape, word, &mut syn);
     gtb::copy_run(word, &syn, 0, q, m * q);
 }
 

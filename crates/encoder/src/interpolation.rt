@@ -11,7 +11,7 @@ ghost use Rattle.gtb.specs.Shape.{Lawful, wordLength};
 ghost use Rattle.gtb.specs.Square.{at};
 ghost use Rattle.gtb.specs.Rows.{shiftOf};
 ghost use Rattle.encoder.specs.Steps.{difference, Walked, Ready, Divisible, RowDivided, Divided, Joined, Interpolated};
-ghost use Rattle.gtb.specs.Sweep.{Written};
+ghost use Rattle.parity.specs.Lists.{Written};
 
 // How far direction t + 1 moves a line from one row to the next.
 fn shift(shape: Shape, t: usize) -> usize
@@ -69,7 +69,7 @@ fn divide_row(shape: Shape, word: &mut [u32], k: usize, t: usize)
     let z = q - shift(shape, k);
     let delta = add_mod(z, shift(shape, t), q);
     let walked = walk(word, q, k, t, delta);
-    let total = gtb::run_sum(&walked, 0, q);
+    let total = syndrome::run_sum(&walked, 0, q);
     store_row(word, &walked, total, q, t * q, z);
 }
 

@@ -15,7 +15,7 @@ ghost use lib.Dec.{eqb};
 ghost use lib.ListN.{length};
 ghost use Rattle.gtb.specs.Shape.{Lawful, wordLength, infoLength, scratchLength};
 ghost use Rattle.gtb.specs.Square.{narrow};
-ghost use Rattle.gtb.specs.Positions.{extractOf, Encodes};
+ghost use Rattle.gtb.specs.Positions.{Encodes};
 ghost use Rattle.encoder.specs.Contract.{Encoding, Extraction};
 ghost use Rattle.encoder.specs.Steps.{Tested, Placed};
 
@@ -49,20 +49,6 @@ fn test(shape: Shape, symbols: &[u32], scratch: &mut [u32], word: &[u32], given:
         return Status::Refused(Refusal::Width);
     }
     Status::Done
-}
-
-// Copies the symbols on the information positions, row by row.
-pub fn gather(shape: Shape, word: &[u32], symbols: &mut [u32])
-    requires { ⌜ (Lawful shape) × (length (now word) ≡ wordLength shape) × (length (now symbols) ≡ infoLength shape) ⌝ }
-    ensures { λ _. ⌜ now (symbols .exit) ≡ extractOf shape (now (word .entry)) ⌝ }
-{
-    let q = shape.q as usize;
-    let m = shape.n as usize - 1;
-    let rows = q - m;
-    let p = q - 1;
-    for i in 0..rows {
-        gtb::copy_run(symbols, word, i * p, (m + i) * q + 1, p);
-    }
 }
 
 // Puts the symbols down, each lower row with the XOR of its symbols in front, and zeros above.
@@ -112,7 +98,7 @@ pub fn extract(shape: Shape, word: &[u32], scratch: &mut [u32], symbols: &mut [u
     match tested {
         Status::Refused(e) => Status::Refused(e),
         Status::Done => {
-            gather(shape, word, symbols);
+            gtb::gather(shape, word, symbols);
             Status::Done
         }
     }

@@ -4,7 +4,7 @@ ghost use lib.ListN.{length};
 ghost use Rattle.parity.specs.Xor.{_⊕_};
 ghost use Rattle.gtb.specs.Square.{at};
 ghost use Rattle.gtb.specs.Rows.{lowerRow};
-ghost use Rattle.gtb.specs.Sweep.{Written};
+ghost use Rattle.parity.specs.Lists.{Written};
 
 // A lower row of the word, at place `a`: `count` symbols from place `start` on, and their XOR before them.
 pub fn place_row(word: &mut [u32], symbols: &[u32], a: usize, start: usize, count: usize)

@@ -5,7 +5,7 @@ use mathlib.Core.List.{List}
 use mathlib.Core.Logic.{⊎-elim}
 use Prim.Native.Nat.{ℕ, _<_, _≤_}
 use native.Mathlib.Omega.{arith}
-use lib.Dec.{eqb, lit≤, lit<}
+use lib.Dec.{eqb, lit≤}
 use borrow.Author.Tests.{eqb-false}
 use lib.ListN.{length, length-replicate}
 use Rattle.parity.proofs.Tests.{either}
@@ -114,6 +114,3 @@ late-foreign s e above other = record {
   where
     low : (e′ : Refusal) → refusalNumber e′ ≤ 8 → e′ ≡ e → ⊥
     low e′ few h = let same = ap refusalNumber h in omega (arith, same, few, above)
-
-pub nine-foreign : (s : Shape) → Foreign s Refusal.Overflow
-nine-foreign s = late-foreign s Refusal.Overflow (lit< tt) (λ h. omega arith)

@@ -44,7 +44,7 @@ module _ (s : Shape) (h : Lawful s) where
   unfolding isInformation
   information-row j e = leb-true (s .n - 1) (j / s .q) (and-left _ _ e)
 
-  pub information-column : (j : ℕ) → isInformation s j ≡ true → 1 ≤ j % s .q
+  information-column : (j : ℕ) → isInformation s j ≡ true → 1 ≤ j % s .q
   unfolding isInformation
   information-column j e = leb-true 1 (j % s .q) (and-right (leb (s .n - 1) (j / s .q)) _ e)
 

@@ -154,7 +154,7 @@ module _ (s : Shape) (h : Lawful s) where
   unfolding keptChecks
   kept-total = kept-sum ∙ omega (arith, checks-parts s h)
 
-  pub kept-checks : keptChecks s ≡ s .n * (s .q - 1) + 1
+  kept-checks : keptChecks s ≡ s .n * (s .q - 1) + 1
   kept-checks = sym kept-total ∙ kept-sum
 
   -- direction and line of a kept number, and back

@@ -9,15 +9,12 @@ pub mod Words
 pub mod Alikes
 pub mod Standard
 pub mod Answers
-pub mod Sweeps
 pub mod Copies
-pub mod Writes
-pub mod Doubles
 pub mod Turns
-pub mod Directions
 pub mod Information
 pub mod Silence
 pub mod Codewords
 pub mod Positions
+pub mod Gathers
 pub mod Kept
 pub mod Crossing

@@ -88,7 +88,7 @@ zero-after s h f quiet j low z i lt l =
     lower = le-div-iff-mul-le (positive s h) .1 (omega (arith, le-div-iff-mul-le (positive s h) .0 low))
 
 -- the silent word that is 1 there and 0 on the other information positions shows it
-pub information-dependent : (s : Shape) → Lawful s → (j : ℕ) → j < wordLength s → isInformation s j ≡ true → Dependent s j
+information-dependent : (s : Shape) → Lawful s → (j : ℕ) → j < wordLength s → isInformation s j ≡ true → Dependent s j
 information-dependent s h j l e =
     let g : ℕ → ℕ = λ i. bit (eqb i j) in
     let (f, quiet, same, small) = silent-exists s h 1 g (λ i. omega (arith, bit-le (eqb i j))) in
@@ -137,7 +137,7 @@ unfolding ones
 ones-after j chosen i l = ap (λ (b : Bool). cond b (chosen i) (eqb i j)) (le-ltb i j (omega arith)) ∙ ne-eqb i j (λ e. omega arith)
 
 -- as a word they are silent
-pub dependent-information : (s : Shape) → Lawful s → (j : ℕ) → j < wordLength s → Dependent s j → isInformation s j ≡ true
+dependent-information : (s : Shape) → Lawful s → (j : ℕ) → j < wordLength s → Dependent s j → isInformation s j ≡ true
 dependent-information s h j l d =
     last-nonzero s h (λ i. bit (p i)) quiet j l (λ z. omega (arith, bit-true (ones-here j (d .chosen))))
     (λ i lt. bit-false (ones-after j (d .chosen) i lt))

@@ -34,7 +34,7 @@ syndrome-row s h f L l =
     rows _ _ _ ∙ exchange _ _ _ ∙ cong _ _ _ (λ c lc. only-sum _ _ L (column-only s c L lc l) (λ r. f (r * s .q + c)))
 
 -- of each row one symbol is on a line of direction t + 1
-pub row-line : (s : Shape) → Lawful s → (f : ℕ → ℕ) (t r L : ℕ) → suc t < s .n → r < s .q → L < s .q
+row-line : (s : Shape) → Lawful s → (f : ℕ → ℕ) (t r L : ℕ) → suc t < s .n → r < s .q → L < s .q
     → xorSum (s .q) (λ c. when (eqb (lineOf s (suc t) (r * s .q + c)) L) (f (r * s .q + c)))
     ≡ f (r * s .q + (L + shiftOf s t * r) % s .q)
 row-line s h f t r L lt lr l = only-sum _ _ _ (row-only s h t r L lt l) (λ c. f (r * s .q + c))

@@ -46,7 +46,7 @@ new t l =
     same u d = eqb-true (getD standardSlopes u 0) (getD standardSlopes t 0) (not-false (eqb (getD standardSlopes u 0) (getD standardSlopes t 0)) d)
 
 -- they pass test 18 where test 1 is passed
-pub standard-sloped : (q n b : ℕ) → regular (standard q n b) ≡ true → sloped (standard q n b) ≡ true
+standard-sloped : (q n b : ℕ) → regular (standard q n b) ≡ true → sloped (standard q n b) ≡ true
 unfolding sloped
 standard-sloped q n b h =
     let few = regular-directions (standard q n b) h in

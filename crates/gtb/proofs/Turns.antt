@@ -3,7 +3,6 @@ use mathlib.Core.Path.{_≡_, _∙_, sym, ap, subst, subst⁻¹}
 use Prim.Native.Nat.{ℕ, zero-le, _+_, _*_, _%_, _≤_, _<_}
 use native.Mathlib.Nat.{mul-zero, zero-mod, suc-mul, mul-suc, mul-le-mul, mul-le-mul-right, lt-of-le-of-lt, mod-lt, mod-add-mod}
 use native.Mathlib.Numerals.{add-one}
-use Rattle.gtb.specs.Square.{at}
 
 -- row r lies within the word
 pub row-in : (r q : ℕ) → r < q → r * q + q ≤ q * q

@@ -4,5 +4,4 @@ pub mod Square
 pub mod Positions
 pub mod Kept
 pub mod Answer
-pub mod Sweep
 pub mod Rows

@@ -4,9 +4,10 @@ use mathlib.Core.Bool.{Bool}
 use mathlib.Core.List.{List}
 use Prim.Native.Nat.{ℕ, zero, suc, _+_, _*_, _/_, _%_, _^_, _<_}
 use lib.Dec.{eqb, ltb}
-use lib.ListN.{length, getD}
+use lib.ListN.{length}
 use Rattle.parity.specs.Xor.{xorSum, when}
 use Rattle.parity.specs.Count.{all}
+pub use Rattle.parity.specs.Lists.{at}
 use Rattle.gtb.specs.declared.Shape.{Shape}
 use Rattle.gtb.specs.Shape.{slopeOf, wordLength}
 
@@ -14,10 +15,6 @@ use Rattle.gtb.specs.Shape.{slopeOf, wordLength}
 unfoldable pub lineOf : Shape → ℕ → ℕ → ℕ
 lineOf s zero j = j / s .q
 lineOf s (suc t) j = (j % s .q + slopeOf s (suc t) * (j / s .q)) % s .q
-
--- the symbol at a position
-abbrev pub at : List ℕ → ℕ → ℕ
-at w j = getD w j 0
 
 -- each symbol is below 2^b
 unfoldable pub narrow : ℕ → List ℕ → Bool

@@ -1,19 +1,16 @@
-// The code of the trace square: its shape, the answers that every entry gives, and the syndromes of a word.
-mod doubled;
-mod literal;
+// The code of the trace square: its shape, and the answers that every entry gives.
 pub mod number;
 pub mod size;
-pub mod syndrome;
 
 ghost use mathlib.Core.Path.{_≡_};
 ghost use mathlib.Core.Bool.{true};
 ghost use mathlib.Core.List.{_++_};
 ghost use Prim.Native.Nat.{_+_, _%_, _≤_, _<_};
 ghost use lib.ListN.{length, drop, replicate};
-ghost use Rattle.parity.specs.Xor.{xorSum};
-ghost use Rattle.gtb.specs.Shape.{slopeOf, isOrder, regular, fitsSlope, sloped, lawful, shapeRefusal};
+ghost use Rattle.parity.specs.Lists.{Written};
+ghost use Rattle.gtb.specs.Shape.{slopeOf, isOrder, regular, fitsSlope, sloped, lawful, shapeRefusal, Lawful, wordLength, infoLength};
 ghost use Rattle.gtb.specs.Square.{at, narrow};
-ghost use Rattle.gtb.specs.Sweep.{Written};
+ghost use Rattle.gtb.specs.Positions.{extractOf};
 
 // (q, n, b): order, directions and width in bits; then the slopes of the directions from 1 on, of which the first n - 1 count.
 // A caller's shape may hold any numbers.
@@ -200,16 +197,18 @@ pub fn copy_run(to: &mut [u32], from: &[u32], a: usize, start: usize, count: usi
     copy(&from[start..start + count], &mut to[a..a + count]);
 }
 
-// The XOR of `count` values, from place `from` on.
-pub fn run_sum(values: &[u32], from: usize, count: usize) -> u32
-    requires { ⌜ from + count ≤ length (now values) ⌝ }
-    ensures { λ r. ⌜ r ≡ xorSum count (λ i. at (now (values .entry)) (from + i)) ⌝ }
+// Copies the symbols on the information positions, row by row.
+pub fn gather(shape: Shape, word: &[u32], symbols: &mut [u32])
+    requires { ⌜ (Lawful shape) × (length (now word) ≡ wordLength shape) × (length (now symbols) ≡ infoLength shape) ⌝ }
+    ensures { λ _. ⌜ now (symbols .exit) ≡ extractOf shape (now (word .entry)) ⌝ }
 {
-    let mut sum: u32 = 0;
-    for i in 0..count {
-        sum ^= values[from + i];
+    let q = shape.q as usize;
+    let m = shape.n as usize - 1;
+    let rows = q - m;
+    let p = q - 1;
+    for i in 0..rows {
+        copy_run(symbols, word, i * p, (m + i) * q + 1, p);
     }
-    sum
 }
 
 // (a + b) mod q.

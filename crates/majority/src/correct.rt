@@ -82,7 +82,7 @@ pub fn correct(shape: Shape, word: &mut [u32]) -> Decoded
     requires { ⌜ Lawful shape × (length (now word) ≡ wordLength shape) ⌝ }
     ensures { λ r. ⌜ Corrects shape (now (word .entry)) (now (word .exit)) r ⌝ }
 {
-    let mut syn = gtb::syndrome::syndromes(shape, word);
+    let mut syn = syndrome::syndromes(shape, word);
     let q = shape.q as usize;
     let n = shape.n as usize;
     if is_silent(&syn, n * q) {

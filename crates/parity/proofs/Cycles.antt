@@ -28,7 +28,7 @@ shift-one q f p =
     ∙ ap (λ (x : ℕ). f 0 ⊕ x) (sym (first q f) ∙ xs-suc q f ∙ ap (λ (x : ℕ). xorSum q f ⊕ x) (sym (ap f (zero-add q)) ∙ p 0) ∙ comm (xorSum q f) (f 0))
     ∙ twice (f 0) (xorSum q f)
 
-pub shift-total : (q : ℕ) (f : ℕ → ℕ) → ((c : ℕ) → f (c + q) ≡ f c) → (a : ℕ) → xorSum q (λ c. f (c + a)) ≡ xorSum q f
+shift-total : (q : ℕ) (f : ℕ → ℕ) → ((c : ℕ) → f (c + q) ≡ f c) → (a : ℕ) → xorSum q (λ c. f (c + a)) ≡ xorSum q f
 shift-total q f p zero = cong q (λ c. f (c + 0)) f (λ c l. ap f (add-zero c))
 shift-total q f p (suc a) =
     cong q (λ c. f (c + suc a)) (λ c. f (suc c + a)) (λ c l. ap f (omega arith))

@@ -5,6 +5,7 @@ pub mod First
 pub mod Lowest
 pub mod Sums
 pub mod Lists
+pub mod Writes
 pub mod Orders
 pub mod Modular
 pub mod Residues

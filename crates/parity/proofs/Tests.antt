@@ -64,7 +64,7 @@ pub not-of-false : {a : Bool} → a ≡ false → not a ≡ true
 not-of-false h = ap not h
 
 -- ---- each number below n passes
-pub all-suc : (n : ℕ) (p : ℕ → Bool) → all (suc n) p ≡ (all n p && p n)
+all-suc : (n : ℕ) (p : ℕ → Bool) → all (suc n) p ≡ (all n p && p n)
 unfolding all
 all-suc n p = refl
 

@@ -219,7 +219,7 @@ impl Session {
     {
         let shape = self.shape;
         gtb::clear(scratch);
-        encoder::gather(shape, copied, symbols);
+        gtb::gather(shape, copied, symbols);
         match page::read_page(shape, symbols) {
             PageRead::Refused(e) => self.refused(e),
             PageRead::Page(number, count) => {

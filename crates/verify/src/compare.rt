@@ -120,7 +120,7 @@ pub fn is_restored(shape: Shape, received: &[u32], proposed: &[u32]) -> bool
     let q = shape.q as usize;
     let n = shape.n as usize;
     let mut syn = [0u32; 248];
-    gtb::syndrome::fill(shape, proposed, &mut syn);
+    syndrome::fill(shape, proposed, &mut syn);
     if !is_silent(&syn, n * q) {
         return false;
     }

@@ -4,8 +4,8 @@ use Prim.Native.Nat.{_-_, _≤_}
 use native.Mathlib.Omega.{arith}
 use borrow.Author.Needs.{needs}
 use Rattle.gtb.proofs.Bounds.{bounds}
-use Rattle.gtb.proofs.Sizes.{sizes}
-use Rattle.encoder.proofs.Bounds.{Lower, lower, upper-fits}
+use Rattle.gtb.proofs.Sizes.{sizes, Lower, lower}
+use Rattle.encoder.proofs.Bounds.{upper-fits}
 use Rattle.encoder.proofs.Places.{Placing, placing-none, placing-more, placing-all}
 use Rattle.encoder.proofs.place.Statement.{statement}
 use Rattle.encoder.proofs.place.Tie as tie

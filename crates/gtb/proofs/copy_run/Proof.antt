@@ -1,6 +1,6 @@
 -- `gtb::copy_run` meets its contract.
 use borrow.Author.Needs.{needs}
-use Rattle.gtb.proofs.Writes.{written-run}
+use Rattle.parity.proofs.Writes.{written-run}
 use Rattle.gtb.proofs.copy_run.Statement.{statement}
 use Rattle.gtb.proofs.copy_run.Tie as tie
 

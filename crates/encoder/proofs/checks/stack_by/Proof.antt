@@ -5,7 +5,7 @@ use native.Mathlib.Omega.{arith}
 use borrow.Author.Needs.{needs}
 use Rattle.parity.specs.Xor.{xorSum}
 use Rattle.gtb.specs.Square.{at}
-use Rattle.gtb.specs.Sweep.{Written}
+use Rattle.parity.specs.Lists.{Written}
 use Rattle.gtb.proofs.Turns.{row-in, square-le}
 use Rattle.encoder.proofs.Stacks.{after-first, stacking-none, stacking-more}
 use Rattle.encoder.proofs.checks.stack_by.Statement.{statement}

@@ -1,11 +1,11 @@
 -- `encoder::runs::clear_run` meets its contract. The loop's invariant: the first i places are cleared.
-use mathlib.Core.Path.{_≡_, refl}
+use mathlib.Core.Path.{refl}
 use Prim.Native.Nat.{_-_, _≤_}
 use native.Mathlib.Nat.{zero-add}
 use native.Mathlib.Omega.{arith}
 use borrow.Author.Needs.{needs}
-use Rattle.gtb.specs.Sweep.{Written}
-use Rattle.gtb.proofs.Writes.{written-none, written-more}
+use Rattle.parity.specs.Lists.{Written}
+use Rattle.parity.proofs.Writes.{written-none, written-more, written-end}
 use Rattle.encoder.proofs.runs.clear_run.Statement.{statement}
 use Rattle.encoder.proofs.runs.clear_run.Tie as tie
 
@@ -24,9 +24,7 @@ loop-again c =
     (omega arith, rw (zero-add (l .i)) at (written-more 0 (l .i) (λ j. 0) _ _ 0 (omega arith) refl (l .inv .1)))
 
 returns : tie.Need-returns Inv-loop μ-loop
-returns c =
-    let e : c .before .loop .i ≡ c .before .before .args .count = omega arith in
-    rw e at (c .before .loop .inv .1)
+returns c = written-end (c .before .loop .inv .1) (omega arith)
 
 pub clear-run-spec : {M : Type 1} → statement M
 clear-run-spec = tie.close (tie.spec Inv-loop μ-loop loop-holds (λ c. search needs) (λ c. search needs) (λ c. search needs) (λ c. search needs) loop-again (λ c. search needs) returns)

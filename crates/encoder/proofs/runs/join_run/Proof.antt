@@ -5,8 +5,8 @@ use native.Mathlib.Omega.{arith}
 use borrow.Author.Needs.{needs}
 use Rattle.parity.specs.Xor.{_⊕_}
 use Rattle.gtb.specs.Square.{at}
-use Rattle.gtb.specs.Sweep.{Written}
-use Rattle.gtb.proofs.Writes.{written-none, written-more}
+use Rattle.parity.specs.Lists.{Written}
+use Rattle.parity.proofs.Writes.{written-none, written-more, written-end}
 use Rattle.encoder.proofs.runs.join_run.Statement.{statement}
 use Rattle.encoder.proofs.runs.join_run.Tie as tie
 
@@ -28,9 +28,7 @@ loop-again c =
     (omega arith, written-more _ _ _ _ _ _ (omega arith) (ap₂ (λ (x y : ℕ). x ⊕ y) (kept (a .a + l .c) (omega arith)) (kept (a .from + l .c) (omega arith))) (l .inv .1))
 
 returns : tie.Need-returns Inv-loop μ-loop
-returns c =
-    let e : c .before .loop .c ≡ c .before .before .args .count = omega arith in
-    rw e at (c .before .loop .inv .1)
+returns c = written-end (c .before .loop .inv .1) (omega arith)
 
 pub join-run-spec : {M : Type 1} → statement M
 join-run-spec = tie.close (tie.spec Inv-loop μ-loop loop-holds (λ c. search needs) (λ c. search needs) (λ c. search needs) (λ c. search needs) (λ c. search needs) (λ c. search needs) (λ c. search needs) (λ c. search needs) (λ c. search needs) loop-again (λ c. search needs) returns)

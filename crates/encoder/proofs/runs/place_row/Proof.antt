@@ -6,8 +6,8 @@ use borrow.Author.Needs.{needs}
 use Rattle.parity.specs.Xor.{_⊕_, xorSum}
 use Rattle.parity.proofs.XorSums.{xs-zero, more}
 use Rattle.gtb.specs.Square.{at}
-use Rattle.gtb.specs.Sweep.{Written}
-use Rattle.gtb.proofs.Writes.{written-none, written-more}
+use Rattle.parity.specs.Lists.{Written}
+use Rattle.parity.proofs.Writes.{written-none, written-more}
 use Rattle.encoder.proofs.Writes.{written-lower}
 use Rattle.encoder.proofs.runs.place_row.Statement.{statement}
 use Rattle.encoder.proofs.runs.place_row.Tie as tie
