@@ -35,7 +35,7 @@ module _ {p s : ℕ} {e : ℕ → Bool} {m : ℕ → ℕ → Bool} {v : ℕ → 
   combined-same i k f l = c .cell i k l ∙ xor-none (m i k) (and-no-left (m s k) f)
 
   -- a second time undoes it
-  pub combined-back : e s ≡ false → Combined p s e m′ v′ m v
+  combined-back : e s ≡ false → Combined p s e m′ v′ m v
   combined-back f = record {
     cell = λ i k l.
         sym

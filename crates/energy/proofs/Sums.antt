@@ -21,7 +21,7 @@ use Rattle.energy.specs.declared.Billed.the-variants.{Picojoules, Refuse
 use Rattle.energy.specs.Energy.{callsOf, millis, roundedUp, due, billOf}
 
 -- a longer range sums up to no less
-pub sum-rises : (n m : ℕ) (f : ℕ → ℕ) → n ≤ m → sum n f ≤ sum m f
+sum-rises : (n m : ℕ) (f : ℕ → ℕ) → n ≤ m → sum n f ≤ sum m f
 sum-rises n m f l =
     let e : sum m f ≡ sum (n + (m - n)) f = ap (λ (k : ℕ). sum k f) (omega arith) in
     omega (arith, sum-split n (m - n) f)

@@ -33,16 +33,16 @@ use Rattle.erasure.proofs.Lists.{disjoint-count, same-place, place-only
 unfoldable pub spread : List ℕ → (ℕ → ℕ) → ℕ → ℕ
 spread places x j = xorSum (length places) (λ k. when (eqb (at places k) j) (x k))
 
-pub spread-cong : (places : List ℕ) (x y : ℕ → ℕ) → ((k : ℕ) → k < length places → x k ≡ y k) → (j : ℕ) → spread places x j ≡ spread places y j
+spread-cong : (places : List ℕ) (x y : ℕ → ℕ) → ((k : ℕ) → k < length places → x k ≡ y k) → (j : ℕ) → spread places x j ≡ spread places y j
 unfolding spread
 spread-cong places x y h j = cong _ _ _ (λ k l. ap (when (eqb (at places k) j)) (h k l))
 
 -- a position that is not listed does not change
-pub spread-off : (places : List ℕ) (x : ℕ → ℕ) (j : ℕ) → isListed places j ≡ false → spread places x j ≡ 0
+spread-off : (places : List ℕ) (x : ℕ → ℕ) (j : ℕ) → isListed places j ≡ false → spread places x j ≡ 0
 unfolding spread isListed when
 spread-off places x j h = none _ _ (λ k l. ap (λ (b : Bool). when b (x k)) (any-no _ _ h k l))
 
-pub spread-lt : (places : List ℕ) (x : ℕ → ℕ) (b j : ℕ) → ((k : ℕ) → k < length places → x k < 2 ^ b) → spread places x j < 2 ^ b
+spread-lt : (places : List ℕ) (x : ℕ → ℕ) (b j : ℕ) → ((k : ℕ) → k < length places → x k < 2 ^ b) → spread places x j < 2 ^ b
 unfolding spread
 spread-lt places x b j h = bound b _ _ (λ k l. when-lt b (eqb (at places k) j) (x k) (h k l))
 
@@ -53,7 +53,7 @@ when-sum true n f = refl
 when-sum false n f = sym (none n (λ k. 0) (λ k l. refl))
 
 module _ {size : ℕ} {places : List ℕ} (h : Places size places) (x : ℕ → ℕ) where
-  pub spread-at : (k : ℕ) → k < length places → spread places x (at places k) ≡ x k
+  spread-at : (k : ℕ) → k < length places → spread places x (at places k) ≡ x k
   unfolding spread
   spread-at k l = only-sum _ _ k (place-only h k l) x
 
@@ -69,7 +69,7 @@ module _ {size : ℕ} {places : List ℕ} (h : Places size places) (x : ℕ → 
       (λ j lj ne. ap (λ (b : Bool). when (g j) (when b (x k))) (ne-eqb (at places k) j (λ e. ne (sym e))) ∙ when-zero (g j))
       ∙ ap (λ (b : Bool). when (g (at places k)) (when b (x k))) (eq-eqb (at places k) (at places k) refl)
 
-  pub spread-sum : (g : ℕ → Bool) → xorSum size (λ j. when (g j) (spread places x j)) ≡ xorSum (length places) (λ k. when (g (at places k)) (x k))
+  spread-sum : (g : ℕ → Bool) → xorSum size (λ j. when (g j) (spread places x j)) ≡ xorSum (length places) (λ k. when (g (at places k)) (x k))
   unfolding spread
   spread-sum g =
       cong _ _ _ (λ j l. when-sum (g j) (length places) (λ k. when (eqb (at places k) j) (x k)))
@@ -109,7 +109,7 @@ module _ {size : ℕ} {places : List ℕ} (h : Places size places) (x : ℕ → 
       (λ (f : not (eqb (x k) 0) ≡ false). count-none size (changes-at k) (λ j lj. and-no-right (eqb (at places k) j) f) ∙ sym (bit-false f))
       (either (not (eqb (x k) 0)))
 
-  pub spread-count : count size (λ j. not (eqb (spread places x j) 0)) ≡ count (length places) (λ k. not (eqb (x k) 0))
+  spread-count : count size (λ j. not (eqb (spread places x j) 0)) ≡ count (length places) (λ k. not (eqb (x k) 0))
   unfolding count
   spread-count =
       count-cong size _ _ (λ j l. changed-any j)

@@ -94,7 +94,7 @@ module _ {size : ℕ} {places : List ℕ} (h : Places size places) where
     alone = λ i li e. same-place i k li l (eqb-true _ _ e);
   }
 
-  pub position-only : (k : ℕ) → k < length places → Only size (λ j. eqb (at places k) j) (at places k)
+  position-only : (k : ℕ) → k < length places → Only size (λ j. eqb (at places k) j) (at places k)
   position-only k l = record {
     below = h .below k l;
     passes = eq-eqb (at places k) (at places k) (λ i. at places k);

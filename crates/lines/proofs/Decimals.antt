@@ -60,7 +60,7 @@ module _ (P : ℕ → Type 0) (one : (n : ℕ) → n < 10 → P n) (more : (n : 
   below (suc k) n l = ⊎-elim (λ (s : n < 10). one n s) (λ (b : 10 ≤ n). more n b (below k (n / 10) (omega arith))) (by-ten n)
 
   -- induction by dropping the last digit
-  pub by-digits : (n : ℕ) → P n
+  by-digits : (n : ℕ) → P n
   by-digits n = below (suc n) n (lt-suc-self n)
 
 -- the byte is a digit's
@@ -68,7 +68,7 @@ pub record IsDigit (b : ℕ) : Type 0 where
   pub low : 48 ≤ b
   pub high : b ≤ 57
 
-pub is-digit : (d : ℕ) → d < 10 → IsDigit (digit d)
+is-digit : (d : ℕ) → d < 10 → IsDigit (digit d)
 is-digit d l = omega arith
 
 abbrev pub AllDigits : List ℕ → Type 0
@@ -101,7 +101,7 @@ value-decimal =
     by-digits (λ n. value 0 (decimal n) ≡ n) (λ n l. rw (decimal-one n l) (omega arith))
     (λ n l h. rw (decimal-more n l, value-append, h) (omega arith))
 
-pub value-grows : (n : ℕ) (l : List ℕ) → n ≤ value n l
+value-grows : (n : ℕ) (l : List ℕ) → n ≤ value n l
 unfolding value
 value-grows n [] = omega arith
 value-grows n (b ∷ l) = omega (arith, value-grows (n * 10 + (b - 48)) l)

@@ -7,10 +7,6 @@ spelled : spell (5 ∷ 12 ∷ 0 ∷ []) ≡ ascii "5 12 0"
 unfolding spell decimal
 spelled = refl
 
-largest : decimal 4294967295 ≡ ascii "4294967295"
-unfolding decimal
-largest = refl
-
 refused : outcomeText 2 10 0 ≡ ascii "refused 10 0\n"
 unfolding outcomeText outcomeName decimal
 refused = refl

@@ -46,7 +46,7 @@ no-digits (x ∷ t) s r h st e =
     absurd (st .ends (rw q (h .0 .low)) (rw q (h .0 .high)))
 
 -- the value that a text begins with is the only one
-pub same-front : (v x : ℕ) (r s : List ℕ) → Stops r → Stops s → decimal v ++ r ≡ decimal x ++ s → (v ≡ x) × (r ≡ s)
+same-front : (v x : ℕ) (r s : List ℕ) → Stops r → Stops s → decimal v ++ r ≡ decimal x ++ s → (v ≡ x) × (r ≡ s)
 same-front v x r s sr ss e =
     let m = front (decimal v) r (decimal x) s (decimal-digits v) ss e in
     let t : List ℕ = m .0 in
@@ -125,7 +125,7 @@ small-cons v xs l h zero p = l
 small-cons v xs l h (suc i) p = h i (le-of-suc-le-suc p)
 
 -- one value alone
-pub spells-one : (v : ℕ) → v < 2 ^ 32 → Spells (decimal v) (v ∷ [])
+spells-one : (v : ℕ) → v < 2 ^ 32 → Spells (decimal v) (v ∷ [])
 unfolding spell
 spells-one v l = record { some = omega arith; small = small-cons v [] l (λ i p. absurd (not-suc-le-zero p)); text = refl }
 

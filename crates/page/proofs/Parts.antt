@@ -25,7 +25,7 @@ put-rest a xs ys = ap (λ (zs : List ℕ). take a xs ++ (ys ++ zs)) (drop-of-len
     ∙ ap (λ (zs : List ℕ). take a xs ++ zs) (append-nil ys)
 
 -- page number, number of marks and marks are written
-abbrev pub headed : ℕ → List ℕ → List ℕ → List ℕ
+abbrev headed : ℕ → List ℕ → List ℕ → List ℕ
 headed number marks old = set (set old 0 number) 1 (length marks)
 
 pub begun : (number : ℕ) (marks old : List ℕ) {part : List ℕ} → 2 ≤ length old →

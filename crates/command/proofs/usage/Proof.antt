@@ -1,7 +1,6 @@
 -- `command::usage` meets its contract.
 use mathlib.Core.Path.{refl}
 use Rattle.command.specs.Shown.{usageText}
-use borrow.Author.Needs.{needs}
 use Rattle.command.proofs.usage.Statement.{statement}
 use Rattle.command.proofs.usage.Tie as tie
 
