@@ -2,16 +2,14 @@
 use mathlib.Core.Path.{_≡_, refl, sym, ap, ap₂, _∙_}
 use mathlib.Core.Bool.{Bool, true, false}
 use mathlib.Core.List.{List}
-use mathlib.Core.Logic.{⊎-elim}
 use Prim.Native.Nat.{ℕ, _+_, _<_, _≤_}
-use native.Mathlib.Nat.{not-suc-le-zero, eq-or-lt-of-le}
 use native.Mathlib.Omega.{arith}
 use lib.Dec.{eqb}
-use lib.ListN.{length, getD, set, length-set}
-use lib.Seq.{getD-set-same, getD-set-other}
+use lib.ListN.{length, getD, set}
 use Rattle.parity.specs.Count.{bit, count}
 use Rattle.parity.proofs.Sums.{bit-le, count-zero, count-more, count-bound, count-cong}
-use Rattle.parity.proofs.Lists.{is-tabulate, at-tabulate}
+use Rattle.parity.proofs.Lists.{at-tabulate}
+use Rattle.parity.proofs.Writes.{begins-none, begins-more, begins-all}
 use Rattle.gtb.specs.declared.Refusal.{Refusal}
 use Rattle.session.specs.declared.Session.{Session}
 use Rattle.coverage.specs.declared.Covered.the-variants.{Functions, Refused}
@@ -20,17 +18,13 @@ use Rattle.coverage.specs.Steps.{Marking}
 
 -- no function yet
 pub marking-none : (calls bytes : List ℕ) → length bytes ≡ 256 → Marking calls 0 bytes 0
-marking-none calls bytes size = record { size = size; each = λ f l. absurd (not-suc-le-zero l); number = sym (count-zero (isCalled calls)) }
+marking-none calls bytes size = record { written = begins-none size; number = sym (count-zero (isCalled calls)) }
 
 -- one more
 pub marking-more : {calls bytes : List ℕ} {f covered byte : ℕ} → Marking calls f bytes covered → f < 256 → byte ≡ coverByte calls f
     → Marking calls (f + 1) (set bytes f byte) (covered + byte)
 marking-more {calls} {bytes} {f} {covered} {byte} m l is = record {
-  size = length-set bytes f byte ∙ m .size;
-  each = λ g lg.
-      ⊎-elim (λ (e : g ≡ f). ap (λ (x : ℕ). getD (set bytes f byte) x 0) e ∙ getD-set-same bytes f byte 0 (omega (arith, m .size)) ∙ is ∙ sym (ap (coverByte calls) e))
-      (λ (lt : g < f). getD-set-other bytes f g byte 0 (λ e. omega arith) ∙ m .each g lt)
-      (eq-or-lt-of-le (omega arith));
+  written = begins-more byte l is (m .written);
   number = ap₂ (λ (x y : ℕ). x + y) (m .number) is ∙ sym (count-more f (isCalled calls));
 }
 
@@ -39,9 +33,9 @@ pub marking-fits : {calls bytes : List ℕ} {f covered byte : ℕ} → Marking c
 marking-fits {calls} {bytes} {f} m l is = omega (arith, m .number, is, count-bound f (isCalled calls), bit-le (isCalled calls f))
 
 -- all of them
-pub marking-all : {calls bytes : List ℕ} {covered : ℕ} → Marking calls 256 bytes covered → (bytes ≡ coverBytes calls) × (covered ≡ coverCount calls)
+marking-all : {calls bytes : List ℕ} {covered : ℕ} → Marking calls 256 bytes covered → (bytes ≡ coverBytes calls) × (covered ≡ coverCount calls)
 unfolding coverBytes coverCount
-marking-all {calls} {bytes} m = (is-tabulate 256 (coverByte calls) bytes (m .size) (m .each), m .number)
+marking-all {calls} {bytes} m = (begins-all (m .written), m .number)
 
 -- the answer is the number of bytes that are 1
 yes-one : (b : Bool) → eqb (bit b) 1 ≡ b

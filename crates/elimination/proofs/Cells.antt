@@ -14,9 +14,10 @@ use lib.Seq.{getD-set-same, getD-set-other}
 use borrow.Author.Count.{below-more}
 use borrow.Author.Tests.{eqb-true, eqb-false}
 use Rattle.parity.specs.Xor.{_⊕_, when}
+use Rattle.parity.specs.Lists.{at}
 use Rattle.parity.proofs.Xors.{zero-r}
 use Rattle.parity.proofs.Tests.{either, and-no-left}
-use Rattle.elimination.specs.Packed.{at, bitAt, cellOf}
+use Rattle.elimination.specs.Packed.{bitAt, cellOf}
 use Rattle.elimination.specs.Steps.{Row, Added}
 use Rattle.elimination.proofs.Systems.{xor-none}
 

@@ -11,8 +11,9 @@ use lib.Dec.{eqb, ltb}
 use lib.ListN.{length, set, length-set}
 use borrow.Author.Tests.{ne-eqb, eqb-true, eqb-false, lt-ltb, le-ltb}
 use Rattle.parity.specs.Xor.{_⊕_, when}
+use Rattle.parity.specs.Lists.{at}
 use Rattle.parity.proofs.Tests.{either, and-no-left, and-no-right, not-of-true}
-use Rattle.elimination.specs.Packed.{at, cellOf}
+use Rattle.elimination.specs.Packed.{cellOf}
 use Rattle.elimination.specs.Outcome.{Room}
 use Rattle.elimination.specs.Steps.{lifted, cleared, Reduced, First, Row, Added, Joined, Progress}
 use Rattle.elimination.proofs.Systems.{xor-none, when-off, combined-same, combined-more, combined-kept, kept-none, kept-trans}
@@ -109,7 +110,7 @@ cleared-none {S} {u = u} k {xs} size = joined-none (cleared (u + 1) (cellOf S xs
         ]
 
 -- the rows up to u are left out
-pub cleared-above : (i : ℕ) (m : ℕ → ℕ → Bool) (k u t : ℕ) → t ≤ u → cleared i m k u t ≡ false
+cleared-above : (i : ℕ) (m : ℕ → ℕ → Bool) (k u t : ℕ) → t ≤ u → cleared i m k u t ≡ false
 cleared-above i m k u t l = and-no-right (ltb t i) (and-no-left (m t k) (le-ltb u t l))
 
 pub cleared-own : (i : ℕ) (m : ℕ → ℕ → Bool) (k u : ℕ) → cleared i m k u u ≡ false

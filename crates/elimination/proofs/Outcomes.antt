@@ -3,17 +3,15 @@ use mathlib.Core.Path.{_≡_, refl, sym, ap, _∙_}
 use mathlib.Core.Bool.{Bool, not}
 use mathlib.Core.List.{List}
 use Prim.Native.Nat.{ℕ, _<_, _≤_}
-use native.Mathlib.Nat.{lt-of-lt-of-le}
 use native.Mathlib.Omega.{arith}
 use lib.Dec.{eqb}
-use lib.Pow.{pow-mono}
 use borrow.Author.Tests.{eqb-true, eqb-false, not-true, not-false}
 use Rattle.parity.specs.Xor.{_⊕_}
-use Rattle.parity.proofs.Xors.{self, twice, lt-pow}
+use Rattle.parity.specs.Lists.{at}
+use Rattle.parity.proofs.Xors.{self, twice}
 use Rattle.elimination.specs.declared.Outcome.{Outcome}
 use Rattle.elimination.specs.declared.Outcome.the-variants.{Solved, Unsolvable, Ambiguous}
-use Rattle.elimination.specs.System.{Below, Impossible, Unique, Several}
-use Rattle.elimination.specs.Packed.{at}
+use Rattle.elimination.specs.System.{Impossible, Unique, Several}
 use Rattle.elimination.specs.Outcome.{Eliminated}
 use Rattle.elimination.specs.Steps.{First, Progress, Substituted}
 use Rattle.elimination.proofs.Ends.{end-none, end-one, end-several}
@@ -80,10 +78,3 @@ answer-only Unsolvable Ambiguous h k = absurd (none-or-several (h .unsolvable re
 answer-only Ambiguous Solved h k = absurd (one-or-several (k .solved refl) (h .ambiguous refl))
 answer-only Ambiguous Unsolvable h k = absurd (none-or-several (k .unsolvable refl) (h .ambiguous refl))
 answer-only Ambiguous Ambiguous h k = refl
-
--- the other solution is as narrow as the values too, if these have a bit at all
-pub other-narrow : {p r : ℕ} {m : ℕ → ℕ → Bool} {v : ℕ → ℕ} (h : Several p r m v) (b : ℕ) → 1 ≤ b → Below b r v
-    → Below b p (λ k. h .one k ⊕ h .change k)
-other-narrow h b l hv = record {
-  below = λ k lk. lt-pow b (h .one k) (h .change k) (h .narrow b hv .below k lk) (lt-of-lt-of-le (h .small .below k lk) (pow-mono l));
-}

@@ -11,9 +11,10 @@ use lib.ListN.{length, set, length-set}
 use lib.Seq.{getD-set-same, getD-set-other}
 use borrow.Author.Count.{below-more}
 use Rattle.parity.specs.Xor.{_⊕_, xorSum, when}
+use Rattle.parity.specs.Lists.{at}
 use Rattle.parity.proofs.Xors.{assoc, self, zero-r}
 use Rattle.elimination.specs.System.{rowSum, Solves}
-use Rattle.elimination.specs.Packed.{at, cellOf}
+use Rattle.elimination.specs.Packed.{cellOf}
 use Rattle.elimination.specs.Steps.{TakenOff, Substituted}
 use Rattle.elimination.proofs.Sums.{row-unit}
 

@@ -3,10 +3,11 @@ use mathlib.Core.Path.{_≡_}
 use mathlib.Core.List.{List}
 use Prim.Native.Nat.{ℕ, _*_, _≤_}
 use lib.ListN.{length}
+use Rattle.parity.specs.Lists.{at}
 use Rattle.elimination.specs.declared.Outcome.{Outcome}
 use Rattle.elimination.specs.declared.Outcome.the-variants.{Solved, Unsolvable, Ambiguous}
 use Rattle.elimination.specs.System.{Impossible, Unique, Several}
-use Rattle.elimination.specs.Packed.{at, cellOf}
+use Rattle.elimination.specs.Packed.{cellOf}
 
 -- r rows of S values lie in the scratch, p columns in a row's bits
 pub record Room (r S p : ℕ) (scratch values : List ℕ) : Type 0 where

@@ -3,11 +3,7 @@ use mathlib.Core.Bool.{Bool}
 use mathlib.Core.List.{List}
 use Prim.Native.Nat.{ℕ, _+_, _*_, _/_, _%_, _^_}
 use lib.Dec.{eqb}
-use lib.ListN.{getD}
-
--- the value at a place
-abbrev pub at : List ℕ → ℕ → ℕ
-at xs i = getD xs i 0
+use Rattle.parity.specs.Lists.{at}
 
 -- bit k of a value is set
 unfoldable pub bitAt : ℕ → ℕ → Bool

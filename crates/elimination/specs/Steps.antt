@@ -7,8 +7,9 @@ use Prim.Native.Nat.{ℕ, _+_, _*_, _^_, _<_, _≤_}
 use lib.Dec.{eqb, ltb}
 use lib.ListN.{length}
 use Rattle.parity.specs.Xor.{_⊕_, when}
+use Rattle.parity.specs.Lists.{at}
 use Rattle.elimination.specs.System.{Solves, Below}
-use Rattle.elimination.specs.Packed.{at, cellOf}
+use Rattle.elimination.specs.Packed.{cellOf}
 
 -- row s is XORed onto the rows i with e i, and its value onto theirs
 pub record Combined (p s : ℕ) (e : ℕ → Bool) (m : ℕ → ℕ → Bool) (v : ℕ → ℕ) (m′ : ℕ → ℕ → Bool) (v′ : ℕ → ℕ) : Type 0 where

@@ -7,7 +7,8 @@ ghost use mathlib.Core.Logic.{_⊎_};
 ghost use lib.Dec.{eqb};
 ghost use lib.ListN.{length};
 ghost use Rattle.parity.specs.Xor.{when};
-ghost use Rattle.elimination.specs.Packed.{at, bitAt, cellOf};
+ghost use Rattle.parity.specs.Lists.{at};
+ghost use Rattle.elimination.specs.Packed.{bitAt, cellOf};
 ghost use Rattle.elimination.specs.Outcome.{Room, Eliminated};
 ghost use Rattle.elimination.specs.Steps.{lifted, cleared, Reduced, First, Row, Added, Joined, Progress, TakenOff, Substituted};
 

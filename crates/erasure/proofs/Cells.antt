@@ -13,9 +13,10 @@ use lib.ListN.{length, set, length-set, replicate}
 use borrow.Author.Tests.{eqb-true, eqb-false, eq-eqb}
 use Rattle.parity.specs.Xor.{_⊕_, when}
 use Rattle.parity.specs.Count.{all}
+use Rattle.parity.specs.Lists.{at}
 use Rattle.parity.proofs.Tests.{either, agree, same-eqb, and-left, and-right, all-elim}
 use Rattle.parity.proofs.Lists.{at-zeros}
-use Rattle.elimination.specs.Packed.{at, bitAt, cellOf}
+use Rattle.elimination.specs.Packed.{bitAt, cellOf}
 use Rattle.elimination.proofs.Cells.{bit-xor, row-before, added-value}
 use Rattle.elimination.proofs.Systems.{xor-none}
 use Rattle.erasure.specs.Steps.{Flipped}

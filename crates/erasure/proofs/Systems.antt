@@ -2,13 +2,11 @@
 use mathlib.Core.Path.{_≡_, refl, sym, ap, _∙_, subst}
 use mathlib.Core.Bool.{Bool, true, false, xor, _&&_}
 use mathlib.Core.List.{List}
-use Prim.Native.Nat.{ℕ, _+_, _*_, _/_, _<_, _≤_}
-use native.Mathlib.Nat.{not-suc-le-zero, mul-le-mul-left}
+use Prim.Native.Nat.{ℕ, _+_, _*_, _/_, _≤_}
+use native.Mathlib.Nat.{mul-le-mul-left}
 use native.Mathlib.Omega.{arith}
 use lib.Dec.{eqb, ltb}
-use lib.ListN.{length, set, length-set, replicate, length-replicate}
-use lib.Seq.{getD-set-same, getD-set-other}
-use borrow.Author.Count.{below-more}
+use lib.ListN.{length, replicate, length-replicate}
 use borrow.Author.Tests.{lt-ltb, le-ltb, ne-eqb}
 use Rattle.parity.proofs.Tests.{and-no-left}
 use Rattle.elimination.specs.Outcome.{Room}
@@ -85,22 +83,8 @@ module _ (s : Shape) {S : ℕ} (places : List ℕ) where
       rows-more (λ c. onKept s i (at places c)) c k
       ∙ ap (xor (firstPlaces s places k i c)) (single (λ c. onKept s i (at places c)) k refl c))
 
--- ---- the values
-pub asked-none : (s : Shape) (syn values : List ℕ) → length values ≡ 248 → Asked s syn 0 values
-asked-none s syn values e = record { size = e; value = λ i l. absurd (not-suc-le-zero l) }
-
-pub asked-more : {s : Shape} {syn values : List ℕ} {i : ℕ} (check : ℕ) → i < 248 → check ≡ keptDirection s i * s .q + keptLine s i
-    → Asked s syn i values → Asked s syn (i + 1) (set values i (at syn check))
-asked-more {s} {syn} {values} {i} check l e h = record {
-  size = length-set values i (at syn check) ∙ h .size;
-  value =
-      below-more (λ k. at (set values i (at syn check)) k ≡ at syn (keptDirection s k * s .q + keptLine s k)) i
-      (λ k lk. getD-set-other values i k (at syn check) 0 (λ q. omega arith) ∙ h .value k lk)
-      (getD-set-same values i (at syn check) 0 (omega (arith, h .size)) ∙ ap (at syn) e);
-}
-
 -- ---- both
-pub table-fits : (s : Shape) → Lawful s → (p : ℕ) (scratch : List ℕ) → p ≤ wordLength s → length scratch ≡ scratchLength s → Table s ((p + 31) / 32) p scratch
+table-fits : (s : Shape) → Lawful s → (p : ℕ) (scratch : List ℕ) → p ≤ wordLength s → length scratch ≡ scratchLength s → Table s ((p + 31) / 32) p scratch
 unfolding scratchLength
 table-fits s law p scratch le e = record {
   width = omega (arith, sizes s law .word);
@@ -132,5 +116,5 @@ system-posed {s} {S} {word} {places} {scratch = scratch} n law columns zeros mar
       ∙ ap (λ (b : Bool). b && onKept s i (at places k)) (lt-ltb k (length places) lk);
   value = λ i l.
       let (lt, lL, kept) = kept-rows s law .kept i l in
-      asked .value i l ∙ syndromes .entry (keptDirection s i) (keptLine s i) lt lL;
+      asked .entry i l ∙ syndromes .entry (keptDirection s i) (keptLine s i) lt lL;
 }

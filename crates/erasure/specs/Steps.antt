@@ -7,6 +7,7 @@ use Prim.Native.Nat.{ℕ, _+_, _*_, _<_, _≤_}
 use lib.Dec.{eqb, ltb}
 use lib.ListN.{length}
 use Rattle.parity.specs.Count.{count, all}
+use Rattle.parity.specs.Lists.{Begins}
 use Rattle.elimination.specs.declared.Outcome.{Outcome}
 use Rattle.elimination.specs.declared.Outcome.the-variants as outcome
 use Rattle.elimination.specs.Packed.{cellOf}
@@ -58,9 +59,8 @@ pub record Flipped (S r : ℕ) (e : ℕ → ℕ → Bool) (old new : List ℕ) :
   pub cell : (i c : ℕ) → i < r → c < 32 * S → cellOf S new i c ≡ xor (cellOf S old i c) (e i c)
 
 -- the first m values are those of the first m kept checks, in the table `syn`
-pub record Asked (s : Shape) (syn : List ℕ) (m : ℕ) (values : List ℕ) : Type 0 where
-  pub size : length values ≡ 248
-  pub value : (i : ℕ) → i < m → at values i ≡ at syn (keptDirection s i * s .q + keptLine s i)
+abbrev pub Asked : Shape → List ℕ → ℕ → List ℕ → Type 0
+Asked s syn m values = Begins 248 m (λ i. at syn (keptDirection s i * s .q + keptLine s i)) values
 
 -- the changes that make every kept check zero are the solutions of these rows: row i has the places on kept check i, and asks for its value
 pub record Posed (s : Shape) (word places : List ℕ) (S : ℕ) (scratch values : List ℕ) : Type 0 where

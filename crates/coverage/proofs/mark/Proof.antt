@@ -28,7 +28,7 @@ loop-again c =
     (omega arith, marking-more (at .loop .inv .1) (c .before .before .loop-test .taken) (c .covers .ensures))
 
 same-length : tie.Need-same-length Inv-loop μ-loop
-same-length c = c .before .loop .inv .1 .size ∙ sym (c .before .before .before .pre)
+same-length c = c .before .loop .inv .1 .written .size ∙ sym (c .before .before .before .pre)
 
 returns : tie.Need-returns Inv-loop μ-loop
 returns c =

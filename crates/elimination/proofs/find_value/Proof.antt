@@ -8,7 +8,7 @@ use borrow.Author.Tests.{eq-eqb, ne-eqb}
 use borrow.Author.Count.{below-more}
 use borrow.Author.Needs.{needs}
 use Rattle.parity.proofs.Tests.{not-of-true, not-of-false}
-use Rattle.elimination.specs.Packed.{at}
+use Rattle.parity.specs.Lists.{at}
 use Rattle.elimination.proofs.find_value.Statement.{statement}
 use Rattle.elimination.proofs.find_value.Tie as tie
 

@@ -3,10 +3,10 @@ use mathlib.Core.Path.{_≡_}
 use Prim.Native.Nat.{_-_, _<_, _≤_}
 use native.Mathlib.Nat.{le-antisymm}
 use native.Mathlib.Omega.{arith}
+use Rattle.parity.proofs.Writes.{begins-none, begins-more}
 use Rattle.gtb.specs.Shape.{keptChecks}
 use Rattle.gtb.proofs.Sizes.{sizes}
 use Rattle.erasure.specs.Steps.{Asked}
-use Rattle.erasure.proofs.Systems.{asked-none, asked-more}
 use Rattle.erasure.proofs.Numbers.{kept-fits}
 use borrow.Author.Needs.{needs}
 use Rattle.erasure.proofs.system.ask.Statement.{statement}
@@ -19,7 +19,7 @@ abbrev μ-loop : tie.MeasureT-loop
 μ-loop shape syn values₀ rows i₀ values i = rows - i
 
 loop-holds : tie.Need-loop-holds Inv-loop μ-loop
-loop-holds c = (search needs, c .kept-checks .ensures, asked-none _ _ _ (c .before .pre .1))
+loop-holds c = (search needs, c .kept-checks .ensures, begins-none (c .before .pre .1))
 
 -- the check is a kept one, and both places are in the tables
 below : (c : tie.In-loop Inv-loop μ-loop) → c .before .loop .i < keptChecks (c .before .before .before .args .shape)
@@ -52,7 +52,7 @@ loop-again : tie.Need-loop-again Inv-loop μ-loop
 loop-again c =
     let k = c .before in
     let l = k .before .before .loop in
-    (search needs, l .inv .1, asked-more (k .kept-check .result) (inside (k .before)) (k .kept-check .ensures) (l .inv .2))
+    (search needs, l .inv .1, begins-more _ (inside (k .before)) (rw (k .kept-check .ensures)) (l .inv .2))
 
 returns : tie.Need-returns Inv-loop μ-loop
 returns c =
