@@ -51,7 +51,9 @@ pub fn run() {
     println!();
     missed.extend(program::table());
     println!();
-    println!("Targets: reading, writing, arrivals and the program at most 1.00 of the tuned counterpart, reading at most");
+    println!(
+        "Targets: reading, writing, arrivals and the program at most 1.00 of the tuned counterpart, reading at most"
+    );
     println!("0.50 of the straightforward reader; dead cells at most 0.50 of the straightforward way for n places and");
     println!("1.50 for half of all; reading by vote at most 1.20 of the tuned vote; reading two wrong symbols at most");
     println!("1.50 of clean reading, checking a proposal at most 1.00 of it; a bundle of 64 words at most 0.90 of 64");

@@ -7,7 +7,7 @@ use crate::reference::energy::bill;
 use crate::reference::filler::fill;
 use crate::reference::page::{read_page, write_page};
 use crate::reference::reader::{decode, looked};
-use crate::reference::session::{Outcome, Session, SESSION_LEN};
+use crate::reference::session::{Outcome, Session, CALLS_AT, MARKS_AT, PAGES_AT, SESSION_LEN};
 use crate::reference::shape::{Refusal, Shape, SHAPE_LEN};
 use crate::reference::voter::decode_majority;
 use crate::reference::writer::{encode, extract};
@@ -97,6 +97,9 @@ pub struct After {
     pub slices: Vec<Vec<u32>>,
 }
 
+/// The reference or the library.
+pub type Make = fn(&Call) -> After;
+
 /// An entry's answer as one u32: a refusal is 2^31 plus its number.
 pub fn answer_of(result: Result<u32, Refusal>) -> u64 {
     result.map_or_else(|refusal| (1 << 31) + u64::from(refusal.number()), u64::from)
@@ -126,10 +129,10 @@ impl Call {
         self.lent_shape.clone().unwrap_or_else(|| self.shape.values().to_vec())
     }
 
-    /// Everything that is lent.
+    /// Everything that is lent; long lists are cut off.
     pub fn text(&self) -> String {
         let slices = self.entry.slice_names().iter().zip(&self.slices);
-        let slices: Vec<String> = slices.map(|(name, slice)| format!("{name} {}", brief(slice))).collect();
+        let slices: Vec<String> = slices.map(|(name, slice)| slice_text(name, slice)).collect();
         let shape = brief(&self.shape_values());
         format!("{:?} of shape {shape}, number {}, {}", self.entry, self.number, slices.join(", "))
     }
@@ -300,6 +303,18 @@ fn shown(answer: u64) -> String {
         0x8000_0000_0000_0001..=0x8000_0000_0000_0013 => format!("refusal {}", answer - (1 << 63)),
         _ => answer.to_string(),
     }
+}
+
+/// A slice by its name; a session in its parts.
+fn slice_text(name: &str, slice: &[u32]) -> String {
+    let cut_off = |values: &[u32]| format!("{:.1000}", brief(values));
+    if name != "session" || slice.len() != SESSION_LEN {
+        return format!("{name} {}", cut_off(slice));
+    }
+    let (shape, figures) = slice[..MARKS_AT].split_at(PAGES_AT);
+    let (marks, calls) = slice[MARKS_AT..].split_at(CALLS_AT - MARKS_AT);
+    let [shape, figures, marks, calls] = [shape, figures, marks, calls].map(cut_off);
+    format!("session of shape {shape}, figures {figures}, marks {marks}, calls {calls}")
 }
 
 /// A list of numbers, long runs of one number told by their length.

@@ -1,8 +1,7 @@
-//! Calls of the proved library, compared with the reference.
+//! Calls of the proved library.
 
-use crate::call::{difference, After, Call, Entry};
+use crate::call::{After, Call, Entry};
 use crate::ffi;
-use crate::shrink::{with_zeros, Case};
 
 impl Call {
     pub fn on_library(&self) -> After {
@@ -44,26 +43,6 @@ impl Call {
         };
         assert!(lent_shape.take_back() == self.shape_values(), "the lent shape was written to");
         After { answer, slices: slices.into_iter().map(Fenced::take_back).collect() }
-    }
-}
-
-impl Case for Call {
-    fn difference(&self) -> Option<String> {
-        difference(self.entry, &self.on_reference(), &self.on_library())
-    }
-
-    fn smaller(&self) -> impl Iterator<Item = Call> {
-        let with_slice = |i: usize, values: Vec<u32>| {
-            let mut call = self.clone();
-            call.slices[i] = values;
-            call
-        };
-        let zeroed = move |i: usize| with_zeros(&self.slices[i]).map(move |values| with_slice(i, values));
-        (0..self.slices.len()).flat_map(zeroed)
-    }
-
-    fn describe(&self) -> String {
-        self.text()
     }
 }
 

@@ -2,8 +2,9 @@
 //! after the other, and by the case itself: which words are refused, and whose tally the session ends with.
 
 use super::calls::{resized, turned_down};
-use super::figures::{any_calls, any_marks, bad_slope, figures, plain_marks, session, Come, Make};
-use crate::call::{difference, After, Call, Entry};
+use super::expect::expect;
+use super::figures::{any_calls, any_marks, bad_slope, figures, plain_marks, session, Come};
+use crate::call::{After, Call, Entry, Make};
 use crate::capture::{page_numbers, recording, Page};
 use crate::damage::{allowed, apply, make as damage, Style};
 use crate::random::Random;
@@ -78,17 +79,12 @@ fn singles(make: Make, call: &Call) -> After {
     After { answer: 0, slices: vec![session, words, scratch, outcomes] }
 }
 
-fn expect(make: Make, call: &Call, expected: &After) -> Result<(), String> {
-    let shown = |found| format!("{:.4000}: {found}", call.text());
-    difference(call.entry, expected, &make(call)).map_or(Ok(()), |found| Err(shown(found)))
-}
-
 /// The call against single arrivals; what it leaves.
 fn follow(make: Make, call: &Call) -> Result<After, String> {
     let expected = singles(make, call);
     expect(make, call, &expected)?;
     if expected.slices[2].iter().any(|&value| value != 0) {
-        return Err(format!("{:.4000}: the scratch is left in use", call.text()));
+        return Err(format!("{}: the scratch is left in use", call.text()));
     }
     Ok(expected)
 }

@@ -1,11 +1,11 @@
 //! Writing and extraction for every (q, n), with the standard slopes and with others.
 
+use super::expect::expect_reference;
 use crate::call::{Call, Entry};
 use crate::random::Random;
 use crate::reference::shape::{orders_and_directions, Shape};
 use crate::reference::writer::codeword;
 use crate::report::{Group, Unit, Verdict};
-use crate::shrink::expect;
 
 pub fn group() -> Group {
     let mut group = Group::new("writing and extraction", Unit::Calls);
@@ -33,10 +33,10 @@ fn random_symbols(q: u32, n: u32, random: &mut Random) -> Verdict {
         for _ in 0..12 {
             let shape = random.shape(q, n, b);
             let data = random.symbols(shape, shape.data_len());
-            expect(&encode(shape, &data, random))?;
-            expect(&extract(shape, &codeword(shape, &data), random))?;
+            expect_reference(Call::on_library, &encode(shape, &data, random))?;
+            expect_reference(Call::on_library, &extract(shape, &codeword(shape, &data), random))?;
             let any = random.symbols(shape, shape.word_len());
-            expect(&extract(shape, &any, random))?;
+            expect_reference(Call::on_library, &extract(shape, &any, random))?;
             tried += 3;
         }
     }
@@ -50,7 +50,7 @@ fn single_symbols(q: u32, n: u32, random: &mut Random) -> Verdict {
         for k in 0..shape.data_len() {
             let mut data = vec![0; shape.data_len()];
             data[k] = random.nonzero_symbol(shape);
-            expect(&encode(shape, &data, random))?;
+            expect_reference(Call::on_library, &encode(shape, &data, random))?;
             tried += 1;
         }
     }

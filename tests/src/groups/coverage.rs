@@ -2,13 +2,14 @@
 //! come of each call is said here, not asked of the reference, which is held to it like the library.
 
 use super::calls::{reshaped, resized, turned_down};
-use super::figures::{any_marks, bad_slope, figures, readable, session, wrong_figures, Make};
+use super::expect::expect;
+use super::figures::{any_marks, bad_slope, figures, readable, session, wrong_figures};
 use super::idle::some_pages;
-use crate::call::{difference, After, Call, Entry};
+use crate::call::{After, Call, Entry, Make};
 use crate::capture::{recording_of, Page};
 use crate::random::Random;
 use crate::reference::page::FUNCTIONS;
-use crate::reference::session::{CALLS_AT, SESSION_LEN};
+use crate::reference::session::SESSION_LEN;
 use crate::reference::shape::{orders_and_directions, Refusal, Shape};
 use crate::report::{Group, Unit, Verdict};
 use std::collections::BTreeSet;
@@ -46,14 +47,6 @@ fn cover(shape: Shape, calls: &[u32], random: &mut Random) -> Call {
 fn covered(call: &Call, functions: &BTreeSet<usize>) -> After {
     let bytes = (0..FUNCTIONS).map(|function| u32::from(functions.contains(&function))).collect();
     After { answer: functions.len() as u64, slices: vec![call.slices[0].clone(), bytes] }
-}
-
-fn expect(make: Make, call: &Call, expected: &After) -> Result<(), String> {
-    let shown = |found| {
-        let calls = call.slices[0].get(CALLS_AT..).unwrap_or(&[]);
-        format!("{:?}, calls {calls:?}, {} bytes: {found}", call.shape, call.slices[1].len())
-    };
-    difference(call.entry, expected, &make(call)).map_or(Ok(()), |found| Err(shown(found)))
 }
 
 /// One function alone was called, 0 among them; and all but one.

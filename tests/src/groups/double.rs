@@ -1,21 +1,18 @@
 //! Two wrong symbols, whether they cancel on a check or not. What must come is said here where the case itself
 //! settles it, by trying every codeword where these are few, and by the reference elsewhere.
 
-use crate::call::{answer_of, difference, After, Call, Entry};
+use super::calls::{resized, turned_down};
+use super::expect::{expect, expect_reference};
+use crate::call::{answer_of, After, Call, Entry, Make};
 use crate::damage::{apply, make as damage, unmasked, Style, STYLES};
-use crate::groups::calls::{resized, turned_down};
 use crate::random::Random;
 use crate::reference::brute::{all_codewords, all_words, within};
 use crate::reference::shape::{all_slopes, orders_and_directions, Refusal, Shape};
 use crate::reference::square::check;
 use crate::reference::writer::codeword;
 use crate::report::{Group, Unit, Verdict};
-use crate::shrink::{self, with_zeros, Case};
 
 const WIDTHS: [u32; 4] = [1, 8, 31, 32];
-
-/// The reference or the library.
-type Make = fn(&Call) -> After;
 
 /// The group for whichever makes the calls.
 pub fn group(name: &'static str, make: Make) -> Group {
@@ -74,34 +71,6 @@ fn random_codeword(shape: Shape, random: &mut Random) -> Vec<u32> {
 /// Restored to this word, with so many symbols changed.
 fn restored(word: &[u32], changed: usize) -> After {
     After { answer: answer_of(Ok(changed as u32)), slices: vec![word.to_vec()] }
-}
-
-/// A call to be compared with the reference.
-#[derive(Clone)]
-struct Lent {
-    make: Make,
-    call: Call,
-}
-
-impl Case for Lent {
-    fn difference(&self) -> Option<String> {
-        difference(self.call.entry, &self.call.on_reference(), &(self.make)(&self.call))
-    }
-
-    fn smaller(&self) -> impl Iterator<Item = Lent> {
-        let with = |word: Vec<u32>| Lent { make: self.make, call: Call { slices: vec![word], ..self.call.clone() } };
-        with_zeros(&self.call.slices[0]).map(with)
-    }
-
-    fn describe(&self) -> String {
-        self.call.text()
-    }
-}
-
-fn expect(make: Make, call: &Call, expected: &After) -> Result<(), String> {
-    let Some(found) = difference(call.entry, expected, &make(call)) else { return Ok(()) };
-    shrink::expect(&Lent { make, call: call.clone() })?;
-    Err(format!("{:.4000}: {found}", call.text()))
 }
 
 /// Equal symbols cancel on a check that both are on, unequal ones show their XOR there.
@@ -177,7 +146,7 @@ fn three_and_more(make: Make, shape: Shape, random: &mut Random) -> Verdict {
             let call = call(shape, &word);
             let expected = call.on_reference();
             if weight == 3 && expected != turned_down(&call, Refusal::NoPair) {
-                return Err(format!("{:.4000}: a codeword within two symbols, though six part them", call.text()));
+                return Err(format!("{}: a codeword within two symbols, though six part them", call.text()));
             }
             expect(make, &call, &expected)?;
             tried += 1;
@@ -196,7 +165,7 @@ fn random_words(make: Make, shape: Shape, random: &mut Random) -> Verdict {
     let tried = rounds(shape);
     for _ in 0..tried {
         let call = call(shape, &random.symbols(shape, shape.word_len()));
-        expect(make, &call, &call.on_reference())?;
+        expect_reference(make, &call)?;
     }
     Ok(tried.into())
 }
@@ -210,7 +179,7 @@ fn as_clean_reading(make: Make, shape: Shape, random: &mut Random) -> Verdict {
             apply(&unmasked(shape, weight, random), &mut word);
             let clean = make(&Call::new(Entry::Decode, shape, &[&word]));
             if clean.answer != weight as u64 {
-                return Err(format!("{:.4000}: clean reading refuses it", call(shape, &word).text()));
+                return Err(format!("{}: clean reading refuses it", call(shape, &word).text()));
             }
             expect(make, &call(shape, &word), &clean)?;
             tried += 1;
@@ -273,7 +242,7 @@ fn by_definition(codewords: &[Vec<u32>], call: &Call) -> Result<After, String> {
     match &within(codewords, &call.slices[0], 2)[..] {
         [] => Ok(turned_down(call, Refusal::NoPair)),
         [(near, differ)] => Ok(restored(near, *differ)),
-        _ => Err(format!("{:.4000}: two codewords within two symbols", call.text())),
+        _ => Err(format!("{}: two codewords within two symbols", call.text())),
     }
 }
 

@@ -3,13 +3,14 @@
 //! is held to it like the library.
 
 use super::calls::{reshaped, resized, turned_down};
-use super::figures::{any_calls, any_marks, bad_slope, figures, readable, session, wrong_figures, Make};
+use super::expect::expect;
+use super::figures::{any_calls, any_marks, bad_slope, figures, readable, session, wrong_figures};
 use super::idle::{some_pages, tally};
-use crate::call::{difference, After, Call, Entry};
+use crate::call::{After, Call, Entry, Make};
 use crate::capture::{recording_of, Page};
 use crate::random::Random;
 use crate::reference::page::FUNCTIONS;
-use crate::reference::session::{CALLS_AT, MARKS_AT, PAGES_AT, SESSION_LEN};
+use crate::reference::session::{MARKS_AT, PAGES_AT, SESSION_LEN};
 use crate::reference::shape::{orders_and_directions, Refusal, Shape};
 use crate::report::{Group, Unit, Verdict};
 
@@ -88,13 +89,9 @@ fn bill(shape: Shape, calls: &[u32], prices: &[u32], random: &mut Random) -> Cal
     Call::new(Entry::Bill, shape, &[&session, prices])
 }
 
-fn expect(make: Make, call: &Call, answer: u64) -> Result<(), String> {
-    let expected = After { answer, slices: call.slices.clone() };
-    let shown = |found| {
-        let calls = call.slices[0].get(CALLS_AT..).unwrap_or(&[]);
-        format!("{:?}, calls {calls:?}, prices {:?}: {found}", call.shape, call.slices[1])
-    };
-    difference(call.entry, &expected, &make(call)).map_or(Ok(()), |found| Err(shown(found)))
+/// This answer, and session and prices as lent.
+fn expect_answer(make: Make, call: &Call, answer: u64) -> Result<(), String> {
+    expect(make, call, &After { answer, slices: call.slices.clone() })
 }
 
 /// Counts and prices of some functions from 1 on that cost this much together; function 0 has anything.
@@ -124,7 +121,7 @@ fn sums(make: Make, shape: Shape, random: &mut Random) -> Verdict {
     for sum in SUMS {
         for _ in 0..3 {
             let (calls, prices) = costing(sum, random);
-            expect(make, &bill(shape, &calls, &prices, random), answer(sum))?;
+            expect_answer(make, &bill(shape, &calls, &prices, random), answer(sum))?;
             tried += 1;
         }
     }
@@ -139,7 +136,7 @@ fn single_functions(make: Make, shape: Shape, random: &mut Random) -> Verdict {
             let (mut calls, mut prices) = (vec![0; FUNCTIONS], random.numbers(FUNCTIONS));
             (calls[function], prices[function]) = (count, price);
             let sum = if function == 0 { 0 } else { u128::from(count) * u128::from(price) };
-            expect(make, &bill(shape, &calls, &prices, random), answer(sum))?;
+            expect_answer(make, &bill(shape, &calls, &prices, random), answer(sum))?;
             tried += 1;
         }
     }
@@ -153,7 +150,7 @@ fn any_sums(make: Make, shape: Shape, random: &mut Random) -> Verdict {
         let (few, low) = (random.below(32), random.below(32));
         let calls: Vec<u32> = (0..FUNCTIONS).map(|_| random.number() >> few).collect();
         let prices: Vec<u32> = (0..FUNCTIONS).map(|_| random.number() >> low).collect();
-        expect(make, &bill(shape, &calls, &prices, random), answer(sum_of(&calls, &prices)))?;
+        expect_answer(make, &bill(shape, &calls, &prices, random), answer(sum_of(&calls, &prices)))?;
     }
     Ok(rounds)
 }
@@ -167,13 +164,13 @@ fn lengths(make: Make, shape: Shape, random: &mut Random) -> Verdict {
         for length in [0, 1, 255, 257, 512, SESSION_LEN] {
             let mut call = call.clone();
             call.slices[1].resize(length, u32::MAX);
-            expect(make, &call, refused)?;
+            expect_answer(make, &call, refused)?;
             tried += 1;
         }
         for length in [0, FUNCTIONS, SESSION_LEN - 2, SESSION_LEN - 1, SESSION_LEN + 1] {
             let mut call = call.clone();
             call.slices[0] = resized(&call.slices[0], length, random);
-            expect(make, &call, refused)?;
+            expect_answer(make, &call, refused)?;
             tried += 1;
         }
     }
@@ -206,8 +203,8 @@ fn several_faults(make: Make, shape: Shape, random: &mut Random) -> Verdict {
         let b = if has(Refusal::Shape) { 33 } else { shape.b };
         let call = reshaped(&call, Shape { b, ..sloped });
         match ORDER.into_iter().find(|&refusal| has(refusal)) {
-            Some(refusal) => expect(make, &call, turned_down(&call, refusal).answer)?,
-            None => expect(make, &call, answer(sum))?,
+            Some(refusal) => expect_answer(make, &call, turned_down(&call, refusal).answer)?,
+            None => expect_answer(make, &call, answer(sum))?,
         }
         tried += 1;
     }
@@ -231,9 +228,9 @@ fn recordings(make: Make, shape: Shape, random: &mut Random) -> Verdict {
             come.push(page);
         }
         let sum = sum_of(&tally(come.iter().copied()), &prices);
-        expect(make, &Call::new(Entry::Bill, shape, &[&session, &prices]), answer(sum))?;
+        expect_answer(make, &Call::new(Entry::Bill, shape, &[&session, &prices]), answer(sum))?;
     }
     let sum = sum_of(&tally(&pages), &prices);
-    expect(make, &Call::new(Entry::Bill, shape, &[&session, &prices]), answer(sum))?;
+    expect_answer(make, &Call::new(Entry::Bill, shape, &[&session, &prices]), answer(sum))?;
     Ok(arriving.len() as u64 + 1)
 }

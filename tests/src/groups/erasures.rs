@@ -4,7 +4,8 @@
 mod cases;
 mod faults;
 
-use crate::call::{After, Call, Entry};
+use super::expect::{expect, expect_reference};
+use crate::call::{After, Call, Entry, Make};
 use crate::random::Random;
 use crate::reference::brute::{agreeing, all_codewords, all_words};
 use crate::reference::elimination::{Basis, Positions};
@@ -13,8 +14,8 @@ use crate::reference::square::is_codeword;
 use crate::reference::writer::{codeword, information};
 use crate::report::{Group, Unit, Verdict};
 use cases::{
-    damaged, expect, expect_sent, fill, filled, first, limit, list, lost, on_lines, outside, random_codeword, refused,
-    shuffled, some_circuits, some_places, unlisted, Make, PLACES, WORD,
+    damaged, expect_sent, fill, filled, first, limit, list, lost, on_lines, outside, random_codeword, refused,
+    shuffled, some_circuits, some_places, unlisted, PLACES, WORD,
 };
 use faults::{lengths, refused_lists, several_faults, widths};
 
@@ -96,7 +97,7 @@ fn damage_elsewhere(make: Make, shape: Shape, random: &mut Random) -> Verdict {
             if count + others.len() <= limit(shape) {
                 expect(make, &call, &refused(&call, Refusal::Unfillable))?;
             } else {
-                expect(make, &call, &call.on_reference())?;
+                expect_reference(make, &call)?;
             }
             tried += 1;
         }
@@ -127,7 +128,7 @@ fn lines(make: Make, shape: Shape, random: &mut Random) -> Verdict {
                 }
                 let others = unlisted(shape, &places, 1, random);
                 let call = fill(shape, &places, &damaged(shape, word, &others, random), random);
-                expect(make, &call, &call.on_reference())?;
+                expect_reference(make, &call)?;
                 tried += 2;
             }
         }
@@ -209,7 +210,7 @@ fn parity_positions(make: Make, shape: Shape, random: &mut Random) -> Verdict {
     for places in [list(positions.parity.clone()), list(any.positions)] {
         let word = random.symbols(shape, shape.word_len());
         let call = fill(shape, &places, &word, random);
-        expect(make, &call, &call.on_reference())?;
+        expect_reference(make, &call)?;
         if places == list(positions.parity.clone()) {
             expect(make, &call, &filled(&call, &codeword(shape, &information(shape, &word))))?;
         }
@@ -220,7 +221,7 @@ fn parity_positions(make: Make, shape: Shape, random: &mut Random) -> Verdict {
         let mut less = places;
         less.remove(random.below(less.len()));
         let call = fill(shape, &less, &word, random);
-        expect(make, &call, &call.on_reference())?;
+        expect_reference(make, &call)?;
         tried += 3;
     }
     Ok(tried)
@@ -248,7 +249,7 @@ fn any_list(make: Make, shape: Shape, random: &mut Random) -> Verdict {
         let others = unlisted(shape, places, 1, random);
         for word in [damaged(shape, word, &others, random), random.symbols(shape, size)] {
             let call = fill(shape, places, &word, random);
-            expect(make, &call, &call.on_reference())?;
+            expect_reference(make, &call)?;
         }
     }
     for word in [random_codeword(shape, random), random.symbols(shape, size)] {

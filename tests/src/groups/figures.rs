@@ -3,7 +3,8 @@
 //! page numbers, not asked of the reference, which is held to it like the library.
 
 use super::calls::{good, later_faults, reshaped, resized, turned_down, YES};
-use crate::call::{answer_of, brief, difference, After, Call, Entry};
+use super::expect::expect;
+use crate::call::{answer_of, After, Call, Entry, Make};
 use crate::capture::{page_numbers, Page};
 use crate::damage::{make, unmasked, Style};
 use crate::random::Random;
@@ -13,9 +14,6 @@ use crate::reference::shape::{orders_and_directions, Refusal, Shape};
 use crate::reference::writer::codeword;
 use crate::report::{Group, Unit, Verdict};
 use std::collections::BTreeSet;
-
-/// The reference or the library.
-pub(super) type Make = fn(&Call) -> After;
 
 /// The pages that have come.
 pub(super) type Come = BTreeSet<u32>;
@@ -126,15 +124,6 @@ fn calls_with(session: &[u32], shape: Shape, random: &mut Random) -> [Call; 5] {
         call.slices[0] = session.to_vec();
         call
     })
-}
-
-fn expect(make: Make, call: &Call, expected: &After) -> Result<(), String> {
-    let shown = |found| {
-        let part = |range| brief(call.slices[0].get(range).unwrap_or(&[]));
-        let (figures, marks) = (part(PAGES_AT..MARKS_AT), part(MARKS_AT..CALLS_AT));
-        format!("{:?} of {:?}, figures {figures}: {found}; marks {marks:.1000}", call.entry, call.shape)
-    };
-    difference(call.entry, expected, &make(call)).map_or(Ok(()), |found| Err(shown(found)))
 }
 
 /// Nothing else is wrong: 11, and all is as lent, the scratch too.

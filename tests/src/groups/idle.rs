@@ -2,8 +2,9 @@
 //! is said here, not asked of the reference, which is held to it like the library.
 
 use super::calls::turned_down;
-use super::figures::{after_arrival, any_calls, any_marks, figures, plain_marks, readable, session, Come, Make};
-use crate::call::{difference, After, Call, Entry};
+use super::expect::expect;
+use super::figures::{after_arrival, any_calls, any_marks, figures, plain_marks, readable, session, Come};
+use crate::call::{After, Call, Entry, Make};
 use crate::capture::{counted, most_marks, page_numbers, recording_of, Page};
 use crate::random::Random;
 use crate::reference::page::{FUNCTIONS, IDLE, PAGES};
@@ -63,9 +64,9 @@ pub fn tally<'a>(pages: impl IntoIterator<Item = &'a Page>) -> Vec<u32> {
     marks
 }
 
-fn expect(make: Make, call: &Call, page: &Page, expected: &After) -> Result<(), String> {
-    let shown = |found| format!("{:?} of {:?}, marks {:?}: {found}", call.entry, call.shape, page.marks);
-    difference(call.entry, expected, &make(call)).map_or(Ok(()), |found| Err(shown(found)))
+/// The arrival of this page, whose marks are named too where it ends otherwise.
+fn expect_page(make: Make, call: &Call, page: &Page, expected: &After) -> Result<(), String> {
+    expect(make, call, expected).map_err(|found| format!("marks {:?}: {found}", page.marks))
 }
 
 /// A count query of function 0 is answered with this.
@@ -113,7 +114,7 @@ fn among_others(make: Make, shape: Shape, random: &mut Random) -> Verdict {
             let page = Page::in_runs(shape, number, random);
             let (call, weight) = readable(shape, &session, &page, random);
             let expected = after_arrival(&call, &page, weight, &mut come);
-            expect(make, &call, &page, &expected)?;
+            expect_page(make, &call, &page, &expected)?;
             session = expected.slices[0].clone();
             expect_count(make, shape, &session, count)?;
             tried += 2;
@@ -137,11 +138,11 @@ fn nothing_but_idle(make: Make, shape: Shape, random: &mut Random) -> Verdict {
             let before = session(shape, figures(&come), &any_marks(&come, random), &calls);
             let (call, weight) = readable(shape, &before, &page, random);
             let after = taken(&call, &page, weight, &come, &calls);
-            expect(make, &call, &page, &after)?;
+            expect_page(make, &call, &page, &after)?;
             let (call, weight) = readable(shape, &after.slices[0], &page, random);
             let mut again = After { answer: 0, slices: after.slices.clone() };
             again.slices[3] = vec![1, number, weight];
-            expect(make, &call, &page, &again)?;
+            expect_page(make, &call, &page, &again)?;
             expect_count(make, shape, &after.slices[0], count)?;
             tried += 3;
         }
@@ -180,7 +181,7 @@ fn beside_worn(make: Make, shape: Shape, random: &mut Random) -> Verdict {
                 refused.slices[2].fill(0);
                 refused
             };
-            expect(make, &call, &page, &expected)?;
+            expect_page(make, &call, &page, &expected)?;
             tried += 1;
         }
     }
@@ -198,7 +199,7 @@ fn recordings(make: Make, shape: Shape, random: &mut Random) -> Verdict {
     let mut come = Come::new();
     for &page in &arriving {
         let (call, weight) = readable(shape, &session, page, random);
-        expect(make, &call, page, &after_arrival(&call, page, weight, &mut come))?;
+        expect_page(make, &call, page, &after_arrival(&call, page, weight, &mut come))?;
         session = make(&call).slices.swap_remove(0);
         let so_far = pages.iter().filter(|page| come.contains(&page.number));
         if session[CALLS_AT..] != tally(so_far) {

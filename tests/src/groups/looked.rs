@@ -1,8 +1,8 @@
 //! How many checks of each symbol decoding looks at. What must come is said here by counting on each symbol's
 //! own checks, their values made from the definition, not asked of the reference, which is held to it too.
 
-use super::figures::Make;
-use crate::call::{difference, After, Call, Entry};
+use super::expect::expect;
+use crate::call::{After, Call, Entry, Make};
 use crate::damage::{apply, make as make_error, unmasked, Error, STYLES};
 use crate::random::Random;
 use crate::reference::reader::error_of;
@@ -76,11 +76,9 @@ fn number(shown: &[u32]) -> u32 {
     looked
 }
 
-fn expect(make: Make, shape: Shape, word: &[u32], list: Vec<u32>, random: &mut Random) -> Result<(), String> {
+fn expect_list(make: Make, shape: Shape, word: &[u32], list: Vec<u32>, random: &mut Random) -> Result<(), String> {
     let call = Call::new(Entry::Looked, shape, &[word, &random.numbers(word.len())]);
-    let expected = After { answer: 0, slices: vec![word.to_vec(), list] };
-    let shown = |found| format!("{}: {found}", call.text());
-    difference(call.entry, &expected, &make(&call)).map_or(Ok(()), |found| Err(shown(found)))
+    expect(make, &call, &After { answer: 0, slices: vec![word.to_vec(), list] })
 }
 
 /// The numbers of a word, and that its error stands exactly where all checks were looked at and the last is
@@ -95,13 +93,13 @@ fn expect_word(make: Make, shape: Shape, word: &[u32], random: &mut Random) -> R
             return Err(format!("{shape:?}: the number {} of symbol {j} does not fit its error", list[j]));
         }
     }
-    expect(make, shape, word, list, random)
+    expect_list(make, shape, word, list, random)
 }
 
 /// Of a codeword one check a symbol.
 fn codewords(make: Make, shape: Shape, random: &mut Random) -> Verdict {
     let word = codeword(shape, &random.symbols(shape, shape.data_len()));
-    expect(make, shape, &word, vec![1; word.len()], random)?;
+    expect_list(make, shape, &word, vec![1; word.len()], random)?;
     Ok(1)
 }
 

@@ -1,11 +1,11 @@
 //! The page reader and the page writer.
 
+use super::expect::expect_reference;
 use crate::call::{to_bytes, Call, Entry};
 use crate::capture::{page_numbers, Page};
 use crate::random::Random;
 use crate::reference::shape::{orders_and_directions, Shape};
 use crate::report::{Group, Unit, Verdict};
-use crate::shrink::expect;
 
 const WIDTHS: [u32; 8] = [1, 2, 8, 9, 10, 11, 31, 32];
 
@@ -41,9 +41,9 @@ fn reading(q: u32, n: u32, random: &mut Random) -> Verdict {
                 // Most faults fit the width, so that the later tests are reached.
                 data[at] = border(shape, random) & if random.one_in(4) { u32::MAX } else { shape.largest() };
             }
-            expect(&Call::new(Entry::ReadPage, shape, &[&data]))?;
-            expect(&Call::new(Entry::HostReadPage, shape, &[&to_bytes(&data)]))?;
-            expect(&Call::new(Entry::Marks, shape, &[&data, &random.numbers(data.len())]))?;
+            expect_reference(Call::on_library, &Call::new(Entry::ReadPage, shape, &[&data]))?;
+            expect_reference(Call::on_library, &Call::new(Entry::HostReadPage, shape, &[&to_bytes(&data)]))?;
+            expect_reference(Call::on_library, &Call::new(Entry::Marks, shape, &[&data, &random.numbers(data.len())]))?;
         }
     }
     Ok(3 * rounds * WIDTHS.len() as u64)
@@ -69,7 +69,7 @@ fn writing(q: u32, n: u32, random: &mut Random) -> Verdict {
             }
             let excess = if random.one_in(5) { 1 } else { 0 };
             let data = random.numbers(shape.data_len() + excess);
-            expect(&Call::numbered(Entry::WritePage, shape, number, &[&marks, &data]))?;
+            expect_reference(Call::on_library, &Call::numbered(Entry::WritePage, shape, number, &[&marks, &data]))?;
         }
     }
     Ok(rounds * WIDTHS.len() as u64)

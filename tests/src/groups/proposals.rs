@@ -2,8 +2,8 @@
 //! the case itself settles it, by trying every error where these are few, and by the reference elsewhere.
 
 use super::calls::any_session;
-use super::figures::Make;
-use crate::call::{answer_of, difference, After, Call, Entry};
+use super::expect::{expect, expect_reference};
+use crate::call::{answer_of, After, Call, Entry, Make};
 use crate::capture::{page_numbers, Page};
 use crate::damage::{apply, make as damage, spelled_out, unmasked, Style, STYLES};
 use crate::random::Random;
@@ -56,10 +56,8 @@ fn check(shape: Shape, received: &[u32], proposed: &[u32]) -> Call {
 }
 
 /// This answer, and both words as lent.
-fn expect(make: Make, call: &Call, answer: Result<u32, Refusal>) -> Result<(), String> {
-    let expected = After { answer: answer_of(answer), slices: call.slices.clone() };
-    let shown = |found| format!("{}: {found}", call.text());
-    difference(call.entry, &expected, &make(call)).map_or(Ok(()), |found| Err(shown(found)))
+fn expect_answer(make: Make, call: &Call, answer: Result<u32, Refusal>) -> Result<(), String> {
+    expect(make, call, &After { answer: answer_of(answer), slices: call.slices.clone() })
 }
 
 fn some_codeword(shape: Shape, random: &mut Random) -> Vec<u32> {
@@ -79,7 +77,7 @@ fn right(make: Make, shape: Shape, random: &mut Random) -> Verdict {
         for _ in 0..4 {
             let sent = some_codeword(shape, random);
             let received = damaged(&sent, &unmasked(shape, weight, random));
-            expect(make, &check(shape, &received, &sent), Ok(1))?;
+            expect_answer(make, &check(shape, &received, &sent), Ok(1))?;
             let read = make(&Call::new(Entry::Decode, shape, &[&received]));
             if read.answer != weight as u64 || read.slices[0] != sent {
                 return Err(format!("{shape:?}: reading does not give the proposal that gets yes"));
@@ -97,11 +95,11 @@ fn near(make: Make, shape: Shape, random: &mut Random) -> Verdict {
         let sent = some_codeword(shape, random);
         let error = unmasked(shape, weight, random);
         let received = damaged(&sent, &error);
-        expect(make, &check(shape, &received, &received), Ok(u32::from(weight == 0)))?;
+        expect_answer(make, &check(shape, &received, &received), Ok(u32::from(weight == 0)))?;
         let elsewhere = damage(Style::Spread, shape, 1, random);
         let partly = error.iter().map(|&wrong| vec![wrong]);
         for change in partly.chain([elsewhere]) {
-            expect(make, &check(shape, &received, &damaged(&sent, &change)), Ok(0))?;
+            expect_answer(make, &check(shape, &received, &damaged(&sent, &change)), Ok(0))?;
             tried += 1;
         }
         tried += 1;
@@ -120,13 +118,13 @@ fn masked_or_many(make: Make, shape: Shape, random: &mut Random) -> Verdict {
                 continue;
             }
             let sent = some_codeword(shape, random);
-            expect(make, &check(shape, &damaged(&sent, &error), &sent), Ok(0))?;
+            expect_answer(make, &check(shape, &damaged(&sent, &error), &sent), Ok(0))?;
             tried += 1;
         }
     }
     let sent = some_codeword(shape, random);
     let error = unmasked(shape, shape.n as usize, random);
-    expect(make, &check(shape, &damaged(&sent, &error), &sent), Ok(0))?;
+    expect_answer(make, &check(shape, &damaged(&sent, &error), &sent), Ok(0))?;
     Ok(tried + 1)
 }
 
@@ -140,9 +138,7 @@ fn anything(make: Make, shape: Shape, random: &mut Random) -> Verdict {
         let others = [sent, some_codeword(shape, random), random.symbols(shape, shape.word_len()), received.clone()];
         for proposed in others {
             for call in [check(shape, &received, &proposed), check(shape, &proposed, &received)] {
-                let expected = call.on_reference();
-                let found = difference(call.entry, &expected, &make(&call));
-                found.map_or(Ok(()), |found| Err(format!("{}: {found}", call.text())))?;
+                expect_reference(make, &call)?;
                 tried += 1;
             }
         }
@@ -161,16 +157,16 @@ fn lengths_and_widths(make: Make, shape: Shape, random: &mut Random) -> Verdict 
         for other in [0, length - 1, length + 1, 2 * length] {
             let mut call = right.clone();
             call.slices[i].resize(other, u32::MAX);
-            expect(make, &call, Err(Refusal::Length))?;
+            expect_answer(make, &call, Err(Refusal::Length))?;
             call.slices[1 - i][0] = u32::MAX;
-            expect(make, &call, Err(Refusal::Length))?;
+            expect_answer(make, &call, Err(Refusal::Length))?;
             tried += 2;
         }
         for at in [0, random.below(length), length - 1].into_iter().filter(|_| shape.b < 32) {
             for wide in [shape.largest() + 1, u32::MAX] {
                 let mut call = right.clone();
                 call.slices[i][at] = wide;
-                expect(make, &call, Err(Refusal::Width))?;
+                expect_answer(make, &call, Err(Refusal::Width))?;
                 tried += 1;
             }
         }
@@ -190,7 +186,7 @@ fn arrivals(make: Make, shape: Shape, random: &mut Random) -> Verdict {
             let sent = page.codeword(shape);
             let weight = random.below(shape.n as usize);
             let received = damaged(&sent, &unmasked(shape, weight, random));
-            expect(make, &check(shape, &received, &sent), Ok(1))?;
+            expect_answer(make, &check(shape, &received, &sent), Ok(1))?;
             let scratch = random.numbers(shape.scratch_len());
             let mut outcomes = vec![];
             for (session, word) in sessions.iter_mut().zip([&received, &sent]) {
@@ -216,7 +212,7 @@ fn every_pair(make: Make, shape: Shape) -> Verdict {
         let found = explanations(shape, &received);
         for proposed in codewords.iter().chain([&received]) {
             let explains = found.iter().any(|(word, _)| word == proposed);
-            expect(make, &check(shape, &received, proposed), Ok(explains.into()))?;
+            expect_answer(make, &check(shape, &received, proposed), Ok(explains.into()))?;
             tried += 1;
         }
     }

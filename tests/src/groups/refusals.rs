@@ -3,13 +3,13 @@
 //! matter of another group.
 
 use super::calls::{good, old_scratch_len, reshape, resized, ENTRIES};
+use super::expect::expect_reference;
 use crate::call::{answer_of, to_bytes, Call, Entry};
 use crate::random::Random;
 use crate::reference::page::PAGES;
 use crate::reference::session::{CALLS_AT, LOWEST_AT, MARKS_AT, PAGES_AT, SESSION_LEN};
 use crate::reference::shape::{orders_and_directions, Refusal, Shape, SHAPE_LEN, SLOPES};
 use crate::report::{Group, Unit, Verdict};
-use crate::shrink::expect;
 
 /// Those that test the width of a slice.
 const WIDE: [Entry; 13] = [
@@ -62,7 +62,7 @@ fn shapes(entry: Entry, random: &mut Random) -> Verdict {
                 for shape in [shape, shape.with_slopes([random.pick(&[1, 31, q, u32::MAX]); SLOPES])] {
                     let mut call = call.clone();
                     reshape(&mut call, shape);
-                    expect(&call)?;
+                    expect_reference(Call::on_library, &call)?;
                     tried += 1;
                 }
             }
@@ -86,7 +86,7 @@ fn lengths(q: u32, n: u32, random: &mut Random) -> Verdict {
             for length in wrong.into_iter().chain(without_figures).filter(|&length| length != right) {
                 let mut call = call.clone();
                 call.slices[i] = resized(slice, length, random);
-                expect(&call)?;
+                expect_reference(Call::on_library, &call)?;
                 tried += 1;
             }
         }
@@ -105,7 +105,7 @@ fn scratch_lengths(q: u32, n: u32, random: &mut Random) -> Verdict {
             let mut call = good(entry, shape, random);
             let scratch = call.slices.iter_mut().zip(entry.slice_names()).find(|(_, name)| **name == "scratch");
             scratch.expect("an entry that is lent one").0.resize(length, 7);
-            expect(&call)?;
+            expect_reference(Call::on_library, &call)?;
             if !is_refused_by_length(&call) {
                 return Err(format!("{entry:?} of {shape:?} takes a scratch of {length}"));
             }
@@ -133,7 +133,7 @@ fn byte_lengths(q: u32, n: u32, random: &mut Random) -> Verdict {
         let bytes = call.slices[0].clone();
         for length in 0..=2 * bytes.len() + 8 {
             call.slices[0] = resized(&bytes, length, random);
-            expect(&call)?;
+            expect_reference(Call::on_library, &call)?;
             tried += 1;
         }
     }
@@ -170,13 +170,13 @@ fn widths(q: u32, n: u32, random: &mut Random) -> Verdict {
 
 /// The call, and the same call of the host pair where it has one. Gives the number of calls.
 fn expect_also_of_host(call: &Call) -> Verdict {
-    expect(call)?;
+    expect_reference(Call::on_library, call)?;
     let entry = match call.entry {
         Entry::Decode => Entry::HostReadWord,
         Entry::ReadPage => Entry::HostReadPage,
         _ => return Ok(1),
     };
-    expect(&Call::new(entry, call.shape, &[&to_bytes(&call.slices[0])]))?;
+    expect_reference(Call::on_library, &Call::new(entry, call.shape, &[&to_bytes(&call.slices[0])]))?;
     Ok(2)
 }
 

@@ -1,6 +1,7 @@
 //! Arrivals in sessions grown from a fresh one and in sessions handed in from elsewhere.
 
 use super::calls::{any_session, old_scratch_len};
+use super::expect::expect_reference;
 use crate::call::{difference, Call, Entry};
 use crate::capture::{page_numbers, recording, Page};
 use crate::damage::{allowed, apply, make, STYLES};
@@ -255,7 +256,7 @@ fn count_queries(q: u32, n: u32, random: &mut Random) -> Verdict {
     let mut tried = 0;
     for function in functions {
         for session in [&right, &wrong] {
-            expect(&Call::numbered(Entry::Count, shape_of(session), function, &[session]))?;
+            expect_reference(Call::on_library, &Call::numbered(Entry::Count, shape_of(session), function, &[session]))?;
             tried += 1;
         }
     }

@@ -2,13 +2,11 @@
 //! come of each call is said here, not asked of the reference, which is held to it like the library.
 
 use super::calls::{good, later_faults, reshaped, resized, turned_down, ENTRIES};
-use crate::call::{answer_of, difference, After, Call, Entry};
+use super::expect::expect;
+use crate::call::{answer_of, After, Call, Entry, Make};
 use crate::random::Random;
 use crate::reference::shape::{orders_and_directions, Refusal, Shape, SHAPE_LEN, SLOPES};
 use crate::report::{Group, Unit, Verdict};
-
-/// The reference or the library.
-type Make = fn(&Call) -> After;
 
 /// The group for whichever makes the calls.
 pub fn group(name: &'static str, make: Make) -> Group {
@@ -62,11 +60,6 @@ fn refused_slopes(shape: Shape) -> Vec<Shape> {
     let mut shapes = wrong_slopes(shape);
     shapes.retain(|wrong| wrong.own_slopes() != shape.own_slopes());
     shapes
-}
-
-fn expect(make: Make, call: &Call, expected: &After) -> Result<(), String> {
-    let shown = |found| format!("{:?} of shape {:?}: {found}", call.entry, call.shape_values());
-    difference(call.entry, expected, &make(call)).map_or(Ok(()), |found| Err(shown(found)))
 }
 
 /// Nothing else is wrong: 18 at a place that counts, no effect at another.

@@ -1,6 +1,6 @@
 //! The rules' bench values, and some for other slopes, as calls with what must come of them.
 
-use crate::call::{answer_of, difference, to_bytes, After, Call, Entry};
+use crate::call::{answer_of, difference, to_bytes, After, Call, Entry, Make};
 use crate::reference::session::{CALLS_AT, CLEAN, LOWEST_AT, MARKS_AT, PAGES_AT, SESSION_LEN, TWO, VOTE};
 use crate::reference::shape::{Refusal, Shape, SHAPE_LEN, SLOPES};
 use crate::report::{Group, Unit};
@@ -24,7 +24,7 @@ struct Vector {
 }
 
 /// The group for the reference or for the library, whichever makes the calls.
-pub fn group(name: &'static str, make: fn(&Call) -> After) -> Group {
+pub fn group(name: &'static str, make: Make) -> Group {
     let mut group = Group::new(name, Unit::Calls);
     for Vector { name, call, expected } in vectors() {
         group.test(name, move |_| difference(call.entry, &expected, &make(&call)).map_or(Ok(1), Err));

@@ -2,7 +2,8 @@
 //! is said here where the damage settles it, by trying every codeword where these are few, and by the reference elsewhere.
 
 use super::calls::turned_down;
-use crate::call::{difference, After, Call, Entry};
+use super::expect::{expect, expect_reference};
+use crate::call::{After, Call, Entry, Make};
 use crate::damage::{apply, make as damage, unmasked, Error, STYLES};
 use crate::random::Random;
 use crate::reference::brute::{all_codewords, all_words, near};
@@ -10,10 +11,6 @@ use crate::reference::shape::{all_slopes, orders_and_directions, Refusal, Shape}
 use crate::reference::square::{check, weight, xor};
 use crate::reference::writer::codeword;
 use crate::report::{Group, Unit, Verdict};
-use crate::shrink::{self, with_zeros, Case};
-
-/// The reference or the library.
-type Make = fn(&Call) -> After;
 
 const WIDTHS: [u32; 4] = [1, 8, 31, 32];
 
@@ -63,34 +60,6 @@ fn read(call: &Call, word: &[u32]) -> After {
     After { answer: weight(&xor(&call.slices[0], word)) as u64, slices: vec![word.to_vec()] }
 }
 
-/// A call to be compared with the reference.
-#[derive(Clone)]
-struct Lent {
-    make: Make,
-    call: Call,
-}
-
-impl Case for Lent {
-    fn difference(&self) -> Option<String> {
-        difference(self.call.entry, &self.call.on_reference(), &(self.make)(&self.call))
-    }
-
-    fn smaller(&self) -> impl Iterator<Item = Lent> {
-        let with = |word: Vec<u32>| Lent { make: self.make, call: Call { slices: vec![word], ..self.call.clone() } };
-        with_zeros(&self.call.slices[0]).map(with)
-    }
-
-    fn describe(&self) -> String {
-        self.call.text()
-    }
-}
-
-fn expect(make: Make, call: &Call, expected: &After) -> Result<(), String> {
-    let Some(found) = difference(call.entry, expected, &make(call)) else { return Ok(()) };
-    shrink::expect(&Lent { make, call: call.clone() })?;
-    Err(format!("{:.4000}: {found}", call.text()))
-}
-
 /// A codeword with this error: up to n/2 symbols it comes back. With more, the reference says what comes.
 fn expect_damaged(make: Make, shape: Shape, error: &Error, random: &mut Random) -> Result<(), String> {
     let sent = codeword(shape, &random.symbols(shape, shape.data_len()));
@@ -100,7 +69,7 @@ fn expect_damaged(make: Make, shape: Shape, error: &Error, random: &mut Random) 
     if error.len() <= shape.most_votes() {
         expect(make, &call, &read(&call, &sent))
     } else {
-        expect(make, &call, &call.on_reference())
+        expect_reference(make, &call)
     }
 }
 
@@ -162,7 +131,7 @@ fn random_words(make: Make, shape: Shape, random: &mut Random) -> Verdict {
     let rounds = 6;
     for _ in 0..rounds {
         let call = vote(shape, &random.symbols(shape, shape.word_len()));
-        expect(make, &call, &call.on_reference())?;
+        expect_reference(make, &call)?;
     }
     Ok(rounds)
 }
@@ -204,7 +173,7 @@ fn by_definition(shape: Shape, call: &Call, codewords: &[Vec<u32>]) -> Result<Af
     match near(shape, codewords, &call.slices[0])[..] {
         [] => Ok(turned_down(call, Refusal::NoMajority)),
         [only] => Ok(read(call, only)),
-        _ => Err(format!("{:.4000}: more than one codeword is near", call.text())),
+        _ => Err(format!("{}: more than one codeword is near", call.text())),
     }
 }
 

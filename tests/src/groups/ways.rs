@@ -2,8 +2,9 @@
 //! reference, which is held to it like the library.
 
 use super::calls::{good, later_faults, reshaped, turned_down};
-use super::figures::{after_arrival, any_calls, bad_slope, figures, plain_marks, session, Come, Make};
-use crate::call::{difference, After, Call, Entry};
+use super::expect::expect;
+use super::figures::{after_arrival, any_calls, bad_slope, figures, plain_marks, session, Come};
+use crate::call::{Call, Entry, Make};
 use crate::capture::{page_numbers, recording, Page};
 use crate::damage::{allowed, Error};
 use crate::random::Random;
@@ -30,11 +31,6 @@ pub fn group(name: &'static str, make: Make) -> Group {
         }
     }
     group
-}
-
-fn expect(make: Make, call: &Call, expected: &After) -> Result<(), String> {
-    let shown = |found| format!("{}: {found}", call.text());
-    difference(call.entry, expected, &make(call)).map_or(Ok(()), |found| Err(shown(found)))
 }
 
 /// A number that names no way is 1, whatever else is wrong: bad shapes and slopes, figures that

@@ -1,16 +1,13 @@
 //! Calls with places that are named as gone, what must come of them, and ways to choose the places.
 
-use crate::call::{difference, After, Call, Entry};
+use crate::call::{After, Call, Entry, Make};
 use crate::groups::calls::turned_down;
+use crate::groups::expect::expect;
 use crate::random::Random;
 use crate::reference::elimination::Basis;
 use crate::reference::shape::{Refusal, Shape};
 use crate::reference::square::check;
 use crate::reference::writer::codeword;
-use crate::shrink::{self, with_zeros, without_parts, Case};
-
-/// The reference or the library.
-pub(super) type Make = fn(&Call) -> After;
 
 /// Which slice of a call is which.
 pub(super) const PLACES: usize = 0;
@@ -45,51 +42,11 @@ pub(super) fn refused(call: &Call, refusal: Refusal) -> After {
     after
 }
 
-/// A call to be compared with the reference.
-#[derive(Clone)]
-struct Lent {
-    make: Make,
-    call: Call,
-}
-
-impl Lent {
-    fn with_slice(&self, i: usize, values: Vec<u32>) -> Lent {
-        let mut lent = self.clone();
-        lent.call.slices[i] = values;
-        lent
-    }
-}
-
-impl Case for Lent {
-    fn difference(&self) -> Option<String> {
-        difference(Entry::Fill, &self.call.on_reference(), &(self.make)(&self.call))
-    }
-
-    fn smaller(&self) -> impl Iterator<Item = Lent> {
-        let slices = &self.call.slices;
-        let shorter = without_parts(&slices[PLACES]).map(|places| self.with_slice(PLACES, places));
-        let zeroed = [WORD, SCRATCH]
-            .into_iter()
-            .flat_map(move |i| with_zeros(&slices[i]).map(move |values| self.with_slice(i, values)));
-        shorter.chain(zeroed)
-    }
-
-    fn describe(&self) -> String {
-        self.call.text()
-    }
-}
-
-pub(super) fn expect(make: Make, call: &Call, expected: &After) -> Result<(), String> {
-    let Some(found) = difference(Entry::Fill, expected, &make(call)) else { return Ok(()) };
-    shrink::expect(&Lent { make, call: call.clone() })?;
-    Err(format!("{:.4000}: {found}", call.text()))
-}
-
 /// The sent word agrees, so it is filled in or 14; which of the two, the reference says.
 pub(super) fn expect_sent(make: Make, call: &Call, sent: &[u32]) -> Result<(), String> {
     let expected = call.on_reference();
     if expected != filled(call, sent) && expected != refused(call, Refusal::Ambiguous) {
-        return Err(format!("{:.4000}: neither filled in nor 14", call.text()));
+        return Err(format!("{}: neither filled in nor 14", call.text()));
     }
     expect(make, call, &expected)
 }

@@ -1,11 +1,12 @@
 //! Lists, lengths and widths that are turned down, and several faults at once.
 
 use super::cases::{
-    damaged, expect, fill, filled, first, limit, lost, outside, random_codeword, refused, shuffled, some_circuits,
-    some_places, unlisted, Make, PLACES, SCRATCH, WORD,
+    damaged, fill, filled, first, limit, lost, outside, random_codeword, refused, shuffled, some_circuits, some_places,
+    unlisted, PLACES, SCRATCH, WORD,
 };
-use crate::call::Call;
+use crate::call::{Call, Make};
 use crate::groups::calls::{old_scratch_len, reshaped, resized};
+use crate::groups::expect::expect;
 use crate::random::Random;
 use crate::reference::shape::{Refusal, Shape};
 use crate::report::Verdict;

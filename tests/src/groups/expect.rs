@@ -1,0 +1,55 @@
+//! What must come of a call, and where it does not, the smallest call of which it does not.
+
+use crate::call::{difference, After, Call, Entry, Make};
+use crate::shrink::{self, with_zeros, without_parts, Case};
+
+/// The call ends as expected. If the reference too says that it does not, it is made smaller before it is shown.
+pub fn expect(make: Make, call: &Call, expected: &After) -> Result<(), String> {
+    let Some(found) = difference(call.entry, expected, &make(call)) else { return Ok(()) };
+    shrink::expect(&Lent { make, call: call.clone() })?;
+    Err(format!("{}: {found}", call.text()))
+}
+
+/// The call ends as the reference ends it.
+pub fn expect_reference(make: Make, call: &Call) -> Result<(), String> {
+    expect(make, call, &call.on_reference())
+}
+
+/// A call that is to end as the reference ends it.
+#[derive(Clone)]
+struct Lent {
+    make: Make,
+    call: Call,
+}
+
+impl Lent {
+    /// A list of places with fewer of them, any other slice with more zeros.
+    fn smaller_slices(&self, i: usize) -> Box<dyn Iterator<Item = Vec<u32>> + '_> {
+        let slice = &self.call.slices[i];
+        match (self.call.entry, i) {
+            (Entry::Fill, 0) => Box::new(without_parts(slice)),
+            _ => Box::new(with_zeros(slice)),
+        }
+    }
+
+    fn with_slice(&self, i: usize, values: Vec<u32>) -> Lent {
+        let mut lent = self.clone();
+        lent.call.slices[i] = values;
+        lent
+    }
+}
+
+impl Case for Lent {
+    fn difference(&self) -> Option<String> {
+        difference(self.call.entry, &self.call.on_reference(), &(self.make)(&self.call))
+    }
+
+    fn smaller(&self) -> impl Iterator<Item = Lent> {
+        let of_slice = move |i: usize| self.smaller_slices(i).map(move |values| self.with_slice(i, values));
+        (0..self.call.slices.len()).flat_map(of_slice)
+    }
+
+    fn describe(&self) -> String {
+        self.call.text()
+    }
+}
