@@ -3,7 +3,7 @@
 use crate::random::Random;
 use crate::reference::session::{CLEAN, TWO, VOTE};
 use crate::reference::shape::Shape;
-use crate::reference::square::{check, is_unmasked};
+use crate::reference::square::{check, is_unmasked, positions_on};
 
 /// Positions, all different, with the nonzero symbols to XOR on.
 pub type Error = Vec<(usize, u32)>;
@@ -83,6 +83,12 @@ pub fn spelled_out(shape: Shape, error: &Error) -> Vec<u32> {
     symbols
 }
 
+/// The positions on any line of direction t.
+pub fn any_line(shape: Shape, t: usize, random: &mut Random) -> Vec<usize> {
+    let q = shape.q as usize;
+    positions_on(shape, t * q + random.below(q))
+}
+
 fn equalize(error: &mut [(usize, u32)]) {
     if let Some(&(_, first)) = error.first() {
         error.iter_mut().for_each(|(_, symbol)| *symbol = first);
@@ -91,9 +97,7 @@ fn equalize(error: &mut [(usize, u32)]) {
 
 /// Up to `count` positions of a random check.
 fn on_one_check(shape: Shape, count: usize, random: &mut Random) -> Vec<usize> {
-    let chosen = random.below(shape.checks());
-    let t = chosen / shape.q as usize;
-    let mut positions: Vec<usize> = (0..shape.word_len()).filter(|&j| check(shape, t, j) == chosen).collect();
+    let mut positions = positions_on(shape, random.below(shape.checks()));
     random.shuffle(&mut positions);
     positions.truncate(count);
     positions

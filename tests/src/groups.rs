@@ -8,6 +8,7 @@ pub mod coverage;
 pub mod double;
 pub mod energy;
 pub mod erasures;
+mod every;
 mod expect;
 mod faults;
 pub mod figures;

@@ -2,6 +2,7 @@
 //! after the other, and by the case itself: which words are refused, and whose tally the session ends with.
 
 use super::calls::{resized, turned_down};
+use super::every::{Shapes, Widths};
 use super::expect::expect;
 use super::figures::{any_calls, any_marks, bad_slope, figures, plain_marks, session, Come};
 use crate::call::{After, Call, Entry, Make};
@@ -10,50 +11,42 @@ use crate::damage::{allowed, apply, make as damage, Style};
 use crate::random::Random;
 use crate::reference::page::{FUNCTIONS, PAGES};
 use crate::reference::session::{ways_of, BUNDLE, CALLS_AT, OUTCOMES_LEN, PAGES_AT, WAYS};
-use crate::reference::shape::{orders_and_directions, Refusal, Shape};
+use crate::reference::shape::{Refusal, Shape};
 use crate::report::{Group, Unit, Verdict};
+
+/// A narrow and a wide one, which are drawn.
+const WIDTHS: Widths = |_, random| vec![random.pick(&[1, 3, 8]), random.pick(&[11, 31, 32])];
 
 /// The group for whichever makes the calls.
 pub fn group(name: &'static str, make: Make) -> Group {
     let mut group = Group::new(name, Unit::Calls);
-    for (q, n) in orders_and_directions() {
-        let mut test = |name: &str, body: fn(Make, Shape, u32, &mut Random) -> Verdict| {
-            group.test(format!("{name}, ({q}, {n})"), move |random| of_ways(make, q, n, body, random));
-        };
-        test("of any words", any_words);
-        test("of wrong lengths", wrong_lengths);
-        test("with another fault", with_another_fault);
-        test("with a refused word", with_a_refused_word);
-        test("with repeats", with_repeats);
-        test("that wear a count out", worn);
-        test("of a recording", recordings);
-    }
-    for (q, n, b) in [(3, 2, 8), (3, 3, 32), (5, 3, 16), (7, 7, 11), (17, 4, 32), (31, 8, 32)] {
-        for words in [1, 2, 63, 64, 65] {
-            group.test(format!("of {words} words, ({q}, {n}, {b})"), move |random| {
-                of_size(make, q, n, b, words, random)
-            });
-        }
+    let mut shapes = Shapes::new(&mut group, make, WIDTHS);
+    let mut test = |name: &str, body: fn(Make, Shape, u32, &mut Random) -> Verdict| {
+        shapes.test(name, move |make, shape, random| of_ways(make, shape, body, random));
+    };
+    test("of any words, (q, n)", any_words);
+    test("of wrong lengths, (q, n)", wrong_lengths);
+    test("with another fault, (q, n)", with_another_fault);
+    test("with a refused word, (q, n)", with_a_refused_word);
+    test("with repeats, (q, n)", with_repeats);
+    test("that wear a count out, (q, n)", worn);
+    test("of a recording, (q, n)", recordings);
+    let some = [(3, 2, 8), (3, 3, 32), (5, 3, 16), (7, 7, 11), (17, 4, 32), (31, 8, 32)];
+    for words in [1, 2, 63, 64, 65] {
+        let name = format!("of {words} words, (q, n, b)");
+        group.test_drawn(&name, &some, 1, move |shape, random| of_size(make, shape, words, random));
     }
     group
 }
 
-/// Every way that the shape has, for a narrow and a wide width whose slopes are drawn.
+/// Every way that the shape has.
 fn of_ways(
     make: Make,
-    q: u32,
-    n: u32,
+    shape: Shape,
     body: fn(Make, Shape, u32, &mut Random) -> Verdict,
     random: &mut Random,
 ) -> Verdict {
-    let mut tried = 0;
-    for b in [random.pick(&[1, 3, 8]), random.pick(&[11, 31, 32])] {
-        let shape = random.shape(q, n, b);
-        for way in 0..ways_of(shape) {
-            tried += body(make, shape, way, random)?;
-        }
-    }
-    Ok(tried)
+    (0..ways_of(shape)).try_fold(0, |tried, way| Ok(tried + body(make, shape, way, random)?))
 }
 
 /// The call with these words, and old numbers in what it only writes to.
@@ -145,8 +138,7 @@ fn any_words(make: Make, shape: Shape, way: u32, random: &mut Random) -> Verdict
 }
 
 /// 64 words at most; 65 are 2.
-fn of_size(make: Make, q: u32, n: u32, b: u32, count: usize, random: &mut Random) -> Verdict {
-    let shape = random.shape(q, n, b);
+fn of_size(make: Make, shape: Shape, count: usize, random: &mut Random) -> Verdict {
     for way in 0..ways_of(shape) {
         let words: Vec<Vec<u32>> = (0..count).map(|_| any_word(shape, way, random)).collect();
         let session = any_session(shape, random);

@@ -1,18 +1,18 @@
 //! Writing and extraction for every (q, n), with the standard slopes and with others.
 
+use super::every::repeated;
 use super::expect::expect_reference;
 use crate::call::{Call, Entry};
 use crate::random::Random;
-use crate::reference::shape::{orders_and_directions, Shape};
+use crate::reference::shape::Shape;
 use crate::reference::writer::codeword;
 use crate::report::{Group, Unit, Verdict};
 
 pub fn group() -> Group {
     let mut group = Group::new("writing and extraction", Unit::Calls);
-    for (q, n) in orders_and_directions() {
-        group.test(format!("random symbols of ({q}, {n})"), move |random| random_symbols(q, n, random));
-        group.test(format!("single symbols of ({q}, {n})"), move |random| single_symbols(q, n, random));
-    }
+    let widths = |_, random: &mut Random| repeated(&[1, 8, 11, 31, 32, 1 + random.below(32) as u32], 12);
+    group.test_shapes("random symbols of (q, n)", widths, random_symbols);
+    group.test_each("single symbols of (q, n)", single_symbols);
     group
 }
 
@@ -27,20 +27,13 @@ fn extract(shape: Shape, word: &[u32], random: &mut Random) -> Call {
     Call::new(Entry::Extract, shape, &[word, &scratch, &data])
 }
 
-fn random_symbols(q: u32, n: u32, random: &mut Random) -> Verdict {
-    let mut tried = 0;
-    for b in [1, 8, 11, 31, 32, 1 + random.below(32) as u32] {
-        for _ in 0..12 {
-            let shape = random.shape(q, n, b);
-            let data = random.symbols(shape, shape.data_len());
-            expect_reference(Call::on_library, &encode(shape, &data, random))?;
-            expect_reference(Call::on_library, &extract(shape, &codeword(shape, &data), random))?;
-            let any = random.symbols(shape, shape.word_len());
-            expect_reference(Call::on_library, &extract(shape, &any, random))?;
-            tried += 3;
-        }
-    }
-    Ok(tried)
+fn random_symbols(shape: Shape, random: &mut Random) -> Verdict {
+    let data = random.symbols(shape, shape.data_len());
+    expect_reference(Call::on_library, &encode(shape, &data, random))?;
+    expect_reference(Call::on_library, &extract(shape, &codeword(shape, &data), random))?;
+    let any = random.symbols(shape, shape.word_len());
+    expect_reference(Call::on_library, &extract(shape, &any, random))?;
+    Ok(3)
 }
 
 /// Each information symbol alone, which shows every parity symbol that it takes part in.

@@ -2,6 +2,7 @@
 //! come of each call is said here, not asked of the reference, which is held to it like the library.
 
 use super::calls::{reshaped, resized, turned_down};
+use super::every::{Shapes, ONE_WIDTH};
 use super::expect::expect;
 use super::figures::{any_marks, bad_slope, figures, readable, session, wrong_figures};
 use super::idle::some_pages;
@@ -10,7 +11,7 @@ use crate::capture::{recording_of, Page};
 use crate::random::Random;
 use crate::reference::page::FUNCTIONS;
 use crate::reference::session::SESSION_LEN;
-use crate::reference::shape::{orders_and_directions, Refusal, Shape};
+use crate::reference::shape::{Refusal, Shape};
 use crate::report::{Group, Unit, Verdict};
 use std::collections::BTreeSet;
 
@@ -20,19 +21,12 @@ const COUNTS: [u32; 9] = [1, 2, 3, 255, 256, 1 << 16, 1 << 31, 0xffff_ff00, u32:
 /// The group for whichever makes the calls.
 pub fn group(name: &'static str, make: Make) -> Group {
     let mut group = Group::new(name, Unit::Calls);
-    for (q, n) in orders_and_directions() {
-        let mut test = |name: &str, body: fn(Make, Shape, &mut Random) -> Verdict| {
-            group.test(format!("{name}, ({q}, {n})"), move |random| {
-                let b = random.pick(&[1, 8, 11, 32]);
-                body(make, random.shape(q, n, b), random)
-            });
-        };
-        test("single functions", single_functions);
-        test("any functions", any_functions);
-        test("lengths", lengths);
-        test("several faults", several_faults);
-        test("recordings", recordings);
-    }
+    let mut shapes = Shapes::new(&mut group, make, ONE_WIDTH);
+    shapes.test("single functions, (q, n)", single_functions);
+    shapes.test("any functions, (q, n)", any_functions);
+    shapes.test("lengths, (q, n)", lengths);
+    shapes.test("several faults, (q, n)", several_faults);
+    shapes.test("recordings, (q, n)", recordings);
     group
 }
 

@@ -2,62 +2,35 @@
 //! settles it, by trying every codeword where these are few, and by the reference elsewhere.
 
 use super::calls::{resized, turned_down};
+use super::every::{Shapes, WIDTHS};
 use super::expect::{expect, expect_reference};
 use crate::call::{answer_of, After, Call, Entry, Make};
 use crate::damage::{apply, make as damage, unmasked, Style, STYLES};
 use crate::random::Random;
 use crate::reference::brute::{all_codewords, all_words, within};
-use crate::reference::shape::{all_slopes, orders_and_directions, Refusal, Shape};
-use crate::reference::square::check;
+use crate::reference::shape::{Refusal, Shape};
+use crate::reference::square::positions_on;
 use crate::reference::writer::codeword;
 use crate::report::{Group, Unit, Verdict};
-
-const WIDTHS: [u32; 4] = [1, 8, 31, 32];
 
 /// The group for whichever makes the calls.
 pub fn group(name: &'static str, make: Make) -> Group {
     let mut group = Group::new(name, Unit::Words);
-    for (q, n) in orders_and_directions() {
-        let mut test = |name: &str, body: fn(Make, Shape, &mut Random) -> Verdict| {
-            group.test(format!("{name}, ({q}, {n})"), move |random| of_each_width(make, q, n, body, random));
-        };
-        if n == 2 {
-            test("two directions", two_directions);
-            continue;
-        }
-        test("pairs on one line", on_one_line);
-        test("at most two", at_most_two);
-        test("three and more", three_and_more);
-        test("random words", random_words);
-        test("as clean reading", as_clean_reading);
-        test("lengths", lengths);
-        test("widths", widths);
-        if q <= 5 {
-            test("all pairs of places", all_pairs);
-        }
-    }
-    for shape in all_slopes(3, 3, 1) {
-        let name = format!("all words of (3, 3, 1), slopes {:?}", shape.own_slopes());
-        group.test(name, move |_| every_word(make, shape));
-    }
-    for (q, n, b) in [(3, 3, 2), (3, 3, 4), (5, 3, 1), (5, 4, 1), (5, 5, 1), (5, 5, 2), (7, 6, 1), (7, 7, 2)] {
-        group.test(format!("sampled words of ({q}, {n}, {b})"), move |random| sampled(make, q, n, b, random));
-    }
+    let mut two = Shapes::new(&mut group, make, WIDTHS).only(|_, n| n == 2);
+    two.test("two directions, (q, n)", two_directions);
+    let mut more = Shapes::new(&mut group, make, WIDTHS).only(|_, n| n > 2);
+    more.test("pairs on one line, (q, n)", on_one_line);
+    more.test("at most two, (q, n)", at_most_two);
+    more.test("three and more, (q, n)", three_and_more);
+    more.test("random words, (q, n)", random_words);
+    more.test("as clean reading, (q, n)", as_clean_reading);
+    more.test("lengths, (q, n)", lengths);
+    more.test("widths, (q, n)", widths);
+    more.only(|q, _| q <= 5).test("all pairs of places, (q, n)", all_pairs);
+    group.test_all_words(&[3], move |shape, _| every_word(make, shape));
+    let small = [(3, 3, 2), (3, 3, 4), (5, 3, 1), (5, 4, 1), (5, 5, 1), (5, 5, 2), (7, 6, 1), (7, 7, 2)];
+    group.test_drawn("sampled words of (q, n, b)", &small, 1, move |shape, random| sampled(make, shape, random));
     group
-}
-
-fn of_each_width(
-    make: Make,
-    q: u32,
-    n: u32,
-    body: fn(Make, Shape, &mut Random) -> Verdict,
-    random: &mut Random,
-) -> Verdict {
-    let mut tried = 0;
-    for b in WIDTHS {
-        tried += body(make, random.shape(q, n, b), random)?;
-    }
-    Ok(tried)
 }
 
 fn call(shape: Shape, word: &[u32]) -> Call {
@@ -111,7 +84,7 @@ fn on_one_line(make: Make, shape: Shape, random: &mut Random) -> Verdict {
     let mut tried = 0;
     let (q, n) = (shape.q as usize, shape.n as usize);
     for (t, line) in (0..n).flat_map(|t| (0..q).map(move |line| (t, line))) {
-        let places: Vec<usize> = (0..shape.word_len()).filter(|&j| check(shape, t, j) == t * q + line).collect();
+        let places = positions_on(shape, t * q + line);
         let any = random.positions(2, q);
         for (a, b) in [(line, (line + 1) % q), (0, q - 1), (any[0], any[1])] {
             tried += expect_pair(make, shape, (places[a], places[b]), random)?;
@@ -258,9 +231,8 @@ fn every_word(make: Make, shape: Shape) -> Verdict {
 }
 
 /// Codewords with up to five wrong symbols, and words of any kind.
-fn sampled(make: Make, q: u32, n: u32, b: u32, random: &mut Random) -> Verdict {
+fn sampled(make: Make, shape: Shape, random: &mut Random) -> Verdict {
     let rounds = 150;
-    let shape = random.shape(q, n, b);
     let codewords = all_codewords(shape);
     for _ in 0..rounds {
         let mut word = random_codeword(shape, random);

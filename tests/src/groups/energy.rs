@@ -3,6 +3,7 @@
 //! is held to it like the library.
 
 use super::calls::{reshaped, resized, turned_down};
+use super::every::{Shapes, ONE_WIDTH};
 use super::expect::expect;
 use super::figures::{any_calls, any_marks, bad_slope, figures, readable, session, wrong_figures};
 use super::idle::{some_pages, tally};
@@ -11,7 +12,7 @@ use crate::capture::{recording_of, Page};
 use crate::random::Random;
 use crate::reference::page::FUNCTIONS;
 use crate::reference::session::{MARKS_AT, PAGES_AT, SESSION_LEN};
-use crate::reference::shape::{orders_and_directions, Refusal, Shape};
+use crate::reference::shape::{Refusal, Shape};
 use crate::report::{Group, Unit, Verdict};
 
 /// The largest sum that is billed.
@@ -52,20 +53,13 @@ const SUMS: [u128; 28] = [
 /// The group for whichever makes the calls.
 pub fn group(name: &'static str, make: Make) -> Group {
     let mut group = Group::new(name, Unit::Calls);
-    for (q, n) in orders_and_directions() {
-        let mut test = |name: &str, body: fn(Make, Shape, &mut Random) -> Verdict| {
-            group.test(format!("{name}, ({q}, {n})"), move |random| {
-                let b = random.pick(&[1, 8, 11, 32]);
-                body(make, random.shape(q, n, b), random)
-            });
-        };
-        test("sums", sums);
-        test("single functions", single_functions);
-        test("any counts and prices", any_sums);
-        test("lengths", lengths);
-        test("several faults", several_faults);
-        test("recordings", recordings);
-    }
+    let mut shapes = Shapes::new(&mut group, make, ONE_WIDTH);
+    shapes.test("sums, (q, n)", sums);
+    shapes.test("single functions, (q, n)", single_functions);
+    shapes.test("any counts and prices, (q, n)", any_sums);
+    shapes.test("lengths, (q, n)", lengths);
+    shapes.test("several faults, (q, n)", several_faults);
+    shapes.test("recordings, (q, n)", recordings);
     group
 }
 

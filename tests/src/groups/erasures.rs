@@ -4,12 +4,13 @@
 mod cases;
 mod faults;
 
+use super::every::{Shapes, WIDTHS};
 use super::expect::{expect, expect_reference};
 use crate::call::{After, Call, Entry, Make};
 use crate::random::Random;
 use crate::reference::brute::{agreeing, all_codewords, all_words};
 use crate::reference::elimination::{Basis, Positions};
-use crate::reference::shape::{all_slopes, orders_and_directions, Refusal, Shape};
+use crate::reference::shape::{Refusal, Shape};
 use crate::reference::square::is_codeword;
 use crate::reference::writer::{codeword, information};
 use crate::report::{Group, Unit, Verdict};
@@ -19,50 +20,25 @@ use cases::{
 };
 use faults::{lengths, refused_lists, several_faults, widths};
 
-const WIDTHS: [u32; 4] = [1, 8, 31, 32];
-
 /// The group for whichever makes the calls.
 pub fn group(name: &'static str, make: Make) -> Group {
     let mut group = Group::new(name, Unit::Calls);
-    for (q, n) in orders_and_directions() {
-        let mut test = |name: &str, body: fn(Make, Shape, &mut Random) -> Verdict| {
-            group.test(format!("{name}, ({q}, {n})"), move |random| of_each_width(make, q, n, body, random));
-        };
-        test("few places", few_places);
-        test("damage elsewhere", damage_elsewhere);
-        test("lines", lines);
-        test("crossing lines", crossing_lines);
-        test("circuits", circuits);
-        test("parity positions", parity_positions);
-        test("any list", any_list);
-        test("lists that are refused", refused_lists);
-        test("lengths", lengths);
-        test("widths", widths);
-        test("several faults", several_faults);
-    }
-    for shape in [2, 3].into_iter().flat_map(|n| all_slopes(3, n, 1)) {
-        let name = format!("all words of (3, {}, 1), slopes {:?}", shape.n, shape.own_slopes());
-        group.test(name, move |random| every_word(make, shape, random));
-    }
-    for (q, n, b) in [(3, 2, 2), (3, 2, 3), (3, 3, 2), (3, 3, 4), (5, 4, 1), (5, 5, 1), (5, 5, 2), (7, 6, 1), (7, 7, 2)]
-    {
-        group.test(format!("sampled words of ({q}, {n}, {b})"), move |random| sampled(make, q, n, b, random));
-    }
+    let mut shapes = Shapes::new(&mut group, make, WIDTHS);
+    shapes.test("few places, (q, n)", few_places);
+    shapes.test("damage elsewhere, (q, n)", damage_elsewhere);
+    shapes.test("lines, (q, n)", lines);
+    shapes.test("crossing lines, (q, n)", crossing_lines);
+    shapes.test("circuits, (q, n)", circuits);
+    shapes.test("parity positions, (q, n)", parity_positions);
+    shapes.test("any list, (q, n)", any_list);
+    shapes.test("lists that are refused, (q, n)", refused_lists);
+    shapes.test("lengths, (q, n)", lengths);
+    shapes.test("widths, (q, n)", widths);
+    shapes.test("several faults, (q, n)", several_faults);
+    group.test_all_words(&[2, 3], move |shape, random| every_word(make, shape, random));
+    let small = [(3, 2, 2), (3, 2, 3), (3, 3, 2), (3, 3, 4), (5, 4, 1), (5, 5, 1), (5, 5, 2), (7, 6, 1), (7, 7, 2)];
+    group.test_drawn("sampled words of (q, n, b)", &small, 4, move |shape, random| sampled(make, shape, random));
     group
-}
-
-fn of_each_width(
-    make: Make,
-    q: u32,
-    n: u32,
-    body: fn(Make, Shape, &mut Random) -> Verdict,
-    random: &mut Random,
-) -> Verdict {
-    let mut tried = 0;
-    for b in WIDTHS {
-        tried += body(make, random.shape(q, n, b), random)?;
-    }
-    Ok(tried)
 }
 
 /// From none to a few more than the limit; up to the limit it is the sent word.
@@ -294,25 +270,22 @@ fn sorted(mut words: Vec<Vec<u32>>) -> Vec<Vec<u32>> {
     words
 }
 
-/// Small shapes with any lists, with and without damage elsewhere.
-fn sampled(make: Make, q: u32, n: u32, b: u32, random: &mut Random) -> Verdict {
+/// Any lists, with and without damage elsewhere.
+fn sampled(make: Make, shape: Shape, random: &mut Random) -> Verdict {
     let mut tried = 0;
-    for _ in 0..4 {
-        let shape = random.shape(q, n, b);
-        let codewords = all_codewords(shape);
-        for _ in 0..60 {
-            let count = random.below(shape.word_len() + 1);
-            let [spread, crowded, on_line] = some_places(shape, count, random);
-            let circuits = some_circuits(shape, random);
-            let circuit = circuits[random.below(circuits.len())].clone();
-            for places in [spread, crowded, on_line, circuit] {
-                let sent = &codewords[random.below(codewords.len())];
-                let others = unlisted(shape, &places, random.below(3), random);
-                let word = damaged(shape, lost(shape, sent, &places, random), &others, random);
-                let call = fill(shape, &places, &word, random);
-                expect(make, &call, &by_definition(&call, &codewords))?;
-                tried += 1;
-            }
+    let codewords = all_codewords(shape);
+    for _ in 0..60 {
+        let count = random.below(shape.word_len() + 1);
+        let [spread, crowded, on_line] = some_places(shape, count, random);
+        let circuits = some_circuits(shape, random);
+        let circuit = circuits[random.below(circuits.len())].clone();
+        for places in [spread, crowded, on_line, circuit] {
+            let sent = &codewords[random.below(codewords.len())];
+            let others = unlisted(shape, &places, random.below(3), random);
+            let word = damaged(shape, lost(shape, sent, &places, random), &others, random);
+            let call = fill(shape, &places, &word, random);
+            expect(make, &call, &by_definition(&call, &codewords))?;
+            tried += 1;
         }
     }
     Ok(tried)

@@ -10,7 +10,7 @@ use crate::damage::{make, unmasked, Style};
 use crate::random::Random;
 use crate::reference::page::{FUNCTIONS, PAGES};
 use crate::reference::session::{CALLS_AT, MARKS_AT, PAGES_AT, SESSION_LEN};
-use crate::reference::shape::{orders_and_directions, Refusal, Shape};
+use crate::reference::shape::{Refusal, Shape};
 use crate::reference::writer::codeword;
 use crate::report::{Group, Unit, Verdict};
 use std::collections::BTreeSet;
@@ -24,23 +24,18 @@ const ALL: u32 = PAGES as u32;
 /// The group for whichever makes the calls.
 pub fn group(name: &'static str, make: Make) -> Group {
     let mut group = Group::new(name, Unit::Calls);
-    for (q, n) in orders_and_directions() {
-        group.test(format!("that disagree, ({q}, {n})"), move |random| disagreeing(make, q, n, random));
-        group.test(format!("with another fault, ({q}, {n})"), move |random| with_another_fault(make, q, n, random));
-        group.test(format!("that agree, ({q}, {n})"), move |random| agreeing(make, q, n, random));
-        for order in ORDERS {
-            group.test(format!("grown, {order:?}, ({q}, {n})"), move |random| {
-                let b = random.pick(&[3, 8, 11, 32]);
-                grown(make, random.shape(q, n, b), 24, order, random)
-            });
-        }
-    }
-    for (q, n, b) in [(3, 2, 10), (3, 2, 32), (3, 3, 16), (5, 3, 11)] {
-        for order in ORDERS {
-            group.test(format!("all pages, {order:?}, ({q}, {n}, {b})"), move |random| {
-                grown(make, random.shape(q, n, b), PAGES, order, random)
-            });
-        }
+    group.test_each("that disagree, (q, n)", move |q, n, random| disagreeing(make, q, n, random));
+    group.test_each("with another fault, (q, n)", move |q, n, random| with_another_fault(make, q, n, random));
+    group.test_each("that agree, (q, n)", move |q, n, random| agreeing(make, q, n, random));
+    for order in ORDERS {
+        let widths = |_, random: &mut Random| vec![random.pick(&[3, 8, 11, 32])];
+        let some = [(3, 2, 10), (3, 2, 32), (3, 3, 16), (5, 3, 11)];
+        group.test_shapes(&format!("grown, {order:?}, (q, n)"), widths, move |shape, random| {
+            grown(make, shape, 24, order, random)
+        });
+        group.test_drawn(&format!("all pages, {order:?}, (q, n, b)"), &some, 1, move |shape, random| {
+            grown(make, shape, PAGES, order, random)
+        });
     }
     group
 }

@@ -2,6 +2,7 @@
 //! is said here, not asked of the reference, which is held to it like the library.
 
 use super::calls::turned_down;
+use super::every::{Shapes, Widths};
 use super::expect::expect;
 use super::figures::{after_arrival, any_calls, any_marks, figures, plain_marks, readable, session, Come};
 use crate::call::{After, Call, Entry, Make};
@@ -9,7 +10,7 @@ use crate::capture::{counted, most_marks, page_numbers, recording_of, Page};
 use crate::random::Random;
 use crate::reference::page::{FUNCTIONS, IDLE, PAGES};
 use crate::reference::session::{CALLS_AT, SESSION_LEN};
-use crate::reference::shape::{orders_and_directions, Refusal, Shape};
+use crate::reference::shape::{Refusal, Shape};
 use crate::report::{Group, Unit, Verdict};
 
 /// Counts of function 0 that a session from elsewhere comes with.
@@ -25,35 +26,18 @@ pub const CAPTURES: [(&str, &str); 5] = [
     ("6 4 2 6 4 2 0 0 0\n5 2 7 3 1 2 6 3 5\n", "taken 4 0\ntaken 1 0\nfunction calls\n3 1\n5 1\n"),
 ];
 
+/// A narrow, a middle and a wide one, which are drawn.
+const WIDTHS: Widths = |_, random| vec![random.pick(&[1, 2]), random.pick(&[8, 9, 10, 11]), random.pick(&[31, 32])];
+
 /// The group for whichever makes the calls, of all shapes whose pages have marks.
 pub fn group(name: &'static str, make: Make) -> Group {
     let mut group = Group::new(name, Unit::Calls);
-    let with_marks = |&(q, n): &(u32, u32)| Shape::new(q, n, 1).most_marks() > 0;
-    for (q, n) in orders_and_directions().into_iter().filter(with_marks) {
-        let mut test = |name: &str, body: fn(Make, Shape, &mut Random) -> Verdict| {
-            group.test(format!("{name}, ({q}, {n})"), move |random| of_widths(make, q, n, body, random));
-        };
-        test("among others", among_others);
-        test("nothing but idle", nothing_but_idle);
-        test("beside worn counts", beside_worn);
-        test("recordings", recordings);
-    }
+    let mut shapes = Shapes::new(&mut group, make, WIDTHS).only(|q, n| Shape::new(q, n, 1).most_marks() > 0);
+    shapes.test("among others, (q, n)", among_others);
+    shapes.test("nothing but idle, (q, n)", nothing_but_idle);
+    shapes.test("beside worn counts, (q, n)", beside_worn);
+    shapes.test("recordings, (q, n)", recordings);
     group
-}
-
-/// For a narrow, a middle and a wide width, whose slopes are drawn.
-fn of_widths(
-    make: Make,
-    q: u32,
-    n: u32,
-    body: fn(Make, Shape, &mut Random) -> Verdict,
-    random: &mut Random,
-) -> Verdict {
-    let mut tried = 0;
-    for b in [random.pick(&[1, 2]), random.pick(&[8, 9, 10, 11]), random.pick(&[31, 32])] {
-        tried += body(make, random.shape(q, n, b), random)?;
-    }
-    Ok(tried)
 }
 
 /// How many marks of each function from 1 to 255 the pages have; nothing for function 0.

@@ -1,51 +1,29 @@
 //! How many checks of each symbol decoding looks at. What must come is said here by counting on each symbol's
 //! own checks, their values made from the definition, not asked of the reference, which is held to it too.
 
+use super::every::{repeated, Shapes, Widths};
 use super::expect::expect;
 use crate::call::{After, Call, Entry, Make};
 use crate::damage::{apply, make as make_error, unmasked, Error, STYLES};
 use crate::random::Random;
 use crate::reference::reader::error_of;
-use crate::reference::shape::{all_slopes, orders_and_directions, Shape};
+use crate::reference::shape::Shape;
 use crate::reference::square::check;
 use crate::reference::writer::codeword;
 use crate::report::{Group, Unit, Verdict};
 
-const WIDTHS: [u32; 4] = [1, 8, 11, 32];
+/// Each some times, with small words more often, since they cost less.
+const WIDTHS: Widths = |q, _| repeated(&[1, 8, 11, 32], (900 / (q * q)).clamp(3, 20));
 
 /// The group for whichever makes the calls.
 pub fn group(name: &'static str, make: Make) -> Group {
     let mut group = Group::new(name, Unit::Calls);
-    for (q, n) in orders_and_directions() {
-        let mut test = |name: &str, body: fn(Make, Shape, &mut Random) -> Verdict| {
-            group.test(format!("{name}, ({q}, {n})"), move |random| of_widths(make, q, n, body, random));
-        };
-        test("codewords", codewords);
-        test("damaged words", damaged);
-        test("random words", random_words);
-    }
-    for shape in [2, 3].into_iter().flat_map(|n| all_slopes(3, n, 1)) {
-        let name = format!("all words of (3, {}, 1), slopes {:?}", shape.n, shape.own_slopes());
-        group.test(name, move |random| every_word(make, shape, random));
-    }
+    let mut shapes = Shapes::new(&mut group, make, WIDTHS);
+    shapes.test("codewords, (q, n)", codewords);
+    shapes.test("damaged words, (q, n)", damaged);
+    shapes.test("random words, (q, n)", random_words);
+    group.test_all_words(&[2, 3], move |shape, random| every_word(make, shape, random));
     group
-}
-
-/// For each width a few shapes whose slopes are drawn.
-fn of_widths(
-    make: Make,
-    q: u32,
-    n: u32,
-    body: fn(Make, Shape, &mut Random) -> Verdict,
-    random: &mut Random,
-) -> Verdict {
-    let mut tried = 0;
-    for b in WIDTHS {
-        for _ in 0..(900 / (q * q)).clamp(3, 20) {
-            tried += body(make, random.shape(q, n, b), random)?;
-        }
-    }
-    Ok(tried)
 }
 
 /// Each check's value, one symbol of the word after another: that of line L of direction t at t, L.

@@ -1,20 +1,18 @@
 //! The page reader and the page writer.
 
+use super::every::repeated;
 use super::expect::expect_reference;
 use crate::call::{to_bytes, Call, Entry};
 use crate::capture::{page_numbers, Page};
 use crate::random::Random;
-use crate::reference::shape::{orders_and_directions, Shape};
+use crate::reference::shape::Shape;
 use crate::report::{Group, Unit, Verdict};
-
-const WIDTHS: [u32; 8] = [1, 2, 8, 9, 10, 11, 31, 32];
 
 pub fn group() -> Group {
     let mut group = Group::new("pages", Unit::Calls);
-    for (q, n) in orders_and_directions() {
-        group.test(format!("reading, ({q}, {n})"), move |random| reading(q, n, random));
-        group.test(format!("writing, ({q}, {n})"), move |random| writing(q, n, random));
-    }
+    let widths = |_, _: &mut Random| repeated(&[1, 2, 8, 9, 10, 11, 31, 32], 60);
+    group.test_shapes("reading, (q, n)", widths, reading);
+    group.test_shapes("writing, (q, n)", widths, writing);
     group
 }
 
@@ -28,49 +26,43 @@ fn border(shape: Shape, random: &mut Random) -> u32 {
     }
 }
 
-fn reading(q: u32, n: u32, random: &mut Random) -> Verdict {
-    let rounds = 60;
-    for b in WIDTHS {
-        for _ in 0..rounds {
-            let shape = random.shape(q, n, b);
-            let number = random.below(page_numbers(shape)) as u32;
-            let mut data = Page::random(shape, number, random).symbols(shape);
-            for _ in 0..random.below(4) {
-                let any = random.below(data.len());
-                let at = random.pick(&[0, 1, 2, any, data.len() - 1]).min(data.len() - 1);
-                // Most faults fit the width, so that the later tests are reached.
-                data[at] = border(shape, random) & if random.one_in(4) { u32::MAX } else { shape.largest() };
-            }
-            expect_reference(Call::on_library, &Call::new(Entry::ReadPage, shape, &[&data]))?;
-            expect_reference(Call::on_library, &Call::new(Entry::HostReadPage, shape, &[&to_bytes(&data)]))?;
-            expect_reference(Call::on_library, &Call::new(Entry::Marks, shape, &[&data, &random.numbers(data.len())]))?;
-        }
-    }
-    Ok(3 * rounds * WIDTHS.len() as u64)
+fn any_page(shape: Shape, random: &mut Random) -> Page {
+    let number = random.below(page_numbers(shape)) as u32;
+    Page::random(shape, number, random)
 }
 
-fn writing(q: u32, n: u32, random: &mut Random) -> Verdict {
-    let rounds = 60;
-    for b in WIDTHS {
-        for _ in 0..rounds {
-            let shape = random.shape(q, n, b);
-            let number = random.below(page_numbers(shape)) as u32;
-            let Page { mut number, mut marks } = Page::random(shape, number, random);
-            if random.one_in(3) {
-                number = border(shape, random);
-            }
-            if random.one_in(3) {
-                let most = shape.most_marks();
-                marks.resize(random.pick(&[0, most, most + 1, most + 2, most + 100]), 0);
-            }
-            if !marks.is_empty() && random.one_in(3) {
-                let at = random.below(marks.len());
-                marks[at] = border(shape, random);
-            }
-            let excess = if random.one_in(5) { 1 } else { 0 };
-            let data = random.numbers(shape.data_len() + excess);
-            expect_reference(Call::on_library, &Call::numbered(Entry::WritePage, shape, number, &[&marks, &data]))?;
-        }
+fn reading(shape: Shape, random: &mut Random) -> Verdict {
+    let mut data = any_page(shape, random).symbols(shape);
+    for _ in 0..random.below(4) {
+        let any = random.below(data.len());
+        let at = random.pick(&[0, 1, 2, any, data.len() - 1]).min(data.len() - 1);
+        // Most faults fit the width, so that the later tests are reached.
+        data[at] = border(shape, random) & if random.one_in(4) { u32::MAX } else { shape.largest() };
     }
-    Ok(rounds * WIDTHS.len() as u64)
+    let marks = Call::new(Entry::Marks, shape, &[&data, &random.numbers(data.len())]);
+    let read = Call::new(Entry::ReadPage, shape, &[&data]);
+    let of_host = Call::new(Entry::HostReadPage, shape, &[&to_bytes(&data)]);
+    for call in [read, of_host, marks] {
+        expect_reference(Call::on_library, &call)?;
+    }
+    Ok(3)
+}
+
+fn writing(shape: Shape, random: &mut Random) -> Verdict {
+    let Page { mut number, mut marks } = any_page(shape, random);
+    if random.one_in(3) {
+        number = border(shape, random);
+    }
+    if random.one_in(3) {
+        let most = shape.most_marks();
+        marks.resize(random.pick(&[0, most, most + 1, most + 2, most + 100]), 0);
+    }
+    if !marks.is_empty() && random.one_in(3) {
+        let at = random.below(marks.len());
+        marks[at] = border(shape, random);
+    }
+    let excess = if random.one_in(5) { 1 } else { 0 };
+    let data = random.numbers(shape.data_len() + excess);
+    expect_reference(Call::on_library, &Call::numbered(Entry::WritePage, shape, number, &[&marks, &data]))?;
+    Ok(1)
 }

@@ -2,6 +2,7 @@
 //! the case itself settles it, by trying every error where these are few, and by the reference elsewhere.
 
 use super::calls::any_session;
+use super::every::Shapes;
 use super::expect::{expect, expect_reference};
 use crate::call::{answer_of, After, Call, Entry, Make};
 use crate::capture::{page_numbers, Page};
@@ -9,46 +10,23 @@ use crate::damage::{apply, make as damage, spelled_out, unmasked, Style, STYLES}
 use crate::random::Random;
 use crate::reference::brute::{all_codewords, all_words, explanations};
 use crate::reference::session::{Session, CLEAN};
-use crate::reference::shape::{all_slopes, orders_and_directions, Refusal, Shape};
+use crate::reference::shape::{Refusal, Shape};
 use crate::reference::square::is_unmasked;
 use crate::reference::writer::codeword;
 use crate::report::{Group, Unit, Verdict};
 
-const WIDTHS: [u32; 5] = [1, 8, 11, 31, 32];
-
 /// The group for whichever makes the calls.
 pub fn group(name: &'static str, make: Make) -> Group {
     let mut group = Group::new(name, Unit::Calls);
-    for (q, n) in orders_and_directions() {
-        let mut test = |name: &str, body: fn(Make, Shape, &mut Random) -> Verdict| {
-            group.test(format!("{name}, ({q}, {n})"), move |random| of_each_width(make, q, n, body, random));
-        };
-        test("right ones", right);
-        test("near ones", near);
-        test("masked or too much difference", masked_or_many);
-        test("any damage, any codeword", anything);
-        test("lengths and widths", lengths_and_widths);
-        test("arrivals", arrivals);
-    }
-    for shape in [2, 3].into_iter().flat_map(|n| all_slopes(3, n, 1)) {
-        let name = format!("all words of (3, {}, 1), slopes {:?}", shape.n, shape.own_slopes());
-        group.test(name, move |_| every_pair(make, shape));
-    }
+    let mut shapes = Shapes::new(&mut group, make, |_, _| vec![1, 8, 11, 31, 32]);
+    shapes.test("right ones, (q, n)", right);
+    shapes.test("near ones, (q, n)", near);
+    shapes.test("masked or too much difference, (q, n)", masked_or_many);
+    shapes.test("any damage, any codeword, (q, n)", anything);
+    shapes.test("lengths and widths, (q, n)", lengths_and_widths);
+    shapes.test("arrivals, (q, n)", arrivals);
+    group.test_all_words(&[2, 3], move |shape, _| every_pair(make, shape));
     group
-}
-
-fn of_each_width(
-    make: Make,
-    q: u32,
-    n: u32,
-    body: fn(Make, Shape, &mut Random) -> Verdict,
-    random: &mut Random,
-) -> Verdict {
-    let mut tried = 0;
-    for b in WIDTHS {
-        tried += body(make, random.shape(q, n, b), random)?;
-    }
-    Ok(tried)
 }
 
 fn check(shape: Shape, received: &[u32], proposed: &[u32]) -> Call {

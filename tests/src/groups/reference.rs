@@ -9,7 +9,7 @@ use crate::reference::elimination::Positions;
 use crate::reference::filler::{agreeing, Agreeing};
 use crate::reference::program::tally;
 use crate::reference::reader::decode;
-use crate::reference::shape::{all_slopes, orders_and_directions, Refusal, Shape};
+use crate::reference::shape::{Refusal, Shape};
 use crate::reference::square::{checks_on, is_codeword};
 use crate::reference::writer::{codeword, information};
 use crate::report::{Group, Unit, Verdict};
@@ -17,21 +17,14 @@ use crate::rivals::elimination;
 
 pub fn group() -> Group {
     let mut group = Group::new("reference", Unit::Calls);
-    for (q, n) in orders_and_directions() {
-        group.test(format!("checks of ({q}, {n})"), move |_| checks(Shape::new(q, n, 1)));
-        group.test(format!("checks of ({q}, {n}), other slopes"), move |random| checks(random.sloped(q, n, 1)));
-        group.test(format!("positions of ({q}, {n})"), move |random| positions(q, n, random));
-        group.test(format!("unmasked errors of ({q}, {n})"), move |random| restores(q, n, random));
-        group.test(format!("codewords that agree, ({q}, {n})"), move |random| codewords_that_agree(q, n, random));
-    }
-    for shape in [2, 3].into_iter().flat_map(|n| all_slopes(3, n, 1)) {
-        let name = format!("all words of (3, {}, 1), slopes {:?}", shape.n, shape.own_slopes());
-        group.test(name, move |_| every_word(shape));
-    }
-    for (q, n, b) in [(3, 2, 2), (3, 3, 2), (3, 3, 3), (5, 2, 1), (5, 3, 1), (5, 4, 1), (5, 5, 1), (7, 2, 1), (7, 3, 1)]
-    {
-        group.test(format!("sampled words of ({q}, {n}, {b})"), move |random| sampled(q, n, b, random));
-    }
+    group.test_each("checks of (q, n)", |q, n, _| checks(Shape::new(q, n, 1)));
+    group.test_each("checks of (q, n), other slopes", |q, n, random| checks(random.sloped(q, n, 1)));
+    group.test_shapes("positions of (q, n)", |_, _| vec![32; 20], positions);
+    group.test_shapes("unmasked errors of (q, n)", |_, _| vec![1, 2, 8, 32], restores);
+    group.test_each("codewords that agree, (q, n)", codewords_that_agree);
+    group.test_all_words(&[2, 3], |shape, _| every_word(shape));
+    let small = [(3, 2, 2), (3, 3, 2), (3, 3, 3), (5, 2, 1), (5, 3, 1), (5, 4, 1), (5, 5, 1), (7, 2, 1), (7, 3, 1)];
+    group.test_drawn("sampled words of (q, n, b)", &small, 150, sampled);
     group.test("the rules' capture", |_| example());
     group.test("captures with idle marks", |_| idle_captures());
     group
@@ -61,36 +54,27 @@ fn checks(shape: Shape) -> Verdict {
     Ok(shape.word_len() as u64)
 }
 
-fn positions(q: u32, n: u32, random: &mut Random) -> Verdict {
-    let rounds = 20;
-    for _ in 0..rounds {
-        let shape = random.shape(q, n, 32);
-        let found = Positions::of(shape);
-        require(found.parity.len() == shape.checks() - shape.most_errors(), "n×q - (n-1) parity positions")?;
-        require(found.information.len() == shape.data_len(), "K information positions")?;
-        let data = random.symbols(shape, shape.data_len());
-        let word = codeword(shape, &data);
-        require(is_codeword(shape, &word), "what is written is a codeword")?;
-        require(information(shape, &word) == data, "what is written is found again")?;
-    }
-    Ok(rounds)
+fn positions(shape: Shape, random: &mut Random) -> Verdict {
+    let found = Positions::of(shape);
+    require(found.parity.len() == shape.checks() - shape.most_errors(), "n×q - (n-1) parity positions")?;
+    require(found.information.len() == shape.data_len(), "K information positions")?;
+    let data = random.symbols(shape, shape.data_len());
+    let word = codeword(shape, &data);
+    require(is_codeword(shape, &word), "what is written is a codeword")?;
+    require(information(shape, &word) == data, "what is written is found again")?;
+    Ok(1)
 }
 
 /// Reading undoes every unmasked error of weight up to n - 1 and counts its symbols.
-fn restores(q: u32, n: u32, random: &mut Random) -> Verdict {
-    let mut tried = 0;
-    for b in [1, 2, 8, 32] {
-        let shape = random.shape(q, n, b);
-        let sent = codeword(shape, &random.symbols(shape, shape.data_len()));
-        for weight in 0..=shape.most_errors() {
-            let mut word = sent.clone();
-            apply(&unmasked(shape, weight, random), &mut word);
-            require(decode(shape, &mut word) == Ok(weight as u32), "an unmasked error is counted")?;
-            require(word == sent, "an unmasked error is undone")?;
-            tried += 1;
-        }
+fn restores(shape: Shape, random: &mut Random) -> Verdict {
+    let sent = codeword(shape, &random.symbols(shape, shape.data_len()));
+    for weight in 0..=shape.most_errors() {
+        let mut word = sent.clone();
+        apply(&unmasked(shape, weight, random), &mut word);
+        require(decode(shape, &mut word) == Ok(weight as u32), "an unmasked error is counted")?;
+        require(word == sent, "an unmasked error is undone")?;
     }
-    Ok(tried)
+    Ok(shape.n.into())
 }
 
 /// With any list of places, what is said to agree does, and elimination by rows says the same.
@@ -156,16 +140,12 @@ fn every_word(shape: Shape) -> Verdict {
     Ok(words.len() as u64)
 }
 
-fn sampled(q: u32, n: u32, b: u32, random: &mut Random) -> Verdict {
-    let rounds = 150;
-    for _ in 0..rounds {
-        let shape = random.shape(q, n, b);
-        let mut received = codeword(shape, &random.symbols(shape, shape.data_len()));
-        let (style, weight) = (random.pick(&STYLES), random.below(shape.n as usize + 3));
-        apply(&make(style, shape, weight, random), &mut received);
-        agrees(shape, &received, &explanations(shape, &received))?;
-    }
-    Ok(rounds)
+fn sampled(shape: Shape, random: &mut Random) -> Verdict {
+    let mut received = codeword(shape, &random.symbols(shape, shape.data_len()));
+    let (style, weight) = (random.pick(&STYLES), random.below(shape.n as usize + 3));
+    apply(&make(style, shape, weight, random), &mut received);
+    agrees(shape, &received, &explanations(shape, &received))?;
+    Ok(1)
 }
 
 fn example() -> Verdict {

@@ -8,7 +8,7 @@ use crate::call::{answer_of, to_bytes, Call, Entry};
 use crate::random::Random;
 use crate::reference::page::PAGES;
 use crate::reference::session::{CALLS_AT, LOWEST_AT, MARKS_AT, PAGES_AT, SESSION_LEN};
-use crate::reference::shape::{orders_and_directions, Refusal, Shape, SHAPE_LEN, SLOPES};
+use crate::reference::shape::{Refusal, Shape, SHAPE_LEN, SLOPES};
 use crate::report::{Group, Unit, Verdict};
 
 /// Those that test the width of a slice.
@@ -33,12 +33,10 @@ pub fn group() -> Group {
     for entry in ENTRIES {
         group.test(format!("shapes, {entry:?}"), move |random| shapes(entry, random));
     }
-    for (q, n) in orders_and_directions() {
-        group.test(format!("lengths of ({q}, {n})"), move |random| lengths(q, n, random));
-        group.test(format!("scratch of ({q}, {n})"), move |random| scratch_lengths(q, n, random));
-        group.test(format!("widths of ({q}, {n})"), move |random| widths(q, n, random));
-        group.test(format!("several faults, ({q}, {n})"), move |random| several_faults(q, n, random));
-    }
+    group.test_each("lengths of (q, n)", lengths);
+    group.test_each("scratch of (q, n)", scratch_lengths);
+    group.test_each("widths of (q, n)", widths);
+    group.test_each("several faults, (q, n)", several_faults);
     for (q, n) in [(3, 2), (3, 3), (5, 2), (7, 7)] {
         group.test(format!("every number of bytes, ({q}, {n})"), move |random| byte_lengths(q, n, random));
     }

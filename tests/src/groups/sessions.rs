@@ -1,6 +1,7 @@
 //! Arrivals in sessions grown from a fresh one and in sessions handed in from elsewhere.
 
 use super::calls::{any_session, old_scratch_len};
+use super::every::repeated;
 use super::expect::expect_reference;
 use crate::call::{difference, Call, Entry};
 use crate::capture::{page_numbers, recording, Page};
@@ -10,7 +11,7 @@ use crate::reference::page::{FUNCTIONS, PAGES};
 use crate::reference::session::{
     ways_of, Outcome, Session, CALLS_AT, LOWEST_AT, MARKS_AT, PAGES_AT, SESSION_LEN, WAYS,
 };
-use crate::reference::shape::{orders_and_directions, Shape, SHAPE_LEN};
+use crate::reference::shape::{Shape, SHAPE_LEN};
 use crate::reference::writer::codeword;
 use crate::report::{Group, Unit, Verdict};
 use crate::shrink::{expect, without_parts, Case};
@@ -18,12 +19,10 @@ use crate::shrink::{expect, without_parts, Case};
 pub fn groups() -> [Group; 2] {
     let mut group = Group::new("arrivals", Unit::Words);
     let mut queries = Group::new("count queries", Unit::Calls);
-    for (q, n) in orders_and_directions() {
-        group.test(format!("grown, ({q}, {n})"), move |random| grown(q, n, random));
-        group.test(format!("handed in, ({q}, {n})"), move |random| handed_in(q, n, random));
-        group.test(format!("worn counts, ({q}, {n})"), move |random| worn(q, n, random));
-        queries.test(format!("({q}, {n})"), move |random| count_queries(q, n, random));
-    }
+    group.test_shapes("grown, (q, n)", |_, _| vec![1, 8, 11, 31, 32], grown);
+    group.test_shapes("handed in, (q, n)", |_, _| repeated(&[1, 2, 8, 11, 31, 32], 4), handed_in);
+    group.test_shapes("worn counts, (q, n)", |_, _| repeated(&[1, 8, 32], 4), worn);
+    queries.test_shapes("(q, n)", |_, random| vec![1 + random.below(32) as u32], count_queries);
     group.test("all 1024 pages, full of marks", |random| all_pages(Shape::new(31, 2, 32), random));
     group.test("all 1024 pages, other slopes", |random| all_pages(random.sloped(31, 2, 32), random));
     [group, queries]
@@ -137,20 +136,15 @@ fn is_refused(shape: Shape, arrival: &Arrival) -> bool {
 }
 
 /// Every page some times in any order, refused words between: the tally is the recording's own.
-fn grown(q: u32, n: u32, random: &mut Random) -> Verdict {
-    let mut tried = 0;
-    for b in [1, 8, 11, 31, 32] {
-        let shape = random.shape(q, n, b);
-        let pages = recording(shape, 12, random);
-        let mut arrivals = vec![];
-        for page in &pages {
-            arrivals.extend((0..1 + random.below(3)).map(|_| readable(shape, page, random)));
-            arrivals.extend(Some(anything(shape, page, random)).filter(|arrival| is_refused(shape, arrival)));
-        }
-        random.shuffle(&mut arrivals);
-        tried += fits_recording(shape, &pages, arrivals)?;
+fn grown(shape: Shape, random: &mut Random) -> Verdict {
+    let pages = recording(shape, 12, random);
+    let mut arrivals = vec![];
+    for page in &pages {
+        arrivals.extend((0..1 + random.below(3)).map(|_| readable(shape, page, random)));
+        arrivals.extend(Some(anything(shape, page, random)).filter(|arrival| is_refused(shape, arrival)));
     }
-    Ok(tried)
+    random.shuffle(&mut arrivals);
+    fits_recording(shape, &pages, arrivals)
 }
 
 /// Runs the list from a fresh session and holds the end to the recording.
@@ -175,30 +169,23 @@ fn fits_recording(shape: Shape, pages: &[Page], arrivals: Vec<Arrival>) -> Verdi
 
 /// Sessions with any pages taken, any nonzero number for yes, and counts near both ends. Few have
 /// figures that disagree; they have their own group.
-fn handed_in(q: u32, n: u32, random: &mut Random) -> Verdict {
-    let mut tried = 0;
-    for b in [1, 2, 8, 11, 31, 32] {
-        for _ in 0..4 {
-            let shape = random.shape(q, n, b);
-            let mut start = any_session(shape, random);
-            if random.one_in(8) {
-                disagree(&mut start, random);
-            }
-            let number = |random: &mut Random| random.below(page_numbers(shape)) as u32;
-            let pages: Vec<Page> = (0..6).map(|_| Page::random(shape, number(random), random)).collect();
-            let some = |page: &Page| {
-                if random.one_in(3) {
-                    anything(shape, page, random)
-                } else {
-                    readable(shape, page, random)
-                }
-            };
-            let run = Run { start, arrivals: pages.iter().map(some).collect() };
-            expect(&run)?;
-            tried += run.arrivals.len() as u64;
-        }
+fn handed_in(shape: Shape, random: &mut Random) -> Verdict {
+    let mut start = any_session(shape, random);
+    if random.one_in(8) {
+        disagree(&mut start, random);
     }
-    Ok(tried)
+    let number = |random: &mut Random| random.below(page_numbers(shape)) as u32;
+    let pages: Vec<Page> = (0..6).map(|_| Page::random(shape, number(random), random)).collect();
+    let some = |page: &Page| {
+        if random.one_in(3) {
+            anything(shape, page, random)
+        } else {
+            readable(shape, page, random)
+        }
+    };
+    let run = Run { start, arrivals: pages.iter().map(some).collect() };
+    expect(&run)?;
+    Ok(run.arrivals.len() as u64)
 }
 
 /// Another figure, or another mark under the same figures.
@@ -214,27 +201,21 @@ fn disagree(session: &mut [u32], random: &mut Random) {
 
 /// A function's count that its marks just fill, and one that they just pass: the latter is refused,
 /// but only where the page is new.
-fn worn(q: u32, n: u32, random: &mut Random) -> Verdict {
-    let mut tried = 0;
-    for b in [1, 8, 32] {
-        for _ in 0..4 {
-            let shape = random.shape(q, n, b);
-            let page = Page::random(shape, random.below(page_numbers(shape)) as u32, random);
-            let Some(function) = page.calls().next_back() else { continue };
-            let times = page.calls().filter(|&other| other == function).count() as u32;
-            for (left, taken) in [(times, false), (times - 1, false), (times - 1, true), (0, false)] {
-                let mut session = Session::fresh(shape).expect("a lawful shape");
-                session.calls[function] = u32::MAX - left;
-                if taken {
-                    session.take(page.number);
-                }
-                let arrivals = vec![readable(shape, &page, random), readable(shape, &page, random)];
-                expect(&Run { start: session.values(), arrivals })?;
-                tried += 2;
-            }
+fn worn(shape: Shape, random: &mut Random) -> Verdict {
+    let page = Page::random(shape, random.below(page_numbers(shape)) as u32, random);
+    let Some(function) = page.calls().next_back() else { return Ok(0) };
+    let times = page.calls().filter(|&other| other == function).count() as u32;
+    let cases = [(times, false), (times - 1, false), (times - 1, true), (0, false)];
+    for (left, taken) in cases {
+        let mut session = Session::fresh(shape).expect("a lawful shape");
+        session.calls[function] = u32::MAX - left;
+        if taken {
+            session.take(page.number);
         }
+        let arrivals = vec![readable(shape, &page, random), readable(shape, &page, random)];
+        expect(&Run { start: session.values(), arrivals })?;
     }
-    Ok(tried)
+    Ok(2 * cases.len() as u64)
 }
 
 /// The largest recording there is, each page twice. A quarter of the marks is idle.
@@ -247,9 +228,8 @@ fn all_pages(shape: Shape, random: &mut Random) -> Verdict {
     fits_recording(shape, &pages, arrivals)
 }
 
-fn count_queries(q: u32, n: u32, random: &mut Random) -> Verdict {
-    let b = 1 + random.below(32) as u32;
-    let right = any_session(random.shape(q, n, b), random);
+fn count_queries(shape: Shape, random: &mut Random) -> Verdict {
+    let right = any_session(shape, random);
     let mut wrong = right.clone();
     disagree(&mut wrong, random);
     let functions = (0..300).chain([1 << 16, 1 << 31, u32::MAX]);

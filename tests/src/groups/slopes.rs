@@ -5,21 +5,19 @@ use super::calls::{good, later_faults, reshaped, resized, turned_down, ENTRIES};
 use super::expect::expect;
 use crate::call::{answer_of, After, Call, Entry, Make};
 use crate::random::Random;
-use crate::reference::shape::{orders_and_directions, Refusal, Shape, SHAPE_LEN, SLOPES};
+use crate::reference::shape::{Refusal, Shape, SHAPE_LEN, SLOPES};
 use crate::report::{Group, Unit, Verdict};
 
 /// The group for whichever makes the calls.
 pub fn group(name: &'static str, make: Make) -> Group {
     let mut group = Group::new(name, Unit::Calls);
-    for (q, n) in orders_and_directions() {
-        let mut test = |name: &str, body: fn(Make, Shape, Entry, &mut Random) -> Verdict| {
-            group.test(format!("{name}, ({q}, {n})"), move |random| of_each_entry(make, q, n, body, random));
-        };
-        test("wrong slopes", wrong);
-        test("with another fault", with_another_fault);
-        test("slopes that don't count", not_counted);
-        test("shape slices", shape_slices);
-    }
+    let mut test = |name: &str, body: fn(Make, Shape, Entry, &mut Random) -> Verdict| {
+        group.test_each(name, move |q, n, random| of_each_entry(make, q, n, body, random));
+    };
+    test("wrong slopes, (q, n)", wrong);
+    test("with another fault, (q, n)", with_another_fault);
+    test("slopes that don't count, (q, n)", not_counted);
+    test("shape slices, (q, n)", shape_slices);
     group
 }
 

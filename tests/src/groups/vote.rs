@@ -2,53 +2,30 @@
 //! is said here where the damage settles it, by trying every codeword where these are few, and by the reference elsewhere.
 
 use super::calls::turned_down;
+use super::every::{Shapes, WIDTHS};
 use super::expect::{expect, expect_reference};
 use crate::call::{After, Call, Entry, Make};
-use crate::damage::{apply, make as damage, unmasked, Error, STYLES};
+use crate::damage::{any_line, apply, make as damage, unmasked, Error, STYLES};
 use crate::random::Random;
 use crate::reference::brute::{all_codewords, all_words, near};
-use crate::reference::shape::{all_slopes, orders_and_directions, Refusal, Shape};
-use crate::reference::square::{check, weight, xor};
+use crate::reference::shape::{Refusal, Shape};
+use crate::reference::square::{weight, xor};
 use crate::reference::writer::codeword;
 use crate::report::{Group, Unit, Verdict};
-
-const WIDTHS: [u32; 4] = [1, 8, 31, 32];
 
 /// The group for whichever makes the calls.
 pub fn group(name: &'static str, make: Make) -> Group {
     let mut group = Group::new(name, Unit::Words);
-    for (q, n) in orders_and_directions() {
-        let mut test = |name: &str, body: fn(Make, Shape, &mut Random) -> Verdict| {
-            group.test(format!("{name}, ({q}, {n})"), move |random| of_each_width(make, q, n, body, random));
-        };
-        test("stripes", stripes);
-        test("every weight", weights);
-        test("other codewords", other_codewords);
-        test("random words", random_words);
-        test("lengths, widths and shapes", faults);
-    }
-    for shape in [2, 3].into_iter().flat_map(|n| all_slopes(3, n, 1)) {
-        let name = format!("all words of (3, {}, 1), slopes {:?}", shape.n, shape.own_slopes());
-        group.test(name, move |_| every_word(make, shape));
-    }
-    for (q, n, b) in [(3, 2, 2), (3, 2, 3), (3, 3, 3), (5, 4, 1), (5, 5, 1), (5, 5, 2), (7, 6, 1), (7, 7, 2)] {
-        group.test(format!("sampled words of ({q}, {n}, {b})"), move |random| sampled(make, q, n, b, random));
-    }
+    let mut shapes = Shapes::new(&mut group, make, WIDTHS);
+    shapes.test("stripes, (q, n)", stripes);
+    shapes.test("every weight, (q, n)", weights);
+    shapes.test("other codewords, (q, n)", other_codewords);
+    shapes.test("random words, (q, n)", random_words);
+    shapes.test("lengths, widths and shapes, (q, n)", faults);
+    group.test_all_words(&[2, 3], move |shape, _| every_word(make, shape));
+    let small = [(3, 2, 2), (3, 2, 3), (3, 3, 3), (5, 4, 1), (5, 5, 1), (5, 5, 2), (7, 6, 1), (7, 7, 2)];
+    group.test_drawn("sampled words of (q, n, b)", &small, 4, move |shape, random| sampled(make, shape, random));
     group
-}
-
-fn of_each_width(
-    make: Make,
-    q: u32,
-    n: u32,
-    body: fn(Make, Shape, &mut Random) -> Verdict,
-    random: &mut Random,
-) -> Verdict {
-    let mut tried = 0;
-    for b in WIDTHS {
-        tried += body(make, random.shape(q, n, b), random)?;
-    }
-    Ok(tried)
 }
 
 fn vote(shape: Shape, word: &[u32]) -> Call {
@@ -77,8 +54,7 @@ fn expect_damaged(make: Make, shape: Shape, error: &Error, random: &mut Random) 
 fn stripes(make: Make, shape: Shape, random: &mut Random) -> Verdict {
     let mut tried = 0;
     for t in 0..shape.n as usize {
-        let line = t * shape.q as usize + random.below(shape.q as usize);
-        let on_line: Vec<usize> = (0..shape.word_len()).filter(|&j| check(shape, t, j) == line).collect();
+        let on_line = any_line(shape, t, random);
         for count in (1..=shape.n as usize).chain([shape.q as usize]) {
             let mut anywhere = on_line.clone();
             random.shuffle(&mut anywhere);
@@ -188,20 +164,16 @@ fn every_word(make: Make, shape: Shape) -> Verdict {
     Ok(words.len() as u64)
 }
 
-/// Small shapes with damage of any weight up to n.
-fn sampled(make: Make, q: u32, n: u32, b: u32, random: &mut Random) -> Verdict {
-    let mut tried = 0;
-    for _ in 0..4 {
-        let shape = random.shape(q, n, b);
-        let codewords = all_codewords(shape);
-        for _ in 0..60 {
-            let mut word = codewords[random.below(codewords.len())].clone();
-            let weight = random.below(shape.n as usize + 1);
-            apply(&damage(random.pick(&STYLES), shape, weight, random), &mut word);
-            let call = vote(shape, &word);
-            expect(make, &call, &by_definition(shape, &call, &codewords)?)?;
-            tried += 1;
-        }
+/// Damage of any weight up to n.
+fn sampled(make: Make, shape: Shape, random: &mut Random) -> Verdict {
+    let rounds = 60;
+    let codewords = all_codewords(shape);
+    for _ in 0..rounds {
+        let mut word = codewords[random.below(codewords.len())].clone();
+        let weight = random.below(shape.n as usize + 1);
+        apply(&damage(random.pick(&STYLES), shape, weight, random), &mut word);
+        let call = vote(shape, &word);
+        expect(make, &call, &by_definition(shape, &call, &codewords)?)?;
     }
-    Ok(tried)
+    Ok(rounds)
 }

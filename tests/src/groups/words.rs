@@ -1,29 +1,29 @@
 //! Reading words with every kind of error, through the harness and, where the slopes are the standard
 //! ones, through the host pair.
 
+use super::every::{repeated, Widths};
 use crate::call::{brief, difference, to_bytes, After, Call, Entry};
 use crate::damage::{apply, make, unmasked, Error, STYLES};
 use crate::random::Random;
-use crate::reference::shape::{all_slopes, orders_and_directions, Shape, ORDERS};
+use crate::reference::shape::{Shape, ORDERS};
 use crate::reference::writer::codeword;
 use crate::report::{Group, Unit, Verdict};
 use crate::shrink::{expect, without_parts, Case};
 
 const WIDTHS: [u32; 7] = [1, 2, 8, 11, 16, 31, 32];
 
+/// The same and another one.
+const ONE_MORE: Widths = |q, random| {
+    let other = 3 + random.below(28) as u32;
+    repeated(&[&WIDTHS[..], &[other]].concat(), rounds(q))
+};
+
 pub fn group() -> Group {
     let mut group = Group::new("damaged words", Unit::Words);
-    for (q, n) in orders_and_directions() {
-        group.test(format!("({q}, {n})"), move |random| sweep(q, n, random));
-    }
-    for (q, n) in orders_and_directions() {
-        group.test(format!("random words of ({q}, {n})"), move |random| random_words(q, n, random));
-    }
+    group.test_shapes("(q, n)", ONE_MORE, sweep);
+    group.test_shapes("random words of (q, n)", |q, _| repeated(&WIDTHS, rounds(q)), random_words);
     group.test("the shipped shape and its neighbours", shipped);
-    for shape in [2, 3].into_iter().flat_map(|n| all_slopes(3, n, 1)) {
-        let name = format!("all words of (3, {}, 1), slopes {:?}", shape.n, shape.own_slopes());
-        group.test(name, move |_| every_word(shape));
-    }
+    group.test_all_words(&[2, 3], |shape, _| every_word(shape));
     group
 }
 
@@ -32,17 +32,13 @@ fn rounds(q: u32) -> u32 {
     (9_000 / (q * q)).clamp(12, 180)
 }
 
-fn sweep(q: u32, n: u32, random: &mut Random) -> Verdict {
-    let mut tried = 0;
-    for b in WIDTHS.into_iter().chain([3 + random.below(28) as u32]) {
-        for _ in 0..rounds(q) {
-            let shape = random.shape(q, n, b);
-            let sent = codeword(shape, &random.symbols(shape, shape.data_len()));
-            for error in errors(shape, random) {
-                expect(&Damaged { shape, sent: sent.clone(), error })?;
-                tried += 1;
-            }
-        }
+/// A codeword with errors of every kind.
+fn sweep(shape: Shape, random: &mut Random) -> Verdict {
+    let sent = codeword(shape, &random.symbols(shape, shape.data_len()));
+    let errors = errors(shape, random);
+    let tried = errors.len() as u64;
+    for error in errors {
+        expect(&Damaged { shape, sent: sent.clone(), error })?;
     }
     Ok(tried)
 }
@@ -60,17 +56,10 @@ fn errors(shape: Shape, random: &mut Random) -> Vec<Error> {
 }
 
 /// Words that have nothing to do with a codeword.
-fn random_words(q: u32, n: u32, random: &mut Random) -> Verdict {
-    let mut tried = 0;
-    for b in WIDTHS {
-        for _ in 0..rounds(q) {
-            let shape = random.shape(q, n, b);
-            let word = random.symbols(shape, shape.word_len());
-            expect(&Damaged::by_itself(shape, &word))?;
-            tried += 1;
-        }
-    }
-    Ok(tried)
+fn random_words(shape: Shape, random: &mut Random) -> Verdict {
+    let word = random.symbols(shape, shape.word_len());
+    expect(&Damaged::by_itself(shape, &word))?;
+    Ok(1)
 }
 
 /// Order 17 with slopes 0, 1, 2 and four directions, whatever the slopes past the third, and shapes that
@@ -89,12 +78,7 @@ fn shipped(random: &mut Random) -> Verdict {
     for (n, slopes) in [3, 4, 5].into_iter().flat_map(|n| SLOPES.map(|slopes| (n, slopes))) {
         for b in WIDTHS {
             let shape = Shape::new(17, n, b).with_slopes(slopes);
-            let sent =
-                if shape.lawful() { codeword(shape, &random.symbols(shape, shape.data_len())) } else { continue };
-            for error in errors(shape, random) {
-                expect(&Damaged { shape, sent: sent.clone(), error })?;
-                tried += 1;
-            }
+            tried += if shape.lawful() { sweep(shape, random)? } else { 0 };
         }
     }
     Ok(tried)

@@ -15,6 +15,12 @@ pub fn checks_on(shape: Shape, j: usize) -> impl Iterator<Item = usize> {
     (0..shape.n as usize).map(move |t| check(shape, t, j))
 }
 
+/// The positions that are on a check, rising.
+pub fn positions_on(shape: Shape, number: usize) -> Vec<usize> {
+    let t = number / shape.q as usize;
+    (0..shape.word_len()).filter(|&j| check(shape, t, j) == number).collect()
+}
+
 /// Each check's value.
 pub fn syndromes(shape: Shape, word: &[u32]) -> Vec<u32> {
     let mut values = vec![0; shape.checks()];
