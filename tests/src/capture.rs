@@ -1,6 +1,6 @@
 //! Recordings, and captures of them as text in the house form.
 
-use crate::damage::{apply, make, unmasked, Error, Style};
+use crate::damage::{damaged, make, unmasked, Error, Style};
 use crate::random::Random;
 use crate::reference::page::{page_symbols, FUNCTIONS, IDLE, PAGES};
 use crate::reference::program::tally;
@@ -56,9 +56,7 @@ impl Page {
     }
 
     pub fn damaged(&self, shape: Shape, error: &Error) -> Vec<u32> {
-        let mut word = self.codeword(shape);
-        apply(error, &mut word);
-        word
+        damaged(&self.codeword(shape), error)
     }
 }
 

@@ -31,7 +31,7 @@ pub fn make(style: Style, shape: Shape, weight: usize, random: &mut Random) -> E
         Style::Masked => on_one_check(shape, weight.min(2), random),
         Style::Phantom => around_a_position(shape, weight, random),
     };
-    let positions = fill_up(chosen, shape, weight, random);
+    let positions = random.more_positions(chosen, weight, shape.word_len());
     let mut error: Error = positions.into_iter().map(|j| (j, random.nonzero_symbol(shape))).collect();
     match style {
         Style::Equal => equalize(&mut error),
@@ -72,15 +72,26 @@ pub fn allowed(way: u32, shape: Shape, random: &mut Random) -> Error {
     }
 }
 
-pub fn apply(error: &Error, word: &mut [u32]) {
+pub fn apply(error: &[(usize, u32)], word: &mut [u32]) {
     error.iter().for_each(|&(j, symbol)| word[j] ^= symbol);
+}
+
+/// The word with the error on it.
+pub fn damaged(word: &[u32], error: &[(usize, u32)]) -> Vec<u32> {
+    let mut word = word.to_vec();
+    apply(error, &mut word);
+    word
+}
+
+/// Positions as a list of dead cells, which rises.
+pub fn list(mut positions: Vec<usize>) -> Vec<u32> {
+    positions.sort_unstable();
+    positions.into_iter().map(|j| j as u32).collect()
 }
 
 /// The error as a list of N symbols.
 pub fn spelled_out(shape: Shape, error: &Error) -> Vec<u32> {
-    let mut symbols = vec![0; shape.word_len()];
-    apply(error, &mut symbols);
-    symbols
+    damaged(&vec![0; shape.word_len()], error)
 }
 
 /// The positions on any line of direction t.
@@ -125,14 +136,4 @@ fn crossing_no_check_twice(shape: Shape, weight: usize, random: &mut Random) -> 
     let on_line = |row: usize| row * q + (line + (q - slope) * row) % q;
     let rows = random.positions(weight, q);
     rows.into_iter().map(|row| (on_line(row), random.nonzero_symbol(shape))).collect()
-}
-
-fn fill_up(mut positions: Vec<usize>, shape: Shape, weight: usize, random: &mut Random) -> Vec<usize> {
-    while positions.len() < weight {
-        let j = random.below(shape.word_len());
-        if !positions.contains(&j) {
-            positions.push(j);
-        }
-    }
-    positions
 }

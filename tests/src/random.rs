@@ -1,6 +1,7 @@
 //! Random numbers from a seed (SplitMix64).
 
 use crate::reference::shape::{Shape, SLOPES};
+use crate::reference::writer::codeword;
 
 pub struct Random(u64);
 
@@ -102,9 +103,18 @@ impl Random {
         }
     }
 
+    /// A codeword with such information symbols.
+    pub fn codeword(&mut self, shape: Shape) -> Vec<u32> {
+        codeword(shape, &self.symbols(shape, shape.data_len()))
+    }
+
     /// Distinct positions below bound, in no order.
     pub fn positions(&mut self, count: usize, bound: usize) -> Vec<usize> {
-        let mut chosen: Vec<usize> = vec![];
+        self.more_positions(vec![], count, bound)
+    }
+
+    /// These positions and others, up to so many.
+    pub fn more_positions(&mut self, mut chosen: Vec<usize>, count: usize, bound: usize) -> Vec<usize> {
         while chosen.len() < count {
             let position = self.below(bound);
             if !chosen.contains(&position) {

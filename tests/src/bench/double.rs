@@ -2,11 +2,10 @@
 
 use super::contest::{times, Times};
 use super::words::{batch_size, read_all, read_batch, Decode};
-use crate::damage::{apply, unmasked};
+use crate::damage::{damaged, unmasked};
 use crate::ffi;
 use crate::random::Random;
 use crate::reference::shape::Shape;
-use crate::reference::writer::codeword;
 use std::hint::black_box;
 
 /// How much of clean reading's time is allowed.
@@ -26,12 +25,11 @@ pub fn table() -> Option<String> {
 
 fn reading(shape: Shape) -> Times {
     let mut random = Random::new(1, "two wrong symbols");
-    let mut damaged = || {
-        let mut word = codeword(shape, &random.symbols(shape, shape.data_len()));
-        apply(&unmasked(shape, 2, &mut random), &mut word);
-        word
+    let mut word = || {
+        let sent = random.codeword(shape);
+        damaged(&sent, &unmasked(shape, 2, &mut random))
     };
-    let words: Vec<u32> = (0..batch_size(shape)).flat_map(|_| damaged()).collect();
+    let words: Vec<u32> = (0..batch_size(shape)).flat_map(|_| word()).collect();
     let values = black_box(shape).values();
     let readers: [Decode; 2] = [&|word| ffi::decode_two(&values, word), &|word| ffi::decode(&values, word)];
     let results = readers.map(|decode| read_all(shape, decode, &mut words.clone()));

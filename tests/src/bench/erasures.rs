@@ -2,10 +2,10 @@
 
 use super::contest::{timed, times, Batch, Times};
 use super::words::batch_size;
+use crate::damage::list;
 use crate::ffi;
 use crate::random::Random;
 use crate::reference::shape::Shape;
-use crate::reference::writer::codeword;
 use crate::rivals::elimination;
 use std::hint::black_box;
 
@@ -29,11 +29,7 @@ impl Named {
     fn places(self, shape: Shape, random: &mut Random) -> Vec<u32> {
         let size = shape.word_len() as u32;
         match self {
-            Named::Few => {
-                let mut places = random.positions(shape.n as usize, size as usize);
-                places.sort_unstable();
-                places.into_iter().map(|j| j as u32).collect()
-            }
+            Named::Few => list(random.positions(shape.n as usize, size as usize)),
             Named::Half => (0..size).step_by(2).collect(),
         }
     }
@@ -76,7 +72,7 @@ fn filling(shape: Shape, named: Named) -> Times {
     let mut random = Random::new(1, "filling");
     let mut cells = || {
         let places = named.places(shape, &mut random);
-        let mut word = codeword(shape, &random.symbols(shape, shape.data_len()));
+        let mut word = random.codeword(shape);
         places.iter().for_each(|&place| word[place as usize] ^= random.nonzero_symbol(shape));
         (places, word)
     };

@@ -2,11 +2,10 @@
 
 use super::contest::{timed, times, Batch, Times};
 use super::words::batch_size;
-use crate::damage::{apply, unmasked};
+use crate::damage::{damaged, unmasked};
 use crate::ffi;
 use crate::random::Random;
 use crate::reference::shape::Shape;
-use crate::reference::writer::codeword;
 use std::hint::black_box;
 
 /// How much of the time of reading is allowed.
@@ -36,11 +35,9 @@ type Pair = (Vec<u32>, Vec<u32>);
 fn checking(shape: Shape) -> Times {
     let mut random = Random::new(1, "checking");
     let mut pair = || {
-        let sent = codeword(shape, &random.symbols(shape, shape.data_len()));
-        let mut received = sent.clone();
+        let sent = random.codeword(shape);
         let weight = 1 + random.below(shape.most_errors());
-        apply(&unmasked(shape, weight, &mut random), &mut received);
-        (received, sent)
+        (damaged(&sent, &unmasked(shape, weight, &mut random)), sent)
     };
     let pairs: Vec<Pair> = (0..batch_size(shape)).map(|_| pair()).collect();
     let values = black_box(shape).values();

@@ -6,7 +6,6 @@ use crate::damage::{apply, make, Style};
 use crate::ffi;
 use crate::random::Random;
 use crate::reference::shape::Shape;
-use crate::reference::writer::codeword;
 use crate::rivals::vote;
 use std::hint::black_box;
 
@@ -70,7 +69,7 @@ fn voting(shape: Shape, kind: Kind) -> Times {
     let mut random = Random::new(1, "voting");
     let mut words = vec![];
     for _ in 0..batch_size(shape) {
-        let mut word = codeword(shape, &random.symbols(shape, shape.data_len()));
+        let mut word = random.codeword(shape);
         kind.damage(shape, &mut word, &mut random);
         words.extend(word);
     }

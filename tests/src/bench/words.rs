@@ -2,13 +2,12 @@
 
 use super::contest::{timed, times, Batch, Times};
 use crate::capture::{page_numbers, recording};
-use crate::damage::{apply, make, unmasked, Style};
+use crate::damage::{apply, damaged, make, unmasked, Style};
 use crate::ffi;
 use crate::random::Random;
 use crate::reference::reader::error_of;
 use crate::reference::session::{Session, CLEAN, SESSION_LEN};
 use crate::reference::shape::Shape;
-use crate::reference::writer::codeword;
 use crate::rivals::arrival::{self, Way};
 use crate::rivals::straightforward::{self, Writer};
 use crate::rivals::tuned;
@@ -57,9 +56,7 @@ fn refused_error(shape: Shape, word: &[u32], random: &mut Random) -> Vec<(usize,
         let style = random.pick(&[Style::Spread, Style::Masked]);
         let weight = 2 + random.below(shape.n as usize);
         let error = make(style, shape, weight, random);
-        let mut received = word.to_vec();
-        apply(&error, &mut received);
-        if error_of(shape, &received).is_none() {
+        if error_of(shape, &damaged(word, &error)).is_none() {
             return error;
         }
     }
@@ -121,7 +118,7 @@ fn reading(shape: Shape, kind: Kind) -> Times {
     let mut random = Random::new(1, "reading");
     let mut words = vec![];
     for _ in 0..batch_size(shape) {
-        let mut word = codeword(shape, &random.symbols(shape, shape.data_len()));
+        let mut word = random.codeword(shape);
         kind.damage(shape, &mut word, &mut random);
         words.extend(word);
     }

@@ -2,7 +2,7 @@
 
 use crate::call::{answer_of, to_bytes, After, Call, Entry};
 use crate::capture::{page_numbers, Page};
-use crate::damage::{apply, make, unmasked, STYLES};
+use crate::damage::{apply, list, make, unmasked, STYLES};
 use crate::random::Random;
 use crate::reference::page::{FUNCTIONS, PAGES};
 use crate::reference::session::{Session, CALLS_AT, LOWEST_AT, OUTCOMES_LEN, PAGES_AT, SESSION_LEN};
@@ -112,9 +112,7 @@ fn two_damaged(shape: Shape, mut word: Vec<u32>, random: &mut Random) -> Vec<u32
 /// As many places as there are directions, or fewer: only one codeword can agree off them.
 fn some_places(shape: Shape, random: &mut Random) -> Vec<u32> {
     let count = random.below(shape.n as usize + 1);
-    let mut places: Vec<u32> = random.positions(count, shape.word_len()).into_iter().map(|j| j as u32).collect();
-    places.sort_unstable();
-    places
+    list(random.positions(count, shape.word_len()))
 }
 
 /// Prices so low that no sum passes 2^64 - 1.

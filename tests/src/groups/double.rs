@@ -5,12 +5,11 @@ use super::calls::{resized, turned_down};
 use super::every::{Shapes, WIDTHS};
 use super::expect::{expect, expect_reference};
 use crate::call::{answer_of, After, Call, Entry, Make};
-use crate::damage::{apply, make as damage, unmasked, Style, STYLES};
+use crate::damage::{apply, damaged, make as damage, unmasked, Style, STYLES};
 use crate::random::Random;
 use crate::reference::brute::{all_codewords, all_words, within};
 use crate::reference::shape::{Refusal, Shape};
 use crate::reference::square::positions_on;
-use crate::reference::writer::codeword;
 use crate::report::{Group, Unit, Verdict};
 
 /// The group for whichever makes the calls.
@@ -37,10 +36,6 @@ fn call(shape: Shape, word: &[u32]) -> Call {
     Call::new(Entry::DecodeTwo, shape, &[word])
 }
 
-fn random_codeword(shape: Shape, random: &mut Random) -> Vec<u32> {
-    codeword(shape, &random.symbols(shape, shape.data_len()))
-}
-
 /// Restored to this word, with so many symbols changed.
 fn restored(word: &[u32], changed: usize) -> After {
     After { answer: answer_of(Ok(changed as u32)), slices: vec![word.to_vec()] }
@@ -59,11 +54,10 @@ fn two_symbols(shape: Shape, random: &mut Random) -> Vec<(u32, u32)> {
 
 /// A codeword with these symbols XORed onto these two places: it is restored, with two changed.
 fn expect_pair(make: Make, shape: Shape, (i, j): (usize, usize), random: &mut Random) -> Verdict {
-    let sent = random_codeword(shape, random);
+    let sent = random.codeword(shape);
     let pairs = two_symbols(shape, random);
     for &(first, second) in &pairs {
-        let mut word = sent.clone();
-        apply(&vec![(i, first), (j, second)], &mut word);
+        let word = damaged(&sent, &[(i, first), (j, second)]);
         expect(make, &call(shape, &word), &restored(&sent, 2))?;
     }
     Ok(pairs.len() as u64)
@@ -98,9 +92,8 @@ fn at_most_two(make: Make, shape: Shape, random: &mut Random) -> Verdict {
     let mut tried = 0;
     for _ in 0..rounds(shape) {
         for (style, weight) in STYLES.into_iter().flat_map(|style| (0..3).map(move |weight| (style, weight))) {
-            let sent = random_codeword(shape, random);
-            let mut word = sent.clone();
-            apply(&damage(style, shape, weight, random), &mut word);
+            let sent = random.codeword(shape);
+            let word = damaged(&sent, &damage(style, shape, weight, random));
             expect(make, &call(shape, &word), &restored(&sent, weight))?;
             tried += 1;
         }
@@ -113,9 +106,7 @@ fn three_and_more(make: Make, shape: Shape, random: &mut Random) -> Verdict {
     let mut tried = 0;
     for _ in 0..rounds(shape) {
         for (style, weight) in STYLES.into_iter().flat_map(|style| [3, 4].map(|weight| (style, weight))) {
-            let sent = random_codeword(shape, random);
-            let mut word = sent.clone();
-            apply(&damage(style, shape, weight, random), &mut word);
+            let word = damaged(&random.codeword(shape), &damage(style, shape, weight, random));
             let call = call(shape, &word);
             let expected = call.on_reference();
             if weight == 3 && expected != turned_down(&call, Refusal::NoPair) {
@@ -148,8 +139,7 @@ fn as_clean_reading(make: Make, shape: Shape, random: &mut Random) -> Verdict {
     let mut tried = 0;
     for _ in 0..rounds(shape) {
         for weight in 0..3 {
-            let mut word = random_codeword(shape, random);
-            apply(&unmasked(shape, weight, random), &mut word);
+            let word = damaged(&random.codeword(shape), &unmasked(shape, weight, random));
             let clean = make(&Call::new(Entry::Decode, shape, &[&word]));
             if clean.answer != weight as u64 {
                 return Err(format!("{}: clean reading refuses it", call(shape, &word).text()));
@@ -167,7 +157,7 @@ fn lengths(make: Make, shape: Shape, random: &mut Random) -> Verdict {
     let wrong = [0, 1, shape.q as usize, right - 1, right + 1, 4 * right];
     for length in wrong {
         for filler in [shape.largest(), u32::MAX] {
-            let mut word = resized(&random_codeword(shape, random), length, random);
+            let mut word = resized(&random.codeword(shape), length, random);
             word.iter_mut().take(1).for_each(|symbol| *symbol = filler);
             let call = call(shape, &word);
             expect(make, &call, &turned_down(&call, Refusal::Length))?;
@@ -182,8 +172,7 @@ fn widths(make: Make, shape: Shape, random: &mut Random) -> Verdict {
     let mut tried = 0;
     for at in [0, random.below(shape.word_len()), shape.word_len() - 1] {
         for (weight, value) in [(0, large), (2, large), (3, u32::MAX)] {
-            let mut word = random_codeword(shape, random);
-            apply(&damage(Style::Spread, shape, weight, random), &mut word);
+            let mut word = damaged(&random.codeword(shape), &damage(Style::Spread, shape, weight, random));
             word[at] = value;
             let call = call(shape, &word);
             expect(make, &call, &turned_down(&call, Refusal::Width))?;
@@ -195,9 +184,8 @@ fn widths(make: Make, shape: Shape, random: &mut Random) -> Verdict {
 
 /// 16 for every word: whole ones, damaged ones, such as 2 or 3 would come of.
 fn two_directions(make: Make, shape: Shape, random: &mut Random) -> Verdict {
-    let sent = random_codeword(shape, random);
-    let mut damaged = sent.clone();
-    apply(&damage(Style::Spread, shape, 2, random), &mut damaged);
+    let sent = random.codeword(shape);
+    let damaged = damaged(&sent, &damage(Style::Spread, shape, 2, random));
     let mut wide = sent.clone();
     wide[0] = u32::MAX;
     let short = resized(&sent, sent.len() - 1, random);
@@ -235,7 +223,7 @@ fn sampled(make: Make, shape: Shape, random: &mut Random) -> Verdict {
     let rounds = 150;
     let codewords = all_codewords(shape);
     for _ in 0..rounds {
-        let mut word = random_codeword(shape, random);
+        let mut word = random.codeword(shape);
         let (style, weight) = (random.pick(&STYLES), random.below(6));
         apply(&damage(style, shape, weight, random), &mut word);
         if random.one_in(8) {

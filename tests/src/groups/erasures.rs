@@ -7,6 +7,7 @@ mod faults;
 use super::every::{Shapes, WIDTHS};
 use super::expect::{expect, expect_reference};
 use crate::call::{After, Call, Entry, Make};
+use crate::damage::list;
 use crate::random::Random;
 use crate::reference::brute::{agreeing, all_codewords, all_words};
 use crate::reference::elimination::{Basis, Positions};
@@ -15,8 +16,8 @@ use crate::reference::square::is_codeword;
 use crate::reference::writer::{codeword, information};
 use crate::report::{Group, Unit, Verdict};
 use cases::{
-    damaged, expect_sent, fill, filled, first, limit, list, lost, on_lines, outside, random_codeword, refused,
-    shuffled, some_circuits, some_places, unlisted, PLACES, WORD,
+    damaged, expect_sent, fill, filled, first, limit, lost, on_lines, outside, refused, shuffled, some_circuits,
+    some_places, unlisted, PLACES, WORD,
 };
 use faults::{lengths, refused_lists, several_faults, widths};
 
@@ -46,7 +47,7 @@ fn few_places(make: Make, shape: Shape, random: &mut Random) -> Verdict {
     let mut tried = 0;
     for count in 0..=shape.word_len().min(limit(shape) + 3) {
         for places in some_places(shape, count, random) {
-            let sent = random_codeword(shape, random);
+            let sent = random.codeword(shape);
             let call = fill(shape, &places, &lost(shape, &sent, &places, random), random);
             if count <= limit(shape) {
                 expect(make, &call, &filled(&call, &sent))?;
@@ -65,7 +66,7 @@ fn damage_elsewhere(make: Make, shape: Shape, random: &mut Random) -> Verdict {
     let mut tried = 0;
     for count in 0..=shape.word_len().min(limit(shape) + 1) {
         for places in some_places(shape, count, random) {
-            let sent = random_codeword(shape, random);
+            let sent = random.codeword(shape);
             let weight = 1 + random.below(3);
             let others = unlisted(shape, &places, weight, random);
             let word = damaged(shape, lost(shape, &sent, &places, random), &others, random);
@@ -92,7 +93,7 @@ fn lines(make: Make, shape: Shape, random: &mut Random) -> Verdict {
             let neighbours = (0..count).map(|i| (start + i) % q).collect();
             for lines in [neighbours, random.positions(count, q)] {
                 let places = on_lines(shape, t, &lines);
-                let sent = random_codeword(shape, random);
+                let sent = random.codeword(shape);
                 let word = lost(shape, &sent, &places, random);
                 let call = fill(shape, &places, &word, random);
                 if count == 1 {
@@ -123,7 +124,7 @@ fn crossing_lines(make: Make, shape: Shape, random: &mut Random) -> Verdict {
             places.extend(on_lines(shape, other, &[random.below(q)]));
             places.sort_unstable();
             places.dedup();
-            let sent = random_codeword(shape, random);
+            let sent = random.codeword(shape);
             let call = fill(shape, &places, &lost(shape, &sent, &places, random), random);
             expect(make, &call, &filled(&call, &sent))?;
             tried += 1;
@@ -134,7 +135,7 @@ fn crossing_lines(make: Make, shape: Shape, random: &mut Random) -> Verdict {
         let mut places: Vec<u32> = (0..count).flat_map(|_| any_line()).collect();
         places.sort_unstable();
         places.dedup();
-        let sent = random_codeword(shape, random);
+        let sent = random.codeword(shape);
         let call = fill(shape, &places, &lost(shape, &sent, &places, random), random);
         expect_sent(make, &call, &sent)?;
         tried += 1;
@@ -158,7 +159,7 @@ fn circuits(make: Make, shape: Shape, random: &mut Random) -> Verdict {
         let mut less = circuit.clone();
         less.remove(random.below(less.len()));
         for (places, several) in [(&circuit, true), (&more, true), (&less, false)] {
-            let sent = random_codeword(shape, random);
+            let sent = random.codeword(shape);
             let word = lost(shape, &sent, places, random);
             let call = fill(shape, places, &word, random);
             let expected = if several { refused(&call, Refusal::Ambiguous) } else { filled(&call, &sent) };
@@ -216,7 +217,7 @@ fn any_list(make: Make, shape: Shape, random: &mut Random) -> Verdict {
         lists.push(first(shuffled(shape, random), random.below(rank + 1)));
     }
     for places in &lists {
-        let sent = random_codeword(shape, random);
+        let sent = random.codeword(shape);
         let call = fill(shape, places, &sent, random);
         expect_sent(make, &call, &sent)?;
         let word = lost(shape, &sent, places, random);
@@ -228,7 +229,7 @@ fn any_list(make: Make, shape: Shape, random: &mut Random) -> Verdict {
             expect_reference(make, &call)?;
         }
     }
-    for word in [random_codeword(shape, random), random.symbols(shape, size)] {
+    for word in [random.codeword(shape), random.symbols(shape, size)] {
         let call = fill(shape, &all, &word, random);
         expect(make, &call, &refused(&call, Refusal::Ambiguous))?;
     }

@@ -4,12 +4,11 @@
 use super::every::{repeated, Shapes, Widths};
 use super::expect::expect;
 use crate::call::{After, Call, Entry, Make};
-use crate::damage::{apply, make as make_error, unmasked, Error, STYLES};
+use crate::damage::{damaged, make as make_error, unmasked, Error, STYLES};
 use crate::random::Random;
 use crate::reference::reader::error_of;
 use crate::reference::shape::Shape;
 use crate::reference::square::check;
-use crate::reference::writer::codeword;
 use crate::report::{Group, Unit, Verdict};
 
 /// Each some times, with small words more often, since they cost less.
@@ -20,7 +19,7 @@ pub fn group(name: &'static str, make: Make) -> Group {
     let mut group = Group::new(name, Unit::Calls);
     let mut shapes = Shapes::new(&mut group, make, WIDTHS);
     shapes.test("codewords, (q, n)", codewords);
-    shapes.test("damaged words, (q, n)", damaged);
+    shapes.test("damaged words, (q, n)", damaged_words);
     shapes.test("random words, (q, n)", random_words);
     group.test_all_words(&[2, 3], move |shape, random| every_word(make, shape, random));
     group
@@ -76,21 +75,19 @@ fn expect_word(make: Make, shape: Shape, word: &[u32], random: &mut Random) -> R
 
 /// Of a codeword one check a symbol.
 fn codewords(make: Make, shape: Shape, random: &mut Random) -> Verdict {
-    let word = codeword(shape, &random.symbols(shape, shape.data_len()));
+    let word = random.codeword(shape);
     expect_list(make, shape, &word, vec![1; word.len()], random)?;
     Ok(1)
 }
 
 /// Errors of a few weights up to n + 1, in every style, and an unmasked one.
-fn damaged(make: Make, shape: Shape, random: &mut Random) -> Verdict {
-    let sent = codeword(shape, &random.symbols(shape, shape.data_len()));
+fn damaged_words(make: Make, shape: Shape, random: &mut Random) -> Verdict {
+    let sent = random.codeword(shape);
     let weight = 1 + random.below(shape.n as usize + 1);
     let mut errors: Vec<Error> = STYLES.iter().map(|&style| make_error(style, shape, weight, random)).collect();
     errors.push(unmasked(shape, 1 + random.below(shape.most_errors()), random));
     for error in &errors {
-        let mut word = sent.clone();
-        apply(error, &mut word);
-        expect_word(make, shape, &word, random)?;
+        expect_word(make, shape, &damaged(&sent, error), random)?;
     }
     Ok(errors.len() as u64)
 }

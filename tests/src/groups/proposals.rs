@@ -6,13 +6,12 @@ use super::every::Shapes;
 use super::expect::{expect, expect_reference};
 use crate::call::{answer_of, After, Call, Entry, Make};
 use crate::capture::{page_numbers, Page};
-use crate::damage::{apply, make as damage, spelled_out, unmasked, Style, STYLES};
+use crate::damage::{damaged, make as damage, spelled_out, unmasked, Style, STYLES};
 use crate::random::Random;
 use crate::reference::brute::{all_codewords, all_words, explanations};
 use crate::reference::session::{Session, CLEAN};
 use crate::reference::shape::{Refusal, Shape};
 use crate::reference::square::is_unmasked;
-use crate::reference::writer::codeword;
 use crate::report::{Group, Unit, Verdict};
 
 /// The group for whichever makes the calls.
@@ -38,22 +37,12 @@ fn expect_answer(make: Make, call: &Call, answer: Result<u32, Refusal>) -> Resul
     expect(make, call, &After { answer: answer_of(answer), slices: call.slices.clone() })
 }
 
-fn some_codeword(shape: Shape, random: &mut Random) -> Vec<u32> {
-    codeword(shape, &random.symbols(shape, shape.data_len()))
-}
-
-fn damaged(word: &[u32], error: &[(usize, u32)]) -> Vec<u32> {
-    let mut word = word.to_vec();
-    apply(&error.to_vec(), &mut word);
-    word
-}
-
 /// The sent word for damage that reading undoes: yes, and reading gives just that word.
 fn right(make: Make, shape: Shape, random: &mut Random) -> Verdict {
     let mut tried = 0;
     for weight in 0..=shape.most_errors() {
         for _ in 0..4 {
-            let sent = some_codeword(shape, random);
+            let sent = random.codeword(shape);
             let received = damaged(&sent, &unmasked(shape, weight, random));
             expect_answer(make, &check(shape, &received, &sent), Ok(1))?;
             let read = make(&Call::new(Entry::Decode, shape, &[&received]));
@@ -70,7 +59,7 @@ fn right(make: Make, shape: Shape, random: &mut Random) -> Verdict {
 fn near(make: Make, shape: Shape, random: &mut Random) -> Verdict {
     let mut tried = 0;
     for weight in 0..=shape.most_errors() {
-        let sent = some_codeword(shape, random);
+        let sent = random.codeword(shape);
         let error = unmasked(shape, weight, random);
         let received = damaged(&sent, &error);
         expect_answer(make, &check(shape, &received, &received), Ok(u32::from(weight == 0)))?;
@@ -95,12 +84,12 @@ fn masked_or_many(make: Make, shape: Shape, random: &mut Random) -> Verdict {
             if clean && weight <= shape.most_errors() {
                 continue;
             }
-            let sent = some_codeword(shape, random);
+            let sent = random.codeword(shape);
             expect_answer(make, &check(shape, &damaged(&sent, &error), &sent), Ok(0))?;
             tried += 1;
         }
     }
-    let sent = some_codeword(shape, random);
+    let sent = random.codeword(shape);
     let error = unmasked(shape, shape.n as usize, random);
     expect_answer(make, &check(shape, &damaged(&sent, &error), &sent), Ok(0))?;
     Ok(tried + 1)
@@ -110,10 +99,10 @@ fn masked_or_many(make: Make, shape: Shape, random: &mut Random) -> Verdict {
 fn anything(make: Make, shape: Shape, random: &mut Random) -> Verdict {
     let mut tried = 0;
     for weight in 0..=shape.n as usize + 2 {
-        let sent = some_codeword(shape, random);
+        let sent = random.codeword(shape);
         let style = random.pick(&STYLES);
         let received = damaged(&sent, &damage(style, shape, weight, random));
-        let others = [sent, some_codeword(shape, random), random.symbols(shape, shape.word_len()), received.clone()];
+        let others = [sent, random.codeword(shape), random.symbols(shape, shape.word_len()), received.clone()];
         for proposed in others {
             for call in [check(shape, &received, &proposed), check(shape, &proposed, &received)] {
                 expect_reference(make, &call)?;
@@ -127,7 +116,7 @@ fn anything(make: Make, shape: Shape, random: &mut Random) -> Verdict {
 /// A wrong length of either is 2, whatever the symbols; then a wide symbol in either is 3.
 fn lengths_and_widths(make: Make, shape: Shape, random: &mut Random) -> Verdict {
     let mut tried = 0;
-    let sent = some_codeword(shape, random);
+    let sent = random.codeword(shape);
     let received = damaged(&sent, &unmasked(shape, shape.most_errors(), random));
     let right = check(shape, &received, &sent);
     for i in 0..2 {

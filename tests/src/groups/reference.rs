@@ -2,7 +2,7 @@
 
 use super::idle::CAPTURES;
 use crate::capture::heading;
-use crate::damage::{apply, make, unmasked, Style, STYLES};
+use crate::damage::{damaged, list, make, unmasked, Style, STYLES};
 use crate::random::Random;
 use crate::reference::brute::{all_explained, all_words, explanations, Explanation};
 use crate::reference::elimination::Positions;
@@ -67,10 +67,9 @@ fn positions(shape: Shape, random: &mut Random) -> Verdict {
 
 /// Reading undoes every unmasked error of weight up to n - 1 and counts its symbols.
 fn restores(shape: Shape, random: &mut Random) -> Verdict {
-    let sent = codeword(shape, &random.symbols(shape, shape.data_len()));
+    let sent = random.codeword(shape);
     for weight in 0..=shape.most_errors() {
-        let mut word = sent.clone();
-        apply(&unmasked(shape, weight, random), &mut word);
+        let mut word = damaged(&sent, &unmasked(shape, weight, random));
         require(decode(shape, &mut word) == Ok(weight as u32), "an unmasked error is counted")?;
         require(word == sent, "an unmasked error is undone")?;
     }
@@ -84,12 +83,9 @@ fn codewords_that_agree(q: u32, n: u32, random: &mut Random) -> Verdict {
         let shape = Shape::new(q, n, random.pick(&[1, 8, 32]));
         let most = random.pick(&[shape.n as usize + 3, shape.checks(), shape.word_len()]).min(shape.word_len());
         let count = random.below(most + 1);
-        let mut places = random.positions(count, shape.word_len());
-        places.sort_unstable();
-        let places: Vec<u32> = places.into_iter().map(|j| j as u32).collect();
-        let mut word = codeword(shape, &random.symbols(shape, shape.data_len()));
-        let damage = make(Style::Spread, shape, random.below(3), random);
-        apply(&damage, &mut word);
+        let places = list(random.positions(count, shape.word_len()));
+        let sent = random.codeword(shape);
+        let word = damaged(&sent, &make(Style::Spread, shape, random.below(3), random));
         let agrees = |other: &Vec<u32>| {
             let same = |j: usize| other[j] == word[j] || places.contains(&(j as u32));
             is_codeword(shape, other) && (0..word.len()).all(same)
@@ -141,9 +137,9 @@ fn every_word(shape: Shape) -> Verdict {
 }
 
 fn sampled(shape: Shape, random: &mut Random) -> Verdict {
-    let mut received = codeword(shape, &random.symbols(shape, shape.data_len()));
+    let sent = random.codeword(shape);
     let (style, weight) = (random.pick(&STYLES), random.below(shape.n as usize + 3));
-    apply(&make(style, shape, weight, random), &mut received);
+    let received = damaged(&sent, &make(style, shape, weight, random));
     agrees(shape, &received, &explanations(shape, &received))?;
     Ok(1)
 }

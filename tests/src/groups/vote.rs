@@ -5,7 +5,7 @@ use super::calls::turned_down;
 use super::every::{Shapes, WIDTHS};
 use super::expect::{expect, expect_reference};
 use crate::call::{After, Call, Entry, Make};
-use crate::damage::{any_line, apply, make as damage, unmasked, Error, STYLES};
+use crate::damage::{any_line, damaged, make as damage, unmasked, Error, STYLES};
 use crate::random::Random;
 use crate::reference::brute::{all_codewords, all_words, near};
 use crate::reference::shape::{Refusal, Shape};
@@ -39,10 +39,8 @@ fn read(call: &Call, word: &[u32]) -> After {
 
 /// A codeword with this error: up to n/2 symbols it comes back. With more, the reference says what comes.
 fn expect_damaged(make: Make, shape: Shape, error: &Error, random: &mut Random) -> Result<(), String> {
-    let sent = codeword(shape, &random.symbols(shape, shape.data_len()));
-    let mut word = sent.clone();
-    apply(error, &mut word);
-    let call = vote(shape, &word);
+    let sent = random.codeword(shape);
+    let call = vote(shape, &damaged(&sent, error));
     if error.len() <= shape.most_votes() {
         expect(make, &call, &read(&call, &sent))
     } else {
@@ -169,10 +167,10 @@ fn sampled(make: Make, shape: Shape, random: &mut Random) -> Verdict {
     let rounds = 60;
     let codewords = all_codewords(shape);
     for _ in 0..rounds {
-        let mut word = codewords[random.below(codewords.len())].clone();
+        let sent = &codewords[random.below(codewords.len())];
         let weight = random.below(shape.n as usize + 1);
-        apply(&damage(random.pick(&STYLES), shape, weight, random), &mut word);
-        let call = vote(shape, &word);
+        let error = damage(random.pick(&STYLES), shape, weight, random);
+        let call = vote(shape, &damaged(sent, &error));
         expect(make, &call, &by_definition(shape, &call, &codewords)?)?;
     }
     Ok(rounds)

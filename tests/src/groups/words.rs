@@ -3,10 +3,9 @@
 
 use super::every::{repeated, Widths};
 use crate::call::{brief, difference, to_bytes, After, Call, Entry};
-use crate::damage::{apply, make, unmasked, Error, STYLES};
+use crate::damage::{damaged, make, unmasked, Error, STYLES};
 use crate::random::Random;
 use crate::reference::shape::{Shape, ORDERS};
-use crate::reference::writer::codeword;
 use crate::report::{Group, Unit, Verdict};
 use crate::shrink::{expect, without_parts, Case};
 
@@ -34,7 +33,7 @@ fn rounds(q: u32) -> u32 {
 
 /// A codeword with errors of every kind.
 fn sweep(shape: Shape, random: &mut Random) -> Verdict {
-    let sent = codeword(shape, &random.symbols(shape, shape.data_len()));
+    let sent = random.codeword(shape);
     let errors = errors(shape, random);
     let tried = errors.len() as u64;
     for error in errors {
@@ -108,12 +107,6 @@ impl Damaged {
         Damaged { shape, sent: vec![0; shape.word_len()], error }
     }
 
-    fn received(&self) -> Vec<u32> {
-        let mut word = self.sent.clone();
-        apply(&self.error, &mut word);
-        word
-    }
-
     /// The same error on the zero word of another shape, where its symbols and positions exist there.
     fn moved(&self, shape: Shape) -> Option<Damaged> {
         let (from, to) = (self.shape.q as usize, shape.q as usize);
@@ -160,7 +153,7 @@ impl Damaged {
 
 impl Case for Damaged {
     fn difference(&self) -> Option<String> {
-        let word = self.received();
+        let word = damaged(&self.sent, &self.error);
         let harness = Call::new(Entry::Decode, self.shape, &[&word]);
         let expected = harness.on_reference();
         let found = difference(harness.entry, &expected, &harness.on_library());

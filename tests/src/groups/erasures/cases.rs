@@ -1,13 +1,13 @@
 //! Calls with places that are named as gone, what must come of them, and ways to choose the places.
 
 use crate::call::{After, Call, Entry, Make};
+use crate::damage::list;
 use crate::groups::calls::turned_down;
 use crate::groups::expect::expect;
 use crate::random::Random;
 use crate::reference::elimination::Basis;
 use crate::reference::shape::{Refusal, Shape};
 use crate::reference::square::check;
-use crate::reference::writer::codeword;
 
 /// Which slice of a call is which.
 pub(super) const PLACES: usize = 0;
@@ -51,10 +51,6 @@ pub(super) fn expect_sent(make: Make, call: &Call, sent: &[u32]) -> Result<(), S
     expect(make, call, &expected)
 }
 
-pub(super) fn random_codeword(shape: Shape, random: &mut Random) -> Vec<u32> {
-    codeword(shape, &random.symbols(shape, shape.data_len()))
-}
-
 /// The word with anything at the places: what is right, one number, wrong ones, any.
 pub(super) fn lost(shape: Shape, sent: &[u32], places: &[u32], random: &mut Random) -> Vec<u32> {
     let mut word = sent.to_vec();
@@ -83,11 +79,6 @@ pub(super) fn damaged(shape: Shape, mut word: Vec<u32>, at: &[usize], random: &m
 fn wrong(shape: Shape, random: &mut Random) -> u32 {
     let any = random.nonzero_symbol(shape);
     random.pick(&[any, any, 1, 1 << (shape.b - 1)])
-}
-
-pub(super) fn list(mut positions: Vec<usize>) -> Vec<u32> {
-    positions.sort_unstable();
-    positions.into_iter().map(|j| j as u32).collect()
 }
 
 pub(super) fn shuffled(shape: Shape, random: &mut Random) -> Vec<usize> {

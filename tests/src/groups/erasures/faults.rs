@@ -1,8 +1,8 @@
 //! Lists, lengths and widths that are turned down, and several faults at once.
 
 use super::cases::{
-    damaged, fill, filled, first, limit, lost, outside, random_codeword, refused, shuffled, some_circuits, some_places,
-    unlisted, PLACES, SCRATCH, WORD,
+    damaged, fill, filled, first, limit, lost, outside, refused, shuffled, some_circuits, some_places, unlisted,
+    PLACES, SCRATCH, WORD,
 };
 use crate::call::{Call, Make};
 use crate::groups::calls::{old_scratch_len, reshaped, resized};
@@ -56,7 +56,7 @@ pub(super) fn refused_lists(make: Make, shape: Shape, random: &mut Random) -> Ve
         let places = first(shuffled(shape, random), count);
         lists.extend(faulty(shape, &places, random));
     }
-    let sent = random_codeword(shape, random);
+    let sent = random.codeword(shape);
     for places in &lists {
         let word = if random.one_in(2) { sent.clone() } else { random.symbols(shape, size) };
         let call = fill(shape, places, &word, random);
@@ -69,7 +69,7 @@ pub(super) fn refused_lists(make: Make, shape: Shape, random: &mut Random) -> Ve
 fn fillable(shape: Shape, random: &mut Random) -> (Call, Vec<u32>) {
     let count = random.below(limit(shape) + 1);
     let [places, ..] = some_places(shape, count, random);
-    let sent = random_codeword(shape, random);
+    let sent = random.codeword(shape);
     let word = lost(shape, &sent, &places, random);
     (fill(shape, &places, &word, random), sent)
 }
@@ -147,7 +147,7 @@ pub(super) fn several_faults(make: Make, shape: Shape, random: &mut Random) -> V
         if !has(Refusal::Ambiguous) {
             places.remove(random.below(places.len()));
         }
-        let sent = random_codeword(shape, random);
+        let sent = random.codeword(shape);
         let mut word = lost(shape, &sent, &places, random);
         if let Some(j) = damage.filter(|_| has(Refusal::Unfillable)) {
             word = damaged(shape, word, &[j], random);
