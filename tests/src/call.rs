@@ -124,6 +124,13 @@ impl Call {
         Call { entry, shape, lent_shape: None, number, slices }
     }
 
+    /// The call with another slice i.
+    pub fn with_slice(&self, i: usize, values: Vec<u32>) -> Call {
+        let mut call = self.clone();
+        call.slices[i] = values;
+        call
+    }
+
     /// The slice that the shape crosses as.
     pub fn shape_values(&self) -> Vec<u32> {
         self.lent_shape.clone().unwrap_or_else(|| self.shape.values().to_vec())

@@ -27,6 +27,12 @@ impl Page {
         Page { number, marks }
     }
 
+    /// The same with any number that the width can hold.
+    pub fn any(shape: Shape, random: &mut Random) -> Page {
+        let number = random.below(page_numbers(shape)) as u32;
+        Page::random(shape, number, random)
+    }
+
     /// A page whose marks come in runs of one function each, every second run idle.
     pub fn in_runs(shape: Shape, number: u32, random: &mut Random) -> Page {
         let count = random.below(most_marks(shape) + 1);
@@ -93,6 +99,14 @@ pub fn recording_of(
     random.shuffle(&mut numbers);
     numbers.truncate(count);
     numbers.into_iter().map(|number| page(shape, number, random)).collect()
+}
+
+/// How many marks of each function from 1 to 255 the pages have; nothing for function 0.
+pub fn own_tally<'a>(pages: impl IntoIterator<Item = &'a Page>) -> Vec<u32> {
+    let mut marks = vec![0; FUNCTIONS];
+    pages.into_iter().flat_map(|page| &page.marks).for_each(|&mark| marks[mark as usize] += 1);
+    marks[0] = 0;
+    marks
 }
 
 /// Lines 1 to 3.

@@ -6,6 +6,7 @@ mod calls;
 pub mod codec;
 pub mod coverage;
 pub mod double;
+mod elsewhere;
 pub mod energy;
 pub mod erasures;
 mod every;

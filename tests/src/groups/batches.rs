@@ -1,15 +1,15 @@
 //! Bundles of words. What must come of each is said by single arrivals of whichever makes the calls, one
 //! after the other, and by the case itself: which words are refused, and whose tally the session ends with.
 
-use super::calls::{resized, turned_down};
+use super::calls::{bad_slope, reshaped, turned_down, with_length};
+use super::elsewhere::{any_calls, any_marks, figures, fresh, session, Come};
 use super::every::{Shapes, Widths};
 use super::expect::expect;
-use super::figures::{any_calls, any_marks, bad_slope, figures, plain_marks, session, Come};
 use crate::call::{After, Call, Entry, Make};
-use crate::capture::{page_numbers, recording, Page};
+use crate::capture::{own_tally, recording, Page};
 use crate::damage::{allowed, apply, make as damage, Style};
 use crate::random::Random;
-use crate::reference::page::{FUNCTIONS, PAGES};
+use crate::reference::page::PAGES;
 use crate::reference::session::{ways_of, BUNDLE, CALLS_AT, OUTCOMES_LEN, PAGES_AT, WAYS};
 use crate::reference::shape::{Refusal, Shape};
 use crate::report::{Group, Unit, Verdict};
@@ -88,16 +88,6 @@ fn any_session(shape: Shape, random: &mut Random) -> Vec<u32> {
     session(shape, figures(&come), &any_marks(&come, random), &any_calls(random))
 }
 
-fn fresh(shape: Shape) -> Vec<u32> {
-    let come = Come::new();
-    session(shape, figures(&come), &plain_marks(&come), &[0; FUNCTIONS])
-}
-
-fn any_page(shape: Shape, random: &mut Random) -> Page {
-    let number = random.below(page_numbers(shape)) as u32;
-    Page::random(shape, number, random)
-}
-
 /// A page with damage that this way undoes.
 fn readable(shape: Shape, way: u32, page: &Page, random: &mut Random) -> Vec<u32> {
     let error = allowed(way, shape, random);
@@ -106,7 +96,7 @@ fn readable(shape: Shape, way: u32, page: &Page, random: &mut Random) -> Vec<u32
 
 /// A page with too much damage for most ways, a page number or a tail that can't be, any symbols.
 fn doubtful(shape: Shape, random: &mut Random) -> Vec<u32> {
-    let mut word = any_page(shape, random).codeword(shape);
+    let mut word = Page::any(shape, random).codeword(shape);
     let style = random.pick(&[Style::Spread, Style::Masked, Style::Equal]);
     match random.below(4) {
         0 => word[random.below(shape.word_len())] = u32::MAX,
@@ -123,7 +113,7 @@ fn any_word(shape: Shape, way: u32, random: &mut Random) -> Vec<u32> {
     if random.one_in(2) {
         return doubtful(shape, random);
     }
-    let page = any_page(shape, random);
+    let page = Page::any(shape, random);
     readable(shape, way, &page, random)
 }
 
@@ -167,8 +157,7 @@ fn wrong_lengths(make: Make, shape: Shape, way: u32, random: &mut Random) -> Ver
     cases.extend([0, room - 1, room + 1, 2 * room].map(|length| (2, length)));
     cases.extend(lists.map(|length| (3, length)));
     for (i, length) in cases {
-        let mut call = call.clone();
-        call.slices[i] = resized(&call.slices[i], length, random);
+        let call = with_length(&call, i, length, random);
         expect(make, &call, &turned_down(&call, Refusal::Length))?;
         tried += 1;
     }
@@ -182,17 +171,14 @@ fn with_another_fault(make: Make, shape: Shape, way: u32, random: &mut Random) -
     let right = any_session(shape, random);
     let call = bundle(shape, way, &right, &words, random);
     let ragged = |call: &Call, random: &mut Random| {
-        let mut call = call.clone();
         let i = 1 + random.below(3);
-        let length = call.slices[i].len() - 1;
-        call.slices[i] = resized(&call.slices[i], length, random);
-        call
+        with_length(call, i, call.slices[i].len() - 1, random)
     };
     let mut wrong = call.clone();
     wrong.slices[0][PAGES_AT] ^= 1;
     for figures in [&call, &wrong] {
-        let sloped = of_shape(figures, bad_slope(shape, shape, random));
-        let unlawful = of_shape(figures, Shape { q: 9, ..shape });
+        let sloped = reshaped(figures, bad_slope(shape, shape, random));
+        let unlawful = reshaped(figures, Shape { q: 9, ..shape });
         let no_way = Call { number: WAYS + random.number() % (u32::MAX - WAYS), ..figures.clone() };
         for (call, refusal) in [(sloped, Refusal::Slope), (unlawful, Refusal::Shape), (no_way, Refusal::Shape)] {
             for call in [ragged(&call, random), call] {
@@ -208,19 +194,13 @@ fn with_another_fault(make: Make, shape: Shape, way: u32, random: &mut Random) -
     Ok(tried)
 }
 
-fn of_shape(call: &Call, shape: Shape) -> Call {
-    let mut call = Call { shape, ..call.clone() };
-    call.slices[0][..shape.values().len()].copy_from_slice(&shape.values());
-    call
-}
-
 /// A refused word in every place: it keeps its symbols, and the others are taken. A symbol that is too large
 /// is refused by every way; of width 32 there is none, and the page number can't be.
 fn with_a_refused_word(make: Make, shape: Shape, way: u32, random: &mut Random) -> Verdict {
     let pages = recording(shape, 4, random);
     for place in 0..=pages.len() {
         let mut words: Vec<Vec<u32>> = pages.iter().map(|page| readable(shape, way, page, random)).collect();
-        let mut refused = any_page(shape, random);
+        let mut refused = Page::any(shape, random);
         let refusal = if shape.b < 32 { Refusal::Width } else { Refusal::Page };
         refused.number = if shape.b < 32 { refused.number } else { PAGES as u32 };
         let mut word = refused.codeword(shape);
@@ -304,9 +284,7 @@ fn recordings(make: Make, shape: Shape, way: u32, random: &mut Random) -> Verdic
         rest = later;
         tried += 1;
     }
-    let mut calls = vec![0; FUNCTIONS];
-    pages.iter().flat_map(Page::calls).for_each(|function| calls[function] += 1);
-    if session[CALLS_AT..] != calls || session[PAGES_AT] != pages.len() as u32 {
+    if session[CALLS_AT..] != own_tally(&pages) || session[PAGES_AT] != pages.len() as u32 {
         return Err(format!("{shape:?}, way {way}: the tally is not the recording's"));
     }
     Ok(tried)

@@ -1,11 +1,12 @@
 //! Calls that nothing is wrong with, and ways to put something wrong.
 
+use super::elsewhere::fresh;
 use crate::call::{answer_of, to_bytes, After, Call, Entry};
-use crate::capture::{page_numbers, Page};
-use crate::damage::{apply, list, make, unmasked, STYLES};
+use crate::capture::Page;
+use crate::damage::{allowed, apply, damaged, list, make, STYLES};
 use crate::random::Random;
 use crate::reference::page::{FUNCTIONS, PAGES};
-use crate::reference::session::{Session, CALLS_AT, LOWEST_AT, OUTCOMES_LEN, PAGES_AT, SESSION_LEN};
+use crate::reference::session::{CALLS_AT, CLEAN, LOWEST_AT, OUTCOMES_LEN, PAGES_AT, SESSION_LEN, VOTE};
 use crate::reference::shape::{Refusal, Shape};
 use crate::reference::writer::codeword;
 
@@ -39,67 +40,46 @@ pub const YES: [u32; 8] = [1, 1, 2, 255, 256, 1 << 16, 1 << 31, u32::MAX];
 pub fn good(entry: Entry, shape: Shape, random: &mut Random) -> Call {
     let shape = if entry.is_of_host() { shape.standard() } else { shape };
     let scratch = random.numbers(shape.scratch_len());
-    let number = random.below(page_numbers(shape)) as u32;
-    let page = Page::random(shape, number, random);
-    let (page_data, page_word) = (page.symbols(shape), damaged(shape, page.codeword(shape), random));
+    let page = Page::any(shape, random);
+    let (page_data, page_word) = (page.symbols(shape), page.damaged(shape, &allowed(CLEAN, shape, random)));
     let data = random.symbols(shape, shape.data_len());
     let word = random.symbols(shape, shape.word_len());
-    let session = Session::fresh(shape).expect("a lawful shape").values();
-    match entry {
-        Entry::Encode => Call::new(entry, shape, &[&data, &scratch, &random.numbers(word.len())]),
-        Entry::Extract => Call::new(entry, shape, &[&word, &scratch, &random.numbers(data.len())]),
-        Entry::Decode => Call::new(entry, shape, &[&damaged(shape, codeword(shape, &data), random)]),
-        Entry::Looked => {
-            let word = damaged(shape, codeword(shape, &data), random);
-            Call::new(entry, shape, &[&word, &random.numbers(word.len())])
-        }
-        Entry::DecodeMajority => {
-            let mut word = codeword(shape, &data);
-            let weight = random.below(shape.most_votes() + 1);
-            apply(&make(random.pick(&STYLES), shape, weight, random), &mut word);
-            Call::new(entry, shape, &[&word])
-        }
-        Entry::DecodeTwo => Call::new(entry, shape, &[&two_damaged(shape, codeword(shape, &data), random)]),
-        Entry::Fill => {
-            let places = some_places(shape, random);
-            let mut word = codeword(shape, &data);
-            places.iter().for_each(|&place| word[place as usize] = random.symbol(shape));
-            Call::new(entry, shape, &[&places, &word, &scratch])
-        }
-        Entry::Check => {
-            let sent = codeword(shape, &data);
-            Call::new(entry, shape, &[&damaged(shape, sent.clone(), random), &sent])
-        }
-        Entry::ReadPage => Call::new(entry, shape, &[&page_data]),
-        Entry::Marks => Call::new(entry, shape, &[&page_data, &random.numbers(page_data.len())]),
-        Entry::WritePage => Call::numbered(entry, shape, number, &[&page.marks, &random.numbers(data.len())]),
-        Entry::Fresh => Call::new(entry, shape, &[&random.numbers(SESSION_LEN)]),
-        Entry::Count => Call::numbered(entry, shape, random.below(256) as u32, &[&session]),
-        Entry::Bill => {
-            let mut session = session;
-            session[CALLS_AT..].fill_with(|| random.number() >> random.below(32));
-            Call::new(entry, shape, &[&session, &cheap_prices(random)])
-        }
-        Entry::Cover => {
-            let mut session = session;
-            session[CALLS_AT..].fill_with(|| random.number() >> random.below(32) >> random.below(32));
-            Call::new(entry, shape, &[&session, &random.bytes(FUNCTIONS)])
-        }
-        Entry::Arrive => Call::new(entry, shape, &[&session, &page_word, &scratch, &random.numbers(3)]),
+    let session = fresh(shape);
+    let number = match entry {
+        Entry::WritePage => page.number,
+        Entry::Count => random.below(FUNCTIONS) as u32,
+        _ => 0,
+    };
+    let slices = match entry {
+        Entry::Encode => vec![data, scratch, random.numbers(word.len())],
+        Entry::Extract => vec![word, scratch, random.numbers(data.len())],
+        Entry::Decode => vec![received(CLEAN, shape, &data, random)],
+        Entry::Looked => vec![received(CLEAN, shape, &data, random), random.numbers(word.len())],
+        Entry::DecodeMajority => vec![received(VOTE, shape, &data, random)],
+        Entry::DecodeTwo => vec![two_damaged(shape, codeword(shape, &data), random)],
+        Entry::Fill => dead_cells(shape, &data, scratch, random),
+        Entry::Check => vec![received(CLEAN, shape, &data, random), codeword(shape, &data)],
+        Entry::ReadPage => vec![page_data],
+        Entry::Marks => vec![page_data, random.numbers(data.len())],
+        Entry::WritePage => vec![page.marks, random.numbers(data.len())],
+        Entry::Fresh => vec![random.numbers(SESSION_LEN)],
+        Entry::Count => vec![session],
+        Entry::Bill => vec![called(session, 1, random), cheap_prices(random)],
+        Entry::Cover => vec![called(session, 2, random), random.bytes(FUNCTIONS)],
+        Entry::Arrive => vec![session, page_word, scratch, random.numbers(3)],
         Entry::Batch => {
             let others = (0..random.below(3)).flat_map(|_| random.symbols(shape, shape.word_len()));
-            let words: Vec<u32> = page_word.iter().copied().chain(others).collect();
-            Call::new(entry, shape, &[&session, &words, &scratch, &random.numbers(OUTCOMES_LEN)])
+            vec![session, page_word.into_iter().chain(others).collect(), scratch, random.numbers(OUTCOMES_LEN)]
         }
-        Entry::HostReadWord => Call::new(entry, shape, &[&to_bytes(&page_word)]),
-        Entry::HostReadPage => Call::new(entry, shape, &[&to_bytes(&page_data)]),
-    }
+        Entry::HostReadWord => vec![to_bytes(&page_word)],
+        Entry::HostReadPage => vec![to_bytes(&page_data)],
+    };
+    Call { entry, shape, lent_shape: None, number, slices }
 }
 
-fn damaged(shape: Shape, mut word: Vec<u32>, random: &mut Random) -> Vec<u32> {
-    let weight = random.below(shape.n as usize);
-    apply(&unmasked(shape, weight, random), &mut word);
-    word
+/// The codeword of these symbols with damage that this way undoes.
+fn received(way: u32, shape: Shape, data: &[u32], random: &mut Random) -> Vec<u32> {
+    damaged(&codeword(shape, data), &allowed(way, shape, random))
 }
 
 /// At most two wrong symbols, often such that cancel.
@@ -110,9 +90,19 @@ fn two_damaged(shape: Shape, mut word: Vec<u32>, random: &mut Random) -> Vec<u32
 }
 
 /// As many places as there are directions, or fewer: only one codeword can agree off them.
-fn some_places(shape: Shape, random: &mut Random) -> Vec<u32> {
+fn dead_cells(shape: Shape, data: &[u32], scratch: Vec<u32>, random: &mut Random) -> Vec<Vec<u32>> {
     let count = random.below(shape.n as usize + 1);
-    list(random.positions(count, shape.word_len()))
+    let places = list(random.positions(count, shape.word_len()));
+    let mut word = codeword(shape, data);
+    places.iter().for_each(|&place| word[place as usize] = random.symbol(shape));
+    vec![places, word, scratch]
+}
+
+/// The session with any counts, the smaller the more shifts.
+fn called(mut session: Vec<u32>, shifts: usize, random: &mut Random) -> Vec<u32> {
+    let mut count = || (0..shifts).fold(random.number(), |count, _| count >> random.below(32));
+    session[CALLS_AT..].fill_with(&mut count);
+    session
 }
 
 /// Prices so low that no sum passes 2^64 - 1.
@@ -185,11 +175,7 @@ pub fn later_faults(call: &Call, random: &mut Random) -> Vec<Call> {
         }
     }
     for i in (0..call.slices.len()).filter(|&i| !crosses(call.entry, i)) {
-        let mut spoiled = |slice: Vec<u32>| {
-            let mut call = call.clone();
-            call.slices[i] = slice;
-            calls.push(call);
-        };
+        let mut spoiled = |slice: Vec<u32>| calls.push(call.with_slice(i, slice));
         let slice = &call.slices[i];
         spoiled(vec![if call.entry.takes_bytes() { 255 } else { u32::MAX }; slice.len()]);
         for length in [0, slice.len().saturating_sub(1), slice.len() + 1] {
@@ -213,10 +199,37 @@ pub fn old_scratch_len(shape: Shape) -> usize {
     shape.checks() * shape.row_len()
 }
 
+/// The call with slice i cut off or filled up.
+pub fn with_length(call: &Call, i: usize, length: usize, random: &mut Random) -> Call {
+    call.with_slice(i, resized(&call.slices[i], length, random))
+}
+
 /// The slice cut off or filled up.
 pub fn resized(slice: &[u32], length: usize, random: &mut Random) -> Vec<u32> {
     let mut slice = slice.to_vec();
     let filler = random.below(256) as u32;
     slice.resize(length, filler);
     slice
+}
+
+/// The shape with a slope that is too large, or stands twice, among those that count for `lawful`.
+pub fn bad_slope(shape: Shape, lawful: Shape, random: &mut Random) -> Shape {
+    let mut slopes = shape.slopes;
+    let last = lawful.own_slopes().len() - 1;
+    let bad = random.pick(&[lawful.q, u32::MAX, slopes[0]]);
+    slopes[last] = if last == 0 { lawful.q } else { bad };
+    shape.with_slopes(slopes)
+}
+
+/// Every choice of faults; in each they stand in this order.
+pub fn choices(order: &[Refusal]) -> Vec<Vec<Refusal>> {
+    let chosen = |bits: usize| (0..order.len()).filter(|i| bits >> i & 1 == 1).map(|i| order[i]).collect();
+    (0..1 << order.len()).map(chosen).collect()
+}
+
+/// The shape with those of the faults that are about one: a bad slope, a width that is none.
+pub fn spoiled(shape: Shape, faults: &[Refusal], random: &mut Random) -> Shape {
+    let sloped = if faults.contains(&Refusal::Slope) { bad_slope(shape, shape, random) } else { shape };
+    let b = if faults.contains(&Refusal::Shape) { 33 } else { shape.b };
+    Shape { b, ..sloped }
 }

@@ -1,13 +1,11 @@
 //! The coverage viewer: which bytes are yes for which counts, what a refusal leaves, recordings. What must
 //! come of each call is said here, not asked of the reference, which is held to it like the library.
 
-use super::calls::{reshaped, resized, turned_down};
+use super::calls::{choices, reshaped, spoiled, turned_down, with_length};
+use super::elsewhere::{any_marks, arriving, begin, figures, marked, readable, session, some_pages, wrong_figures};
 use super::every::{Shapes, ONE_WIDTH};
 use super::expect::expect;
-use super::figures::{any_marks, bad_slope, figures, readable, session, wrong_figures};
-use super::idle::some_pages;
 use crate::call::{After, Call, Entry, Make};
-use crate::capture::{recording_of, Page};
 use crate::random::Random;
 use crate::reference::page::FUNCTIONS;
 use crate::reference::session::SESSION_LEN;
@@ -33,7 +31,7 @@ pub fn group(name: &'static str, make: Make) -> Group {
 /// A call with these counts, of a session from elsewhere; the slice is full of old bytes.
 fn cover(shape: Shape, calls: &[u32], random: &mut Random) -> Call {
     let come = some_pages(random);
-    let session = session(shape, figures(&come), &any_marks(&come, random), calls);
+    let session = marked(shape, &come, calls, random);
     Call::new(Entry::Cover, shape, &[&session, &random.bytes(FUNCTIONS)])
 }
 
@@ -88,14 +86,12 @@ fn lengths(make: Make, shape: Shape, random: &mut Random) -> Verdict {
     for count in [0, 1] {
         let call = cover(shape, &[count; FUNCTIONS], random);
         for length in [0, 1, 255, 257, 512, 1024] {
-            let mut call = call.clone();
-            call.slices[1] = random.bytes(length);
+            let call = call.with_slice(1, random.bytes(length));
             expect(make, &call, &turned_down(&call, Refusal::Length))?;
             tried += 1;
         }
         for length in [0, FUNCTIONS, SESSION_LEN - 2, SESSION_LEN - 1, SESSION_LEN + 1] {
-            let mut call = call.clone();
-            call.slices[0] = resized(&call.slices[0], length, random);
+            let call = with_length(&call, 0, length, random);
             expect(make, &call, &turned_down(&call, Refusal::Length))?;
             tried += 1;
         }
@@ -109,9 +105,8 @@ const ORDER: [Refusal; 4] = [Refusal::Shape, Refusal::Slope, Refusal::Figures, R
 /// Every choice of faults: the first in order is the answer, and the slice is as it was.
 fn several_faults(make: Make, shape: Shape, random: &mut Random) -> Verdict {
     let mut tried = 0;
-    for faults in 0..1 << ORDER.len() {
-        let has =
-            |refusal: Refusal| ORDER.iter().position(|&other| other == refusal).is_some_and(|i| faults >> i & 1 == 1);
+    for faults in choices(&ORDER) {
+        let has = |refusal: Refusal| faults.contains(&refusal);
         let come = some_pages(random);
         let marks = any_marks(&come, random);
         let wrong = random.pick(&wrong_figures(&come, &marks));
@@ -119,11 +114,9 @@ fn several_faults(make: Make, shape: Shape, random: &mut Random) -> Verdict {
         let length = if has(Refusal::Length) { random.pick(&[0, 255, 257]) } else { FUNCTIONS };
         let session = session(shape, figures, &marks, &[random.pick(&COUNTS); FUNCTIONS]);
         let call = Call::new(Entry::Cover, shape, &[&session, &random.bytes(length)]);
-        let sloped = if has(Refusal::Slope) { bad_slope(shape, shape, random) } else { shape };
-        let b = if has(Refusal::Shape) { 33 } else { shape.b };
-        let call = reshaped(&call, Shape { b, ..sloped });
-        match ORDER.into_iter().find(|&refusal| has(refusal)) {
-            Some(refusal) => expect(make, &call, &turned_down(&call, refusal))?,
+        let call = reshaped(&call, spoiled(shape, &faults, random));
+        match faults.first() {
+            Some(&refusal) => expect(make, &call, &turned_down(&call, refusal))?,
             None => expect(make, &call, &covered(&call, &(0..FUNCTIONS).collect()))?,
         }
         tried += 1;
@@ -134,11 +127,8 @@ fn several_faults(make: Make, shape: Shape, random: &mut Random) -> Verdict {
 /// From a fresh session on: after each arrival yes is said of the functions from 1 on that a page so far
 /// has a mark for.
 fn recordings(make: Make, shape: Shape, random: &mut Random) -> Verdict {
-    let fresh = Call::new(Entry::Fresh, shape, &[&random.numbers(SESSION_LEN)]);
-    let mut session = make(&fresh).slices.swap_remove(0);
-    let pages = recording_of(shape, 8, Page::in_runs, random);
-    let mut arriving: Vec<&Page> = pages.iter().flat_map(|page| vec![page; 1 + random.below(2)]).collect();
-    random.shuffle(&mut arriving);
+    let (mut session, pages) = begin(make, shape, random);
+    let arriving = arriving(&pages, 2, random);
     let mut marked = BTreeSet::new();
     for &page in &arriving {
         let (call, _) = readable(shape, &session, page, random);

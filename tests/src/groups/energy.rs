@@ -2,13 +2,14 @@
 //! from elsewhere, recordings. What must come of each call is said here, not asked of the reference, which
 //! is held to it like the library.
 
-use super::calls::{reshaped, resized, turned_down};
+use super::calls::{choices, reshaped, spoiled, turned_down, with_length};
+use super::elsewhere::{
+    any_calls, any_marks, arriving, begin, figures, marked, readable, session, some_pages, wrong_figures,
+};
 use super::every::{Shapes, ONE_WIDTH};
 use super::expect::expect;
-use super::figures::{any_calls, any_marks, bad_slope, figures, readable, session, wrong_figures};
-use super::idle::{some_pages, tally};
 use crate::call::{After, Call, Entry, Make};
-use crate::capture::{recording_of, Page};
+use crate::capture::{own_tally, Page};
 use crate::random::Random;
 use crate::reference::page::FUNCTIONS;
 use crate::reference::session::{MARKS_AT, PAGES_AT, SESSION_LEN};
@@ -79,7 +80,7 @@ fn sum_of(calls: &[u32], prices: &[u32]) -> u128 {
 /// A call with these counts and prices, of a session from elsewhere.
 fn bill(shape: Shape, calls: &[u32], prices: &[u32], random: &mut Random) -> Call {
     let come = some_pages(random);
-    let session = session(shape, figures(&come), &any_marks(&come, random), calls);
+    let session = marked(shape, &come, calls, random);
     Call::new(Entry::Bill, shape, &[&session, prices])
 }
 
@@ -162,9 +163,7 @@ fn lengths(make: Make, shape: Shape, random: &mut Random) -> Verdict {
             tried += 1;
         }
         for length in [0, FUNCTIONS, SESSION_LEN - 2, SESSION_LEN - 1, SESSION_LEN + 1] {
-            let mut call = call.clone();
-            call.slices[0] = resized(&call.slices[0], length, random);
-            expect_answer(make, &call, refused)?;
+            expect_answer(make, &with_length(&call, 0, length, random), refused)?;
             tried += 1;
         }
     }
@@ -177,9 +176,8 @@ const ORDER: [Refusal; 5] = [Refusal::Shape, Refusal::Slope, Refusal::Figures, R
 /// Every choice of faults: the first in order is the answer.
 fn several_faults(make: Make, shape: Shape, random: &mut Random) -> Verdict {
     let mut tried = 0;
-    for faults in 0..1 << ORDER.len() {
-        let has =
-            |refusal: Refusal| ORDER.iter().position(|&other| other == refusal).is_some_and(|i| faults >> i & 1 == 1);
+    for faults in choices(&ORDER) {
+        let has = |refusal: Refusal| faults.contains(&refusal);
         let sum = if has(Refusal::Bill) { MOST + 1 } else { MOST };
         let (calls, prices) = costing(sum, random);
         let come = some_pages(random);
@@ -188,16 +186,14 @@ fn several_faults(make: Make, shape: Shape, random: &mut Random) -> Verdict {
         let mut call = Call::new(Entry::Bill, shape, &[&session(shape, figures(&come), &marks, &calls), &prices]);
         if has(Refusal::Length) {
             let length = random.pick(&[0, 255, 257]);
-            call.slices[1] = resized(&prices, length, random);
+            call = with_length(&call, 1, length, random);
         }
         if has(Refusal::Figures) {
             call.slices[0][PAGES_AT..MARKS_AT].copy_from_slice(&wrong);
         }
-        let sloped = if has(Refusal::Slope) { bad_slope(shape, shape, random) } else { shape };
-        let b = if has(Refusal::Shape) { 33 } else { shape.b };
-        let call = reshaped(&call, Shape { b, ..sloped });
-        match ORDER.into_iter().find(|&refusal| has(refusal)) {
-            Some(refusal) => expect_answer(make, &call, turned_down(&call, refusal).answer)?,
+        let call = reshaped(&call, spoiled(shape, &faults, random));
+        match faults.first() {
+            Some(&refusal) => expect_answer(make, &call, turned_down(&call, refusal).answer)?,
             None => expect_answer(make, &call, answer(sum))?,
         }
         tried += 1;
@@ -208,12 +204,9 @@ fn several_faults(make: Make, shape: Shape, random: &mut Random) -> Verdict {
 /// From a fresh session on: after each arrival the bill is that of the pages so far, at the end the
 /// recording's own.
 fn recordings(make: Make, shape: Shape, random: &mut Random) -> Verdict {
-    let fresh = Call::new(Entry::Fresh, shape, &[&random.numbers(SESSION_LEN)]);
-    let mut session = make(&fresh).slices.swap_remove(0);
-    let pages = recording_of(shape, 8, Page::in_runs, random);
+    let (mut session, pages) = begin(make, shape, random);
     let prices: Vec<u32> = any_calls(random);
-    let mut arriving: Vec<&Page> = pages.iter().flat_map(|page| vec![page; 1 + random.below(2)]).collect();
-    random.shuffle(&mut arriving);
+    let arriving = arriving(&pages, 2, random);
     let mut come: Vec<&Page> = vec![];
     for &page in &arriving {
         let (call, _) = readable(shape, &session, page, random);
@@ -221,10 +214,10 @@ fn recordings(make: Make, shape: Shape, random: &mut Random) -> Verdict {
         if !come.iter().any(|other| other.number == page.number) {
             come.push(page);
         }
-        let sum = sum_of(&tally(come.iter().copied()), &prices);
+        let sum = sum_of(&own_tally(come.iter().copied()), &prices);
         expect_answer(make, &Call::new(Entry::Bill, shape, &[&session, &prices]), answer(sum))?;
     }
-    let sum = sum_of(&tally(&pages), &prices);
+    let sum = sum_of(&own_tally(&pages), &prices);
     expect_answer(make, &Call::new(Entry::Bill, shape, &[&session, &prices]), answer(sum))?;
     Ok(arriving.len() as u64 + 1)
 }

@@ -31,12 +31,6 @@ impl Lent {
             _ => Box::new(with_zeros(slice)),
         }
     }
-
-    fn with_slice(&self, i: usize, values: Vec<u32>) -> Lent {
-        let mut lent = self.clone();
-        lent.call.slices[i] = values;
-        lent
-    }
 }
 
 impl Case for Lent {
@@ -45,7 +39,8 @@ impl Case for Lent {
     }
 
     fn smaller(&self) -> impl Iterator<Item = Lent> {
-        let of_slice = move |i: usize| self.smaller_slices(i).map(move |values| self.with_slice(i, values));
+        let with = |i: usize, values| Lent { make: self.make, call: self.call.with_slice(i, values) };
+        let of_slice = move |i: usize| self.smaller_slices(i).map(move |values| with(i, values));
         (0..self.call.slices.len()).flat_map(of_slice)
     }
 

@@ -2,30 +2,31 @@
 //! and in sessions grown from a fresh one. What must come of each call is said here, by a plain set of
 //! page numbers, not asked of the reference, which is held to it like the library.
 
-use super::calls::{good, later_faults, reshaped, resized, turned_down, YES};
+use super::calls::{bad_slope, good, later_faults, reshaped, turned_down, with_length};
+use super::elsewhere::{
+    after_arrival, any_calls, any_marks, figures, fresh, lowest_missing, plain_marks, readable, session, wrong_figures,
+    Come, ALL,
+};
+use super::every::{Shapes, Widths};
 use super::expect::expect;
 use crate::call::{answer_of, After, Call, Entry, Make};
 use crate::capture::{page_numbers, Page};
-use crate::damage::{make, unmasked, Style};
+use crate::damage::{make, Style};
 use crate::random::Random;
-use crate::reference::page::{FUNCTIONS, PAGES};
+use crate::reference::page::PAGES;
 use crate::reference::session::{CALLS_AT, MARKS_AT, PAGES_AT, SESSION_LEN};
 use crate::reference::shape::{Refusal, Shape};
 use crate::reference::writer::codeword;
 use crate::report::{Group, Unit, Verdict};
-use std::collections::BTreeSet;
 
-/// The pages that have come.
-pub(super) type Come = BTreeSet<u32>;
-
-/// All page numbers, and the lowest number not taken where all are.
-const ALL: u32 = PAGES as u32;
+/// One that is drawn.
+const ANY_WIDTH: Widths = |_, random| vec![random.pick(&[1, 2, 8, 10, 11, 31, 32])];
 
 /// The group for whichever makes the calls.
 pub fn group(name: &'static str, make: Make) -> Group {
     let mut group = Group::new(name, Unit::Calls);
     group.test_each("that disagree, (q, n)", move |q, n, random| disagreeing(make, q, n, random));
-    group.test_each("with another fault, (q, n)", move |q, n, random| with_another_fault(make, q, n, random));
+    Shapes::new(&mut group, make, ANY_WIDTH).test("with another fault, (q, n)", with_another_fault);
     group.test_each("that agree, (q, n)", move |q, n, random| agreeing(make, q, n, random));
     for order in ORDERS {
         let widths = |_, random: &mut Random| vec![random.pick(&[3, 8, 11, 32])];
@@ -38,37 +39,6 @@ pub fn group(name: &'static str, make: Make) -> Group {
         });
     }
     group
-}
-
-/// The numbers from 0 on that are all there, in order, come before it.
-fn lowest_missing(come: &Come) -> u32 {
-    come.iter().zip(0..).take_while(|(&page, number)| page == *number).count() as u32
-}
-
-pub(super) fn figures(come: &Come) -> [u32; 2] {
-    [come.len() as u32, lowest_missing(come)]
-}
-
-/// A session as it crosses.
-pub(super) fn session(shape: Shape, figures: [u32; 2], marks: &[u32], calls: &[u32]) -> Vec<u32> {
-    [&shape.values()[..], &figures, marks, calls].concat()
-}
-
-/// Each yes crosses as 1.
-pub(super) fn plain_marks(come: &Come) -> Vec<u32> {
-    let mut marks = vec![0; PAGES];
-    come.iter().for_each(|&page| marks[page as usize] = 1);
-    marks
-}
-
-/// Each yes crosses as any nonzero number.
-pub(super) fn any_marks(come: &Come, random: &mut Random) -> Vec<u32> {
-    plain_marks(come).into_iter().map(|mark| mark * random.pick(&YES)).collect()
-}
-
-/// Counts that a page's marks don't fill.
-pub(super) fn any_calls(random: &mut Random) -> Vec<u32> {
-    (0..FUNCTIONS).map(|_| random.number() >> (1 + random.below(31))).collect()
 }
 
 /// Sets of pages from none to all: single ones, all but single ones, runs, runs with holes, any.
@@ -93,41 +63,25 @@ fn sets(random: &mut Random) -> Vec<Come> {
     sets
 }
 
-/// Figures that are not those of the set: off by one, swapped, zero, full, of another set, far away,
-/// and right but for the upper bits.
-pub(super) fn wrong_figures(come: &Come, marks: &[u32]) -> Vec<[u32; 2]> {
-    let [pages, lowest] = figures(come);
-    let sum = marks.iter().fold(0, |sum: u32, &mark| sum.wrapping_add(mark));
-    let next = (lowest + 1..ALL).find(|page| !come.contains(page)).unwrap_or(ALL);
-    let after_last = come.last().map_or(0, |page| page + 1);
-    let around = |right: u32| {
-        let near = [right.wrapping_sub(1), right + 1, 0, 1, 2, ALL - 1, ALL, ALL + 1, u32::MAX];
-        near.into_iter().chain([8, 10, 16, 31].map(|bit| right ^ 1 << bit))
-    };
-    let mut wrong = vec![[lowest, pages], [0, 0], [0, 1], [ALL, ALL], [u32::MAX, u32::MAX]];
-    wrong.extend([[pages + 1, lowest + 1], [pages.wrapping_sub(1), lowest.wrapping_sub(1)], [pages + 1, next]]);
-    wrong.extend(around(pages).chain([lowest, sum, ALL - pages]).map(|other| [other, lowest]));
-    wrong.extend(around(lowest).chain([pages, next, after_last]).map(|other| [pages, other]));
-    wrong.retain(|&other| other != [pages, lowest]);
-    wrong
+/// What a session may have in which these pages have come: shape, marks and counts.
+fn parts(q: u32, n: u32, come: &Come, random: &mut Random) -> (Shape, Vec<u32>, Vec<u32>) {
+    let b = ANY_WIDTH(q, random)[0];
+    let (shape, calls) = (random.shape(q, n, b), any_calls(random));
+    let marks = if random.one_in(2) { plain_marks(come) } else { any_marks(come, random) };
+    (shape, marks, calls)
 }
 
 /// Calls of every entry that takes a session, with this one.
 fn calls_with(session: &[u32], shape: Shape, random: &mut Random) -> [Call; 5] {
-    [Entry::Count, Entry::Bill, Entry::Cover, Entry::Arrive, Entry::Batch].map(|entry| {
-        let mut call = good(entry, shape, random);
-        call.slices[0] = session.to_vec();
-        call
-    })
+    [Entry::Count, Entry::Bill, Entry::Cover, Entry::Arrive, Entry::Batch]
+        .map(|entry| good(entry, shape, random).with_slice(0, session.to_vec()))
 }
 
 /// Nothing else is wrong: 11, and all is as lent, the scratch too.
 fn disagreeing(make: Make, q: u32, n: u32, random: &mut Random) -> Verdict {
     let mut tried = 0;
     for come in sets(random) {
-        let b = random.pick(&[1, 2, 8, 10, 11, 31, 32]);
-        let (shape, calls) = (random.shape(q, n, b), any_calls(random));
-        let marks = if random.one_in(2) { plain_marks(&come) } else { any_marks(&come, random) };
+        let (shape, marks, calls) = parts(q, n, &come, random);
         let lent = calls_with(&session(shape, figures(&come), &marks, &calls), shape, random);
         for [pages, lowest] in wrong_figures(&come, &marks) {
             for mut call in lent.clone() {
@@ -142,10 +96,8 @@ fn disagreeing(make: Make, q: u32, n: u32, random: &mut Random) -> Verdict {
 
 /// Wrong figures beside something else: 1 and 18 come before them, everything else after. A session or
 /// an outcome of wrong length doesn't get across.
-fn with_another_fault(make: Make, q: u32, n: u32, random: &mut Random) -> Verdict {
+fn with_another_fault(make: Make, shape: Shape, random: &mut Random) -> Verdict {
     let mut tried = 0;
-    let b = random.pick(&[1, 2, 8, 10, 11, 31, 32]);
-    let shape = random.shape(q, n, b);
     for come in sets(random) {
         let marks = any_marks(&come, random);
         let wrong = random.pick(&wrong_figures(&come, &marks));
@@ -174,28 +126,13 @@ fn with_another_fault(make: Make, q: u32, n: u32, random: &mut Random) -> Verdic
     Ok(tried)
 }
 
-/// The shape with a slope that is too large, or stands twice, among those that count for `lawful`.
-pub(super) fn bad_slope(shape: Shape, lawful: Shape, random: &mut Random) -> Shape {
-    let mut slopes = shape.slopes;
-    let last = lawful.own_slopes().len() - 1;
-    let bad = random.pick(&[lawful.q, u32::MAX, slopes[0]]);
-    slopes[last] = if last == 0 { lawful.q } else { bad };
-    shape.with_slopes(slopes)
-}
-
 /// The call with its session or its outcome too short or too long.
 fn that_cannot_cross(call: &Call, random: &mut Random) -> Vec<Call> {
-    let mut calls = vec![];
-    let mut with_length = |i: usize, length: usize| {
-        let mut call = call.clone();
-        call.slices[i] = resized(&call.slices[i], length, random);
-        calls.push(call);
-    };
-    [0, SESSION_LEN - 2, SESSION_LEN - 1, SESSION_LEN + 1].into_iter().for_each(|length| with_length(0, length));
+    let mut lengths = [0, SESSION_LEN - 2, SESSION_LEN - 1, SESSION_LEN + 1].map(|length| (0, length)).to_vec();
     if call.entry == Entry::Arrive {
-        [0, 2, 4].into_iter().for_each(|length| with_length(3, length));
+        lengths.extend([0, 2, 4].map(|length| (3, length)));
     }
-    calls
+    lengths.into_iter().map(|(i, length)| with_length(call, i, length, random)).collect()
 }
 
 /// Right figures: a count query is answered, a page that has come is again, another is taken and the
@@ -203,9 +140,7 @@ fn that_cannot_cross(call: &Call, random: &mut Random) -> Vec<Call> {
 fn agreeing(make: Make, q: u32, n: u32, random: &mut Random) -> Verdict {
     let mut tried = 0;
     for come in sets(random) {
-        let b = random.pick(&[1, 2, 8, 10, 11, 31, 32]);
-        let (shape, calls) = (random.shape(q, n, b), any_calls(random));
-        let marks = if random.one_in(2) { plain_marks(&come) } else { any_marks(&come, random) };
+        let (shape, marks, calls) = parts(q, n, &come, random);
         let session = session(shape, figures(&come), &marks, &calls);
         for function in [0, 255, 256, random.below(300) as u32, u32::MAX] {
             let call = Call::numbered(Entry::Count, shape, function, &[&session]);
@@ -237,30 +172,6 @@ fn agreeing(make: Make, q: u32, n: u32, random: &mut Random) -> Verdict {
     Ok(tried)
 }
 
-/// The arrival of a page with damage that reading undoes, and how many symbols it changes.
-pub(super) fn readable(shape: Shape, session: &[u32], page: &Page, random: &mut Random) -> (Call, u32) {
-    let weight = random.below(shape.n as usize);
-    let error = unmasked(shape, weight, random);
-    let word = page.damaged(shape, &error);
-    let scratch = random.numbers(shape.scratch_len());
-    (Call::new(Entry::Arrive, shape, &[session, &word, &scratch, &[9; 3]]), error.len() as u32)
-}
-
-/// What the arrival of this page leaves where these have come. The page is one of them from then on.
-pub(super) fn after_arrival(call: &Call, page: &Page, weight: u32, come: &mut Come) -> After {
-    let mut slices = call.slices.clone();
-    let again = !come.insert(page.number);
-    if !again {
-        let mut calls = slices[0][CALLS_AT..].to_vec();
-        page.calls().for_each(|function| calls[function] += 1);
-        slices[0] = session(call.shape, figures(come), &plain_marks(come), &calls);
-    }
-    slices[1] = page.codeword(call.shape);
-    slices[2].fill(0);
-    slices[3] = vec![u32::from(again), page.number, weight];
-    After { answer: 0, slices }
-}
-
 /// In which order the pages of a recording come.
 #[derive(Clone, Copy, Debug)]
 enum Order {
@@ -287,10 +198,9 @@ fn numbers(order: Order, count: u32, random: &mut Random) -> Vec<u32> {
 /// The first pages come to a fresh session, some of them again later, refused words between. After each
 /// arrival the session is what the pages say that have come; 11 never comes.
 fn grown(make: Make, shape: Shape, count: usize, order: Order, random: &mut Random) -> Verdict {
-    let fresh = Call::new(Entry::Fresh, shape, &[&random.numbers(SESSION_LEN)]);
-    let blank = session(shape, [0, 0], &[0; PAGES], &[0; FUNCTIONS]);
-    expect(make, &fresh, &After { answer: 0, slices: vec![blank.clone()] })?;
-    let (mut session, mut come, mut pages, mut tried) = (blank, Come::new(), vec![], 1);
+    let call = Call::new(Entry::Fresh, shape, &[&random.numbers(SESSION_LEN)]);
+    let (mut session, mut come, mut pages, mut tried) = (fresh(shape), Come::new(), vec![], 1);
+    expect(make, &call, &After { answer: 0, slices: vec![session.clone()] })?;
     for number in numbers(order, count.min(page_numbers(shape)) as u32, random) {
         pages.push(Page::random(shape, number, random));
         let repeats = random.below(3);

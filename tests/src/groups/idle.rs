@@ -2,14 +2,14 @@
 //! is said here, not asked of the reference, which is held to it like the library.
 
 use super::calls::turned_down;
+use super::elsewhere::{after_arrival, any_calls, arriving, begin, marked, plain, readable, some_pages, Come};
 use super::every::{Shapes, Widths};
 use super::expect::expect;
-use super::figures::{after_arrival, any_calls, any_marks, figures, plain_marks, readable, session, Come};
 use crate::call::{After, Call, Entry, Make};
-use crate::capture::{counted, most_marks, page_numbers, recording_of, Page};
+use crate::capture::{counted, most_marks, own_tally, page_numbers, Page};
 use crate::random::Random;
-use crate::reference::page::{FUNCTIONS, IDLE, PAGES};
-use crate::reference::session::{CALLS_AT, SESSION_LEN};
+use crate::reference::page::{FUNCTIONS, IDLE};
+use crate::reference::session::CALLS_AT;
 use crate::reference::shape::{Refusal, Shape};
 use crate::report::{Group, Unit, Verdict};
 
@@ -40,14 +40,6 @@ pub fn group(name: &'static str, make: Make) -> Group {
     group
 }
 
-/// How many marks of each function from 1 to 255 the pages have; nothing for function 0.
-pub fn tally<'a>(pages: impl IntoIterator<Item = &'a Page>) -> Vec<u32> {
-    let mut marks = vec![0; FUNCTIONS];
-    pages.into_iter().flat_map(|page| &page.marks).for_each(|&mark| marks[mark as usize] += 1);
-    marks[0] = 0;
-    marks
-}
-
 /// The arrival of this page, whose marks are named too where it ends otherwise.
 fn expect_page(make: Make, call: &Call, page: &Page, expected: &After) -> Result<(), String> {
     expect(make, call, expected).map_err(|found| format!("marks {:?}: {found}", page.marks))
@@ -64,11 +56,6 @@ fn expect_count(make: Make, shape: Shape, session: &[u32], count: u32) -> Result
     }
 }
 
-/// Pages that have come elsewhere.
-pub(super) fn some_pages(random: &mut Random) -> Come {
-    (0..PAGES as u32).filter(|_| random.one_in(3)).collect()
-}
-
 /// A page number that the width can hold and that has not come, if there is one.
 fn new_number(shape: Shape, come: &Come, random: &mut Random) -> Option<u32> {
     let numbers: Vec<u32> = (0..page_numbers(shape) as u32).filter(|number| !come.contains(number)).collect();
@@ -79,7 +66,7 @@ fn new_number(shape: Shape, come: &Come, random: &mut Random) -> Option<u32> {
 fn taken(call: &Call, page: &Page, weight: u32, come: &Come, calls: &[u32]) -> After {
     let mut come = come.clone();
     come.insert(page.number);
-    let session = session(call.shape, figures(&come), &plain_marks(&come), calls);
+    let session = plain(call.shape, &come, calls);
     let scratch = vec![0; call.shape.scratch_len()];
     let slices = vec![session, page.codeword(call.shape), scratch, vec![0, page.number, weight]];
     After { answer: 0, slices }
@@ -91,7 +78,7 @@ fn among_others(make: Make, shape: Shape, random: &mut Random) -> Verdict {
     for count in COUNTS {
         let (mut come, mut calls) = (some_pages(random), any_calls(random));
         calls[0] = count;
-        let mut session = session(shape, figures(&come), &any_marks(&come, random), &calls);
+        let mut session = marked(shape, &come, &calls, random);
         expect_count(make, shape, &session, count)?;
         for _ in 0..3 {
             let number = random.below(page_numbers(shape)) as u32;
@@ -119,7 +106,7 @@ fn nothing_but_idle(make: Make, shape: Shape, random: &mut Random) -> Verdict {
             let page = Page { number, marks: vec![IDLE; length] };
             let mut calls = if random.one_in(2) { any_calls(random) } else { vec![u32::MAX; FUNCTIONS] };
             calls[0] = count;
-            let before = session(shape, figures(&come), &any_marks(&come, random), &calls);
+            let before = marked(shape, &come, &calls, random);
             let (call, weight) = readable(shape, &before, &page, random);
             let after = taken(&call, &page, weight, &come, &calls);
             expect_page(make, &call, &page, &after)?;
@@ -155,7 +142,7 @@ fn beside_worn(make: Make, shape: Shape, random: &mut Random) -> Verdict {
             let mut calls = if random.one_in(2) { any_calls(random) } else { vec![u32::MAX; FUNCTIONS] };
             calls[0] = count;
             calls[function] = u32::MAX - left as u32;
-            let before = session(shape, figures(&come), &any_marks(&come, random), &calls);
+            let before = marked(shape, &come, &calls, random);
             let (call, weight) = readable(shape, &before, &page, random);
             let expected = if left == times {
                 calls[function] = u32::MAX;
@@ -175,23 +162,20 @@ fn beside_worn(make: Make, shape: Shape, random: &mut Random) -> Verdict {
 /// Recordings whose marks come in runs, from a fresh session: after each arrival the counts are the plain
 /// tally of the pages so far.
 fn recordings(make: Make, shape: Shape, random: &mut Random) -> Verdict {
-    let fresh = Call::new(Entry::Fresh, shape, &[&random.numbers(SESSION_LEN)]);
-    let mut session = make(&fresh).slices.swap_remove(0);
-    let pages = recording_of(shape, 8, Page::in_runs, random);
-    let mut arriving: Vec<&Page> = pages.iter().flat_map(|page| vec![page; 1 + random.below(3)]).collect();
-    random.shuffle(&mut arriving);
+    let (mut session, pages) = begin(make, shape, random);
+    let arriving = arriving(&pages, 3, random);
     let mut come = Come::new();
     for &page in &arriving {
         let (call, weight) = readable(shape, &session, page, random);
         expect_page(make, &call, page, &after_arrival(&call, page, weight, &mut come))?;
         session = make(&call).slices.swap_remove(0);
         let so_far = pages.iter().filter(|page| come.contains(&page.number));
-        if session[CALLS_AT..] != tally(so_far) {
+        if session[CALLS_AT..] != own_tally(so_far) {
             return Err(format!("{shape:?}: the counts are not the tally of the pages {come:?} of {pages:?}"));
         }
         expect_count(make, shape, &session, 0)?;
     }
-    if session[CALLS_AT..] != tally(&pages) {
+    if session[CALLS_AT..] != own_tally(&pages) {
         return Err(format!("{shape:?}: the counts are not the tally of {pages:?}"));
     }
     Ok(2 * arriving.len() as u64)

@@ -3,7 +3,7 @@
 use super::every::repeated;
 use super::expect::expect_reference;
 use crate::call::{to_bytes, Call, Entry};
-use crate::capture::{page_numbers, Page};
+use crate::capture::Page;
 use crate::random::Random;
 use crate::reference::shape::Shape;
 use crate::report::{Group, Unit, Verdict};
@@ -26,13 +26,8 @@ fn border(shape: Shape, random: &mut Random) -> u32 {
     }
 }
 
-fn any_page(shape: Shape, random: &mut Random) -> Page {
-    let number = random.below(page_numbers(shape)) as u32;
-    Page::random(shape, number, random)
-}
-
 fn reading(shape: Shape, random: &mut Random) -> Verdict {
-    let mut data = any_page(shape, random).symbols(shape);
+    let mut data = Page::any(shape, random).symbols(shape);
     for _ in 0..random.below(4) {
         let any = random.below(data.len());
         let at = random.pick(&[0, 1, 2, any, data.len() - 1]).min(data.len() - 1);
@@ -49,7 +44,7 @@ fn reading(shape: Shape, random: &mut Random) -> Verdict {
 }
 
 fn writing(shape: Shape, random: &mut Random) -> Verdict {
-    let Page { mut number, mut marks } = any_page(shape, random);
+    let Page { mut number, mut marks } = Page::any(shape, random);
     if random.one_in(3) {
         number = border(shape, random);
     }

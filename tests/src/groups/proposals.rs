@@ -2,6 +2,7 @@
 //! the case itself settles it, by trying every error where these are few, and by the reference elsewhere.
 
 use super::calls::any_session;
+use super::elsewhere::fresh;
 use super::every::Shapes;
 use super::expect::{expect, expect_reference};
 use crate::call::{answer_of, After, Call, Entry, Make};
@@ -9,7 +10,7 @@ use crate::capture::{page_numbers, Page};
 use crate::damage::{damaged, make as damage, spelled_out, unmasked, Style, STYLES};
 use crate::random::Random;
 use crate::reference::brute::{all_codewords, all_words, explanations};
-use crate::reference::session::{Session, CLEAN};
+use crate::reference::session::CLEAN;
 use crate::reference::shape::{Refusal, Shape};
 use crate::reference::square::is_unmasked;
 use crate::report::{Group, Unit, Verdict};
@@ -144,9 +145,8 @@ fn lengths_and_widths(make: Make, shape: Shape, random: &mut Random) -> Verdict 
 /// Proposals that get yes in place of the received words, from a fresh session and from one that comes from
 /// elsewhere: after each arrival the same session, and the same outcome but for the symbols changed.
 fn arrivals(make: Make, shape: Shape, random: &mut Random) -> Verdict {
-    let fresh = Session::fresh(shape).expect("a lawful shape").values();
     let mut tried = 0;
-    for start in [fresh, any_session(shape, random)] {
+    for start in [fresh(shape), any_session(shape, random)] {
         let mut sessions = [start.clone(), start];
         for _ in 0..6 {
             let page = Page::random(shape, random.below(page_numbers(shape).min(4)) as u32, random);

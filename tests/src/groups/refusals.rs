@@ -2,7 +2,7 @@
 //! call is compared whole, so that the lent slices and the scratch are too. Slopes alone are the
 //! matter of another group.
 
-use super::calls::{good, old_scratch_len, reshape, resized, ENTRIES};
+use super::calls::{good, old_scratch_len, reshape, reshaped, resized, with_length, ENTRIES};
 use super::expect::expect_reference;
 use crate::call::{answer_of, to_bytes, Call, Entry};
 use crate::random::Random;
@@ -10,23 +10,6 @@ use crate::reference::page::PAGES;
 use crate::reference::session::{CALLS_AT, LOWEST_AT, MARKS_AT, PAGES_AT, SESSION_LEN};
 use crate::reference::shape::{Refusal, Shape, SHAPE_LEN, SLOPES};
 use crate::report::{Group, Unit, Verdict};
-
-/// Those that test the width of a slice.
-const WIDE: [Entry; 13] = [
-    Entry::Encode,
-    Entry::Extract,
-    Entry::Decode,
-    Entry::Looked,
-    Entry::DecodeMajority,
-    Entry::DecodeTwo,
-    Entry::Fill,
-    Entry::Check,
-    Entry::ReadPage,
-    Entry::Marks,
-    Entry::WritePage,
-    Entry::Arrive,
-    Entry::Batch,
-];
 
 pub fn group() -> Group {
     let mut group = Group::new("refusals", Unit::Calls);
@@ -58,9 +41,7 @@ fn shapes(entry: Entry, random: &mut Random) -> Verdict {
             for b in shape_numbers(34) {
                 let shape = Shape::new(q, n, b);
                 for shape in [shape, shape.with_slopes([random.pick(&[1, 31, q, u32::MAX]); SLOPES])] {
-                    let mut call = call.clone();
-                    reshape(&mut call, shape);
-                    expect_reference(Call::on_library, &call)?;
+                    expect_reference(Call::on_library, &reshaped(&call, shape))?;
                     tried += 1;
                 }
             }
@@ -82,9 +63,7 @@ fn lengths(q: u32, n: u32, random: &mut Random) -> Verdict {
             // A session without its figures is too short.
             let without_figures = (call.entry.takes_session() && i == 0).then_some(SESSION_LEN - 2);
             for length in wrong.into_iter().chain(without_figures).filter(|&length| length != right) {
-                let mut call = call.clone();
-                call.slices[i] = resized(slice, length, random);
-                expect_reference(Call::on_library, &call)?;
+                expect_reference(Call::on_library, &with_length(&call, i, length, random))?;
                 tried += 1;
             }
         }
@@ -127,15 +106,18 @@ fn is_refused_by_length(call: &Call) -> bool {
 fn byte_lengths(q: u32, n: u32, random: &mut Random) -> Verdict {
     let mut tried = 0;
     for entry in [Entry::HostReadWord, Entry::HostReadPage] {
-        let mut call = good(entry, Shape::new(q, n, 16), random);
-        let bytes = call.slices[0].clone();
-        for length in 0..=2 * bytes.len() + 8 {
-            call.slices[0] = resized(&bytes, length, random);
-            expect_reference(Call::on_library, &call)?;
+        let call = good(entry, Shape::new(q, n, 16), random);
+        for length in 0..=2 * call.slices[0].len() + 8 {
+            expect_reference(Call::on_library, &with_length(&call, 0, length, random))?;
             tried += 1;
         }
     }
     Ok(tried)
+}
+
+/// Those that test the width of a slice.
+fn tests_width(entry: &Entry) -> bool {
+    entry.takes_shape() && *entry != Entry::Fresh || matches!(entry, Entry::Arrive | Entry::Batch)
 }
 
 /// Which slice has the symbols that test 3 is about.
@@ -147,7 +129,7 @@ fn judged(entry: Entry) -> usize {
 fn widths(q: u32, n: u32, random: &mut Random) -> Verdict {
     let mut tried = 0;
     for b in [1, 8, 11, 31, 32] {
-        for entry in WIDE {
+        for entry in ENTRIES.into_iter().filter(tests_width) {
             let shape = random.shape(q, n, b);
             let call = good(entry, shape, random);
             let judged = judged(entry);
@@ -209,7 +191,7 @@ fn spoil(call: &mut Call, random: &mut Random) {
             let i = random.below(call.slices.len());
             let length = call.slices[i].len();
             let length = random.pick(&[0, length.saturating_sub(1), length + 1, length + 32]);
-            call.slices[i] = resized(&call.slices[i].clone(), length, random);
+            *call = with_length(call, i, length, random);
         }
         4 => call.number = random.pick(&[255, 256, PAGES as u32 - 1, PAGES as u32, u32::MAX]),
         5 if call.entry.takes_session() => spoil_figure(call, random),

@@ -4,10 +4,10 @@ use super::calls::{any_session, old_scratch_len};
 use super::every::repeated;
 use super::expect::expect_reference;
 use crate::call::{difference, Call, Entry};
-use crate::capture::{page_numbers, recording, Page};
+use crate::capture::{own_tally, recording, Page};
 use crate::damage::{allowed, apply, make, STYLES};
 use crate::random::Random;
-use crate::reference::page::{FUNCTIONS, PAGES};
+use crate::reference::page::PAGES;
 use crate::reference::session::{
     ways_of, Outcome, Session, CALLS_AT, LOWEST_AT, MARKS_AT, PAGES_AT, SESSION_LEN, WAYS,
 };
@@ -153,10 +153,8 @@ fn fits_recording(shape: Shape, pages: &[Page], arrivals: Vec<Arrival>) -> Verdi
     let answer = crate::ffi::fresh(&shape.values(), &mut start);
     let run = Run { start, arrivals };
     let Ok((session, outcomes)) = run.follow() else { return expect(&run).map(|()| 0) };
-    let mut calls = [0; FUNCTIONS];
-    pages.iter().flat_map(Page::calls).for_each(|function| calls[function] += 1);
     let taken = outcomes.iter().filter(|outcome| outcome[0] == 0).count();
-    if answer != 0 || session[CALLS_AT..] != calls || taken != pages.len() {
+    if answer != 0 || session[CALLS_AT..] != own_tally(pages) || taken != pages.len() {
         return Err(format!("{shape:?}: {taken} pages taken of {}; the tally is not the recording's", pages.len()));
     }
     let missing = (0..PAGES as u32).find(|&number| pages.iter().all(|page| page.number != number));
@@ -174,8 +172,7 @@ fn handed_in(shape: Shape, random: &mut Random) -> Verdict {
     if random.one_in(8) {
         disagree(&mut start, random);
     }
-    let number = |random: &mut Random| random.below(page_numbers(shape)) as u32;
-    let pages: Vec<Page> = (0..6).map(|_| Page::random(shape, number(random), random)).collect();
+    let pages: Vec<Page> = (0..6).map(|_| Page::any(shape, random)).collect();
     let some = |page: &Page| {
         if random.one_in(3) {
             anything(shape, page, random)
@@ -202,7 +199,7 @@ fn disagree(session: &mut [u32], random: &mut Random) {
 /// A function's count that its marks just fill, and one that they just pass: the latter is refused,
 /// but only where the page is new.
 fn worn(shape: Shape, random: &mut Random) -> Verdict {
-    let page = Page::random(shape, random.below(page_numbers(shape)) as u32, random);
+    let page = Page::any(shape, random);
     let Some(function) = page.calls().next_back() else { return Ok(0) };
     let times = page.calls().filter(|&other| other == function).count() as u32;
     let cases = [(times, false), (times - 1, false), (times - 1, true), (0, false)];

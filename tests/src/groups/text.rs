@@ -2,7 +2,7 @@
 
 use super::faults::{bad_lines, first_lines, long_lines, second_lines, third_lines, zeros, GOOD};
 use super::idle;
-use crate::capture::{heading, line, recording, recording_of, text, word_lines, Page};
+use crate::capture::{heading, line, own_tally, recording, recording_of, text, word_lines, Page};
 use crate::process::Program;
 use crate::random::Random;
 use crate::reference::program::tally;
@@ -105,7 +105,7 @@ fn idle_recordings(program: &Program, random: &mut Random) -> Verdict {
         let pages = recording_of(shape, count, Page::in_runs, random);
         let input = text(shape, &pages, random).into_bytes();
         let mut list = String::from("function calls\n");
-        for (function, calls) in idle::tally(&pages).iter().enumerate().filter(|(_, calls)| **calls > 0) {
+        for (function, calls) in own_tally(&pages).iter().enumerate().filter(|(_, calls)| **calls > 0) {
             list += &format!("{function} {calls}\n");
         }
         if !program.run(&input)?.ends_with(list.as_bytes()) {

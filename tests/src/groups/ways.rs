@@ -1,15 +1,14 @@
 //! The ways of reading that an arrival names. What must come of each call is said here, not asked of the
 //! reference, which is held to it like the library.
 
-use super::calls::{good, later_faults, reshaped, turned_down};
+use super::calls::{bad_slope, good, later_faults, reshaped, turned_down};
+use super::elsewhere::{after_arrival, any_calls, fresh, plain, Come};
 use super::every::Shapes;
 use super::expect::expect;
-use super::figures::{after_arrival, any_calls, bad_slope, figures, plain_marks, session, Come};
 use crate::call::{Call, Entry, Make};
-use crate::capture::{page_numbers, recording, Page};
+use crate::capture::{own_tally, recording, Page};
 use crate::damage::{allowed, any_line, Error};
 use crate::random::Random;
-use crate::reference::page::FUNCTIONS;
 use crate::reference::session::{ways_of, CALLS_AT, TWO, VOTE, WAYS};
 use crate::reference::shape::{Refusal, Shape};
 use crate::report::{Group, Unit, Verdict};
@@ -67,7 +66,7 @@ fn mixed(make: Make, shape: Shape, random: &mut Random) -> Verdict {
     random.shuffle(&mut list);
     list.extend(&pages);
     let mut come = Come::new();
-    let mut state = session(shape, figures(&come), &plain_marks(&come), &[0; FUNCTIONS]);
+    let mut state = fresh(shape);
     for page in list {
         let way = random.below(ways_of(shape) as usize) as u32;
         let error = allowed(way, shape, random);
@@ -77,9 +76,7 @@ fn mixed(make: Make, shape: Shape, random: &mut Random) -> Verdict {
         state.copy_from_slice(&after.slices[0]);
         tried += 1;
     }
-    let mut calls = [0; FUNCTIONS];
-    pages.iter().flat_map(Page::calls).for_each(|function| calls[function] += 1);
-    if state[CALLS_AT..] != calls {
+    if state[CALLS_AT..] != own_tally(&pages) {
         return Err(format!("{shape:?}: the counts are not the recording's"));
     }
     Ok(tried)
@@ -89,9 +86,9 @@ fn mixed(make: Make, shape: Shape, random: &mut Random) -> Verdict {
 fn expect_undone(make: Make, way: u32, shape: Shape, places: &[usize], random: &mut Random) -> Result<(), String> {
     let symbol = random.nonzero_symbol(shape);
     let error: Error = places.iter().map(|&j| (j, symbol)).collect();
-    let page = Page::random(shape, random.below(page_numbers(shape)) as u32, random);
+    let page = Page::any(shape, random);
     let mut come = Come::new();
-    let state = session(shape, figures(&come), &plain_marks(&come), &any_calls(random));
+    let state = plain(shape, &come, &any_calls(random));
     let call = arrival(way, shape, &state, &page, &error, random);
     expect(make, &call, &after_arrival(&call, &page, places.len() as u32, &mut come))
 }

@@ -5,7 +5,7 @@ use super::cases::{
     PLACES, SCRATCH, WORD,
 };
 use crate::call::{Call, Make};
-use crate::groups::calls::{old_scratch_len, reshaped, resized};
+use crate::groups::calls::{choices, old_scratch_len, reshaped, with_length};
 use crate::groups::expect::expect;
 use crate::random::Random;
 use crate::reference::shape::{Refusal, Shape};
@@ -82,8 +82,8 @@ pub(super) fn lengths(make: Make, shape: Shape, random: &mut Random) -> Verdict 
     let scratches = [0, 1, scratch - 1, scratch + 1, old, old - 1, old + 1, size * shape.row_len(), 2 * scratch];
     let wrong = words.into_iter().chain(scratches.map(|length| (SCRATCH, length)));
     for (slice, length) in wrong.filter(|&(slice, length)| slice == WORD || length != scratch) {
-        let (mut call, _) = fillable(shape, random);
-        call.slices[slice] = resized(&call.slices[slice], length, random);
+        let (call, _) = fillable(shape, random);
+        let call = with_length(&call, slice, length, random);
         expect(make, &call, &refused(&call, Refusal::Length))?;
         tried += 1;
     }
@@ -136,44 +136,53 @@ pub(super) fn several_faults(make: Make, shape: Shape, random: &mut Random) -> V
     let mut tried = 0;
     let circuits = some_circuits(shape, random);
     let outsides: Vec<Option<usize>> = circuits.iter().map(|circuit| outside(shape, circuit, random)).collect();
-    for faults in 0..1 << ORDER.len() {
-        let has =
-            |refusal: Refusal| ORDER.iter().position(|&other| other == refusal).is_some_and(|i| faults >> i & 1 == 1);
+    for faults in choices(&ORDER) {
         let i = random.below(circuits.len());
-        let (mut places, damage) = (circuits[i].clone(), outsides[i]);
-        if has(Refusal::Width) && shape.b == 32 || has(Refusal::Unfillable) && damage.is_none() {
+        let lacking = (faults.contains(&Refusal::Width) && shape.b == 32)
+            || (faults.contains(&Refusal::Unfillable) && outsides[i].is_none());
+        if lacking {
             continue;
         }
-        if !has(Refusal::Ambiguous) {
-            places.remove(random.below(places.len()));
-        }
-        let sent = random.codeword(shape);
-        let mut word = lost(shape, &sent, &places, random);
-        if let Some(j) = damage.filter(|_| has(Refusal::Unfillable)) {
-            word = damaged(shape, word, &[j], random);
-        }
-        let mut call = fill(shape, &places, &word, random);
-        if has(Refusal::Places) {
-            let lists = faulty(shape, &places, random);
-            call.slices[PLACES] = lists[random.below(lists.len())].clone();
-        }
-        if has(Refusal::Width) {
-            let any = [random.pick(&places) as usize, random.below(word.len())];
-            let j = random.pick(&any);
-            call.slices[WORD][j] |= shape.largest() + 1;
-        }
-        if has(Refusal::Length) {
-            spoil_length(&mut call, random);
-        }
-        call = reshaped(&call, spoiled_shape(shape, has(Refusal::Shape), has(Refusal::Slope), random));
-        let expected = match ORDER.into_iter().find(|&refusal| has(refusal)) {
-            Some(refusal) => refused(&call, refusal),
-            None => filled(&call, &sent),
-        };
+        let (call, sent) = spoiled_call(shape, &circuits[i], outsides[i], &faults, random);
+        let expected = faults.first().map_or_else(|| filled(&call, &sent), |&refusal| refused(&call, refusal));
         expect(make, &call, &expected)?;
         tried += 1;
     }
     Ok(tried)
+}
+
+/// A call with these faults, made from a circuit and a position outside of it; and the word that was sent.
+fn spoiled_call(
+    shape: Shape,
+    circuit: &[u32],
+    outside: Option<usize>,
+    faults: &[Refusal],
+    random: &mut Random,
+) -> (Call, Vec<u32>) {
+    let has = |refusal: Refusal| faults.contains(&refusal);
+    let mut places = circuit.to_vec();
+    if !has(Refusal::Ambiguous) {
+        places.remove(random.below(places.len()));
+    }
+    let sent = random.codeword(shape);
+    let mut word = lost(shape, &sent, &places, random);
+    if let Some(j) = outside.filter(|_| has(Refusal::Unfillable)) {
+        word = damaged(shape, word, &[j], random);
+    }
+    let mut call = fill(shape, &places, &word, random);
+    if has(Refusal::Places) {
+        let mut lists = faulty(shape, &places, random);
+        call.slices[PLACES] = lists.swap_remove(random.below(lists.len()));
+    }
+    if has(Refusal::Width) {
+        let any = [random.pick(&places) as usize, random.below(word.len())];
+        call.slices[WORD][random.pick(&any)] |= shape.largest() + 1;
+    }
+    if has(Refusal::Length) {
+        spoil_length(&mut call, random);
+    }
+    let shape = spoiled_shape(shape, has(Refusal::Shape), has(Refusal::Slope), random);
+    (reshaped(&call, shape), sent)
 }
 
 /// Word, scratch or both of another length.
@@ -184,7 +193,7 @@ fn spoil_length(call: &mut Call, random: &mut Random) {
         let length = call.slices[slice].len();
         let other = if slice == SCRATCH { old } else { 2 * length };
         let length = random.pick(&[0, length - 1, length + 1, other]);
-        call.slices[slice] = resized(&call.slices[slice], length, random);
+        *call = with_length(call, slice, length, random);
     }
 }
 
