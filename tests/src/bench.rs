@@ -10,54 +10,65 @@ mod proposals;
 mod votes;
 mod words;
 
+const WORDS: &str = "\
+Ours / other below 1 means that the library is faster.
+All three test shape, slopes, length and width, and clear the lent scratch where they are lent one.
+The slopes are the standard ones; the library goes by those of the shape, the other two know only these.
+In an arrival the session crosses as 1,292 numbers, its two figures are tested, and it is written back
+after taken, for all three.
+
+";
+
+const ERASURES: &str = "\
+Dead cells against elimination over all checks, in rows of N bits; both test the list of places too.
+n places are filled in, half of all are refused with 14.
+
+";
+
+const VOTES: &str = "Reading by vote against a vote on the tuned reader's syndromes.\n\n";
+
+const DOUBLE: &str =
+    "Two wrong symbols that mask nothing: reading two wrong symbols against clean reading, both the library's.\n\n";
+
+const PROPOSALS: &str = "Proposals: right ones checked, against reading the damaged words that they are for.\n\n";
+
+const BUNDLES: &str = "\
+A bundle of 64 words in one call against 64 single arrivals of the library's own. The session crosses once,
+and not 64 times.
+
+";
+
+const TARGETS: &str = "\
+Targets: reading, writing, arrivals and the program at most 1.00 of the tuned counterpart, reading at most
+0.50 of the straightforward reader; dead cells at most 0.50 of the straightforward way for n places and
+1.50 for half of all; reading by vote at most 1.20 of the tuned vote; reading two wrong symbols at most
+1.50 of clean reading, checking a proposal at most 1.00 of it; a bundle of 64 words at most 0.90 of 64
+single arrivals.";
+
+/// Prints a table; gives the rows that miss their target.
+type Table = fn() -> Vec<String>;
+
+/// Each with what stands above it.
+const TABLES: [(&str, Table); 7] = [
+    (WORDS, words::table),
+    (ERASURES, erasures::table),
+    (VOTES, votes::table),
+    (DOUBLE, double::table),
+    (PROPOSALS, proposals::table),
+    (BUNDLES, bundles::table),
+    ("", program::table),
+];
+
 /// Prints all tables.
 pub fn run() {
     println!("Times and ratios are medians of {} rounds; all three take turns on the same words.", contest::ROUNDS);
-    println!("Ours / other below 1 means that the library is faster.");
-    println!("All three test shape, slopes, length and width, and clear the lent scratch where they are lent one.");
-    println!(
-        "The slopes are the standard ones; the library goes by those of the shape, the other two know only these."
-    );
-    println!("In an arrival the session crosses as 1,292 numbers, its two figures are tested, and it is written back");
-    println!("after taken, for all three.");
-    println!();
-    let mut missed = words::table();
-    println!();
-    println!("Dead cells against elimination over all checks, in rows of N bits; both test the list of places too.");
-    println!("n places are filled in, half of all are refused with 14.");
-    println!();
-    missed.extend(erasures::table());
-    println!();
-    println!("Reading by vote against a vote on the tuned reader's syndromes.");
-    println!();
-    missed.extend(votes::table());
-    println!();
-    println!(
-        "Two wrong symbols that mask nothing: reading two wrong symbols against clean reading, both the library's."
-    );
-    println!();
-    missed.extend(double::table());
-    println!();
-    println!("Proposals: right ones checked, against reading the damaged words that they are for.");
-    println!();
-    missed.extend(proposals::table());
-    println!();
-    println!(
-        "A bundle of 64 words in one call against 64 single arrivals of the library's own. The session crosses once,"
-    );
-    println!("and not 64 times.");
-    println!();
-    missed.extend(bundles::table());
-    println!();
-    missed.extend(program::table());
-    println!();
-    println!(
-        "Targets: reading, writing, arrivals and the program at most 1.00 of the tuned counterpart, reading at most"
-    );
-    println!("0.50 of the straightforward reader; dead cells at most 0.50 of the straightforward way for n places and");
-    println!("1.50 for half of all; reading by vote at most 1.20 of the tuned vote; reading two wrong symbols at most");
-    println!("1.50 of clean reading, checking a proposal at most 1.00 of it; a bundle of 64 words at most 0.90 of 64");
-    println!("single arrivals.");
+    let mut missed = vec![];
+    for (above, table) in TABLES {
+        print!("{above}");
+        missed.extend(table());
+        println!();
+    }
+    println!("{TARGETS}");
     if missed.is_empty() {
         println!("Every target measured is met.");
     }

@@ -1,6 +1,6 @@
 //! A bundle of words in one call, against as many single arrivals of the library's own.
 
-use super::contest::{timed, times, Batch, Times};
+use super::contest::{heading, row, timed, times, Batch, Times};
 use super::words::Kind;
 use crate::capture::recording;
 use crate::ffi;
@@ -15,24 +15,10 @@ const TARGET: f64 = 0.9;
 
 /// Prints the table; gives the rows that miss their target.
 pub fn table() -> Vec<String> {
-    println!("| shape | 64 words | ns a word | one call / single arrivals |");
-    println!("|---|---|---:|---:|");
-    let mut missed = vec![];
-    for shape in [Shape::new(17, 4, 32), Shape::new(3, 2, 8)] {
-        for kind in Kind::ALL {
-            missed.extend(row(shape, kind));
-        }
-    }
-    missed
-}
-
-/// Prints a row; gives it if it misses its target.
-fn row(shape: Shape, kind: Kind) -> Option<String> {
-    let Times { ours, to_others } = delivering(shape, kind);
-    let Shape { q, n, b, .. } = shape;
-    let row = format!("| ({q}, {n}, {b}) | {} | {ours:.0} | {:.2} |", kind.name(), to_others[0]);
-    println!("{row}");
-    (to_others[0] > TARGET).then_some(row)
+    heading("64 words", &["one call / single arrivals"]);
+    let rows = [Shape::new(17, 4, 32), Shape::new(3, 2, 8)].into_iter();
+    let rows = rows.flat_map(|shape| Kind::ALL.map(|kind| (shape, kind)));
+    rows.filter_map(|(shape, kind)| row(shape, kind.name(), delivering(shape, kind), &[TARGET])).collect()
 }
 
 /// Session, words, scratch and outcomes.

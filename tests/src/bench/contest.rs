@@ -1,5 +1,6 @@
-//! Timing some ways of doing the same, in turns.
+//! Timing some ways of doing the same, in turns, and telling the times.
 
+use crate::reference::shape::Shape;
 use std::time::{Duration, Instant};
 
 pub const ROUNDS: usize = 31;
@@ -52,4 +53,20 @@ pub fn timed(work: impl FnOnce()) -> Duration {
     let start = Instant::now();
     work();
     start.elapsed()
+}
+
+/// Prints a table's first lines: what is done, and what the library's time is divided by.
+pub fn heading(work: &str, ratios: &[&str]) {
+    println!("| shape | {work} | ns a word | {} |", ratios.join(" | "));
+    println!("|---|---|---:|{}", "---:|".repeat(ratios.len()));
+}
+
+/// Prints a row; gives it if one of its ratios is above its target.
+pub fn row(shape: Shape, work: &str, times: Times, targets: &[f64]) -> Option<String> {
+    let (Shape { q, n, b, .. }, Times { ours, to_others }) = (shape, times);
+    let ratios: Vec<String> = to_others.iter().map(|ratio| format!("{ratio:.2}")).collect();
+    let row = format!("| ({q}, {n}, {b}) | {work} | {ours:.0} | {} |", ratios.join(" | "));
+    println!("{row}");
+    let missed = to_others.iter().zip(targets).any(|(ratio, target)| ratio > target);
+    missed.then_some(row)
 }

@@ -1,6 +1,6 @@
 //! Dead cells, against elimination as one would write it down first.
 
-use super::contest::{timed, times, Batch, Times};
+use super::contest::{heading, row, timed, times, Batch, Times};
 use super::words::batch_size;
 use crate::damage::list;
 use crate::ffi;
@@ -45,21 +45,12 @@ impl Named {
 
 /// Prints the table; gives the rows that miss their target.
 pub fn table() -> Vec<String> {
-    println!("| shape | dead cells | ns a word | ours / straightforward |");
-    println!("|---|---|---:|---:|");
+    heading("dead cells", &["ours / straightforward"]);
     let few = Shape::new(17, 4, 32);
     let many = Shape::new(31, 8, 32);
     let rows = [(few, Named::Few), (many, Named::Few), (many, Named::Half)];
-    rows.into_iter().filter_map(|(shape, named)| row(shape, named)).collect()
-}
-
-/// Prints a row; gives it if it misses its target.
-fn row(shape: Shape, named: Named) -> Option<String> {
-    let Times { ours, to_others } = filling(shape, named);
-    let Shape { q, n, b, .. } = shape;
-    let row = format!("| ({q}, {n}, {b}) | {} | {ours:.0} | {:.2} |", named.text(), to_others[0]);
-    println!("{row}");
-    (to_others[0] > named.target()).then_some(row)
+    let row = |(shape, named): (Shape, Named)| row(shape, named.text(), filling(shape, named), &[named.target()]);
+    rows.into_iter().filter_map(row).collect()
 }
 
 /// A list of places, and a codeword with wrong symbols at them.

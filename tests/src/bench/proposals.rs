@@ -1,6 +1,6 @@
 //! Checking proposals, against reading the received words.
 
-use super::contest::{timed, times, Batch, Times};
+use super::contest::{heading, row, timed, times, Batch, Times};
 use super::words::batch_size;
 use crate::damage::{damaged, unmasked};
 use crate::ffi;
@@ -13,20 +13,10 @@ const TARGET: f64 = 1.0;
 
 /// Prints the table; gives the row of the first shape if it misses its target.
 pub fn table() -> Vec<String> {
-    println!("| shape | proposals | ns a word | checked / read |");
-    println!("|---|---|---:|---:|");
+    heading("proposals", &["checked / read"]);
     let shapes = [Shape::new(17, 4, 32), Shape::new(3, 2, 8), Shape::new(31, 8, 32)];
-    let rows = shapes.map(row);
+    let rows = shapes.map(|shape| row(shape, "right ones for damaged words", checking(shape), &[TARGET]));
     rows.into_iter().take(1).flatten().collect()
-}
-
-/// Prints a row; gives it if it misses the target.
-fn row(shape: Shape) -> Option<String> {
-    let Times { ours, to_others } = checking(shape);
-    let Shape { q, n, b, .. } = shape;
-    let row = format!("| ({q}, {n}, {b}) | right ones for damaged words | {ours:.0} | {:.2} |", to_others[0]);
-    println!("{row}");
-    (to_others[0] > TARGET).then_some(row)
 }
 
 /// A damaged word, and the codeword that it was.

@@ -1,7 +1,7 @@
 //! Reading by vote, against a vote made fast by hand.
 
-use super::contest::{times, Times};
-use super::words::{batch_size, read_all, read_batch, Decode};
+use super::contest::{heading, row, Times};
+use super::words::{race, some_words};
 use crate::damage::{apply, make, Style};
 use crate::ffi;
 use crate::random::Random;
@@ -49,36 +49,17 @@ impl Kind {
 
 /// Prints the table; gives the rows that miss their target.
 pub fn table() -> Vec<String> {
-    println!("| shape | by vote | ns a word | ours / tuned vote |");
-    println!("|---|---|---:|---:|");
+    heading("by vote", &["ours / tuned vote"]);
     let shapes = [Shape::new(17, 4, 32), Shape::new(31, 8, 32)];
     let rows = shapes.into_iter().flat_map(|shape| Kind::ALL.map(|kind| (shape, kind)));
-    rows.filter_map(|(shape, kind)| row(shape, kind)).collect()
-}
-
-/// Prints a row; gives it if it misses its target.
-fn row(shape: Shape, kind: Kind) -> Option<String> {
-    let Times { ours, to_others } = voting(shape, kind);
-    let Shape { q, n, b, .. } = shape;
-    let row = format!("| ({q}, {n}, {b}) | {} | {ours:.0} | {:.2} |", kind.name(), to_others[0]);
-    println!("{row}");
-    (to_others[0] > TARGET).then_some(row)
+    rows.filter_map(|(shape, kind)| row(shape, kind.name(), voting(shape, kind), &[TARGET])).collect()
 }
 
 fn voting(shape: Shape, kind: Kind) -> Times {
-    let mut random = Random::new(1, "voting");
-    let mut words = vec![];
-    for _ in 0..batch_size(shape) {
-        let mut word = random.codeword(shape);
-        kind.damage(shape, &mut word, &mut random);
-        words.extend(word);
-    }
+    let words = some_words(shape, "voting", |word, random| kind.damage(shape, word, random));
     let shape = black_box(shape);
     let values = shape.values();
     let ours = |word: &mut [u32]| ffi::decode_majority(&values, word);
     let tuned = |word: &mut [u32]| vote::decode_majority(shape, word);
-    let readers: [Decode; 2] = [&ours, &tuned];
-    let results = readers.map(|decode| read_all(shape, decode, &mut words.clone()));
-    assert!(results[0] == results[1], "the two disagree");
-    times(words.len() / shape.word_len(), readers.map(|decode| read_batch(shape, decode, &words)))
+    race(shape, &words, [&ours, &tuned])
 }

@@ -1,6 +1,6 @@
 //! Reading, writing and arrivals.
 
-use super::contest::{timed, times, Batch, Times};
+use super::contest::{heading, row, timed, times, Batch, Times};
 use crate::capture::{page_numbers, recording};
 use crate::damage::{apply, damaged, make, unmasked, Style};
 use crate::ffi;
@@ -62,48 +62,24 @@ fn refused_error(shape: Shape, word: &[u32], random: &mut Random) -> Vec<(usize,
     }
 }
 
-/// Of the tuned counterpart's time, every row; of the straightforward reader's, every row of reading.
-const TUNED: f64 = 1.0;
-const STRAIGHTFORWARD: f64 = 0.5;
+/// Of the straightforward way's time and of the tuned counterpart's: of reading, and of all else.
+const READING: [f64; 2] = [0.5, 1.0];
+const OTHERS: [f64; 2] = [f64::INFINITY, 1.0];
 
 /// Prints the table; gives the rows that miss their target.
 pub fn table() -> Vec<String> {
-    println!("| shape | work | ns a word | ours / straightforward | ours / tuned |");
-    println!("|---|---|---:|---:|---:|");
+    heading("work", &["ours / straightforward", "ours / tuned"]);
     let mut missed = vec![];
     for shape in SHAPES {
         for kind in Kind::ALL {
-            let row = Row { shape, work: format!("read, {}", kind.name()), times: reading(shape, kind) };
-            missed.extend(row.judged(STRAIGHTFORWARD));
+            missed.extend(row(shape, &format!("read, {}", kind.name()), reading(shape, kind), &READING));
         }
-        missed.extend(Row { shape, work: "write".into(), times: writing(shape) }.judged(f64::INFINITY));
+        missed.extend(row(shape, "write", writing(shape), &OTHERS));
         for kind in Kind::ALL {
-            let row = Row { shape, work: format!("arrival, {}", kind.name()), times: arriving(shape, kind) };
-            missed.extend(row.judged(f64::INFINITY));
+            missed.extend(row(shape, &format!("arrival, {}", kind.name()), arriving(shape, kind), &OTHERS));
         }
     }
     missed
-}
-
-struct Row {
-    shape: Shape,
-    work: String,
-    times: Times,
-}
-
-impl Row {
-    fn text(&self) -> String {
-        let (Shape { q, n, b, .. }, Times { ours, to_others }) = (self.shape, &self.times);
-        let (to_straightforward, to_tuned) = (to_others[0], to_others[1]);
-        format!("| ({q}, {n}, {b}) | {} | {ours:.0} | {to_straightforward:.2} | {to_tuned:.2} |", self.work)
-    }
-
-    /// Prints it; gives it if it takes more than this part of the straightforward way, or more than the tuned one.
-    fn judged(&self, straightforward: f64) -> Option<String> {
-        println!("{}", self.text());
-        let met = self.times.to_others[0] <= straightforward && self.times.to_others[1] <= TUNED;
-        (!met).then(|| self.text())
-    }
 }
 
 /// As many words as stay in a processor's own cache.
@@ -112,29 +88,39 @@ pub(super) fn batch_size(shape: Shape) -> usize {
 }
 
 /// A reader for one shape.
-pub(super) type Decode<'a> = &'a dyn Fn(&mut [u32]) -> u32;
+type Decode<'a> = &'a dyn Fn(&mut [u32]) -> u32;
 
 fn reading(shape: Shape, kind: Kind) -> Times {
-    let mut random = Random::new(1, "reading");
-    let mut words = vec![];
-    for _ in 0..batch_size(shape) {
-        let mut word = random.codeword(shape);
-        kind.damage(shape, &mut word, &mut random);
-        words.extend(word);
-    }
+    let words = some_words(shape, "reading", |word, random| kind.damage(shape, word, random));
     let shape = black_box(shape);
     let values = shape.values();
     let ours = |word: &mut [u32]| ffi::decode(&values, word);
     let plain = |word: &mut [u32]| straightforward::decode(shape, word);
     let tuned = |word: &mut [u32]| tuned::decode(shape, word);
-    let readers: [Decode; 3] = [&ours, &plain, &tuned];
-    let results = readers.map(|decode| read_all(shape, decode, &mut words.clone()));
-    assert!(results[0] == results[1] && results[0] == results[2], "the readers disagree");
-    times(words.len() / shape.word_len(), readers.map(|decode| read_batch(shape, decode, &words)))
+    race(shape, &words, [&ours, &plain, &tuned])
+}
+
+/// The words of a batch, one behind the other: codewords that are then damaged.
+pub(super) fn some_words(shape: Shape, name: &str, damage: impl Fn(&mut [u32], &mut Random)) -> Vec<u32> {
+    let mut random = Random::new(1, name);
+    let mut words = vec![];
+    for _ in 0..batch_size(shape) {
+        let mut word = random.codeword(shape);
+        damage(&mut word, &mut random);
+        words.extend(word);
+    }
+    words
+}
+
+/// Times the readers, who must agree.
+pub(super) fn race<const C: usize>(shape: Shape, words: &[u32], readers: [Decode; C]) -> Times {
+    let results = readers.map(|decode| read_all(shape, decode, &mut words.to_vec()));
+    assert!(results.iter().all(|result| *result == results[0]), "the readers disagree");
+    times(words.len() / shape.word_len(), readers.map(|decode| read_batch(shape, decode, words)))
 }
 
 /// A reader's work on a copy of the words.
-pub(super) fn read_batch<'a>(shape: Shape, decode: Decode<'a>, words: &'a [u32]) -> Batch<'a> {
+fn read_batch<'a>(shape: Shape, decode: Decode<'a>, words: &'a [u32]) -> Batch<'a> {
     let mut work = words.to_vec();
     Box::new(move || {
         work.copy_from_slice(words);
@@ -147,7 +133,7 @@ pub(super) fn read_batch<'a>(shape: Shape, decode: Decode<'a>, words: &'a [u32])
 }
 
 /// Each answer, and the words as left.
-pub(super) fn read_all(shape: Shape, decode: Decode, words: &mut [u32]) -> (Vec<u32>, Vec<u32>) {
+fn read_all(shape: Shape, decode: Decode, words: &mut [u32]) -> (Vec<u32>, Vec<u32>) {
     let answers = words.chunks_exact_mut(shape.word_len()).map(decode).collect();
     (answers, words.to_vec())
 }
