@@ -209,29 +209,28 @@ fn fresh(shape: Shape, session: &mut [u32]) -> Result<u32, Refusal> {
     Ok(0)
 }
 
+/// The session that is lent, if its length is right.
+fn lent_session(session: &[u32]) -> Result<Session, Refusal> {
+    match session.len() {
+        SESSION_LEN => Ok(Session::from_values(session)),
+        _ => Err(Refusal::Length),
+    }
+}
+
 /// A refusal is 2^32 plus its number.
 fn count(session: &[u32], function: u32) -> u64 {
-    let result = match session.len() {
-        SESSION_LEN => Session::from_values(session).count(function),
-        _ => Err(Refusal::Length),
-    };
+    let result = lent_session(session).and_then(|session| session.count(function));
     result.map_or_else(|refusal| (1 << 32) + u64::from(refusal.number()), u64::from)
 }
 
 /// A refusal is 2^63 plus its number.
 fn bill_answer(session: &[u32], prices: &[u32]) -> u64 {
-    let result = match session.len() {
-        SESSION_LEN => bill(&Session::from_values(session), prices),
-        _ => Err(Refusal::Length),
-    };
+    let result = lent_session(session).and_then(|session| bill(&session, prices));
     result.unwrap_or_else(|refusal| (1 << 63) + u64::from(refusal.number()))
 }
 
 fn cover_answer(session: &[u32], bytes: &mut [u32]) -> Result<u32, Refusal> {
-    match session.len() {
-        SESSION_LEN => cover(&Session::from_values(session), bytes),
-        _ => Err(Refusal::Length),
-    }
+    cover(&lent_session(session)?, bytes)
 }
 
 /// The session is written back only after a page was taken.
@@ -242,10 +241,10 @@ fn arrive(
     scratch: &mut [u32],
     outcome: &mut [u32],
 ) -> Result<u32, Refusal> {
-    if session.len() != SESSION_LEN || outcome.len() != 3 {
+    let mut state = lent_session(session)?;
+    if outcome.len() != 3 {
         return Err(Refusal::Length);
     }
-    let mut state = Session::from_values(session);
     let answer = state.arrive(way, word, scratch);
     outcome.copy_from_slice(&answer.values());
     if let Outcome::Taken { .. } = answer {
@@ -262,10 +261,7 @@ fn batch(
     scratch: &mut [u32],
     outcomes: &mut [u32],
 ) -> Result<u32, Refusal> {
-    if session.len() != SESSION_LEN {
-        return Err(Refusal::Length);
-    }
-    let mut state = Session::from_values(session);
+    let mut state = lent_session(session)?;
     let before = state.figures;
     state.arrive_all(way, words, scratch, outcomes)?;
     if state.figures != before {

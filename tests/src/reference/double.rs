@@ -53,12 +53,7 @@ pub fn decode_two(shape: Shape, word: &mut [u32]) -> Result<u32, Refusal> {
     if shape.n < 3 {
         return Err(Refusal::Directions);
     }
-    if word.len() != shape.word_len() {
-        return Err(Refusal::Length);
-    }
-    if !shape.all_fit(word) {
-        return Err(Refusal::Width);
-    }
+    shape.judge_symbols(word, shape.word_len())?;
     let error = error_of_two(shape, word).ok_or(Refusal::NoPair)?;
     error.iter().for_each(|&(j, symbol)| word[j] ^= symbol);
     Ok(error.len() as u32)

@@ -17,12 +17,7 @@ pub struct Head {
 
 pub fn read_page(shape: Shape, data: &[u32]) -> Result<Head, Refusal> {
     shape.judge()?;
-    if data.len() != shape.data_len() {
-        return Err(Refusal::Length);
-    }
-    if !shape.all_fit(data) {
-        return Err(Refusal::Width);
-    }
+    shape.judge_symbols(data, shape.data_len())?;
     let (page, count) = (data[0], data[1]);
     if page as usize >= PAGES {
         return Err(Refusal::Page);

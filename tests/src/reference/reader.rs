@@ -51,12 +51,7 @@ pub fn looked(shape: Shape, word: &[u32], list: &mut [u32]) -> Result<(), Refusa
 /// Restores the word and gives the number of symbols changed.
 pub fn decode(shape: Shape, word: &mut [u32]) -> Result<u32, Refusal> {
     shape.judge()?;
-    if word.len() != shape.word_len() {
-        return Err(Refusal::Length);
-    }
-    if !shape.all_fit(word) {
-        return Err(Refusal::Width);
-    }
+    shape.judge_symbols(word, shape.word_len())?;
     let error = error_of(shape, word).ok_or(Refusal::Uncorrectable)?;
     word.copy_from_slice(&xor(word, &error));
     Ok(weight(&error) as u32)

@@ -159,6 +159,17 @@ impl Shape {
     pub fn all_fit(self, symbols: &[u32]) -> bool {
         symbols.iter().all(|&symbol| self.fits(symbol))
     }
+
+    /// Tests 2 and 3 of symbols that have to be so many.
+    pub fn judge_symbols(self, symbols: &[u32], length: usize) -> Result<(), Refusal> {
+        if symbols.len() != length {
+            Err(Refusal::Length)
+        } else if !self.all_fit(symbols) {
+            Err(Refusal::Width)
+        } else {
+            Ok(())
+        }
+    }
 }
 
 /// Every lawful (q, n).

@@ -19,12 +19,7 @@ fn votes(shape: Shape, received: &[u32]) -> Vec<u32> {
 /// Changes the word to the codeword that differs in at most n/2 symbols, and gives the number of symbols changed.
 pub fn decode_majority(shape: Shape, word: &mut [u32]) -> Result<u32, Refusal> {
     shape.judge()?;
-    if word.len() != shape.word_len() {
-        return Err(Refusal::Length);
-    }
-    if !shape.all_fit(word) {
-        return Err(Refusal::Width);
-    }
+    shape.judge_symbols(word, shape.word_len())?;
     let changes = votes(shape, word);
     let changed = xor(word, &changes);
     if weight(&changes) > shape.most_votes() || !is_codeword(shape, &changed) {
