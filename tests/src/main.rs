@@ -4,13 +4,13 @@
 //! where ALLOW_SKIP=1. Built with the feature `reference-only`, the library's tests are left out, and
 //! the program's are run only where TALLY is set.
 
-use shaftglimmer_tests::call::Call;
+use shaftglimmer_tests::call::{Call, Make};
 use shaftglimmer_tests::groups::{
     batches, coverage, double, energy, erasures, figures, idle, looked, person, proposals, reference, slopes, stream,
     text, vectors, vote, ways,
 };
 use shaftglimmer_tests::process::Program;
-use shaftglimmer_tests::report::Report;
+use shaftglimmer_tests::report::{Group, Report};
 use std::env;
 use std::process::ExitCode;
 use std::time::{SystemTime, UNIX_EPOCH};
@@ -19,19 +19,7 @@ fn main() -> ExitCode {
     let seed = seed();
     println!("seed {seed}");
     let mut report = Report::new(seed);
-    report.run(vectors::group("bench values of the reference", Call::on_reference));
-    report.run(slopes::group("slopes of the reference", Call::on_reference));
-    report.run(figures::group("figures of the reference", Call::on_reference));
-    report.run(idle::group("idle marks of the reference", Call::on_reference));
-    report.run(energy::group("bills of the reference", Call::on_reference));
-    report.run(coverage::group("coverage of the reference", Call::on_reference));
-    report.run(erasures::group("dead cells of the reference", Call::on_reference));
-    report.run(looked::group("checks looked at, of the reference", Call::on_reference));
-    report.run(vote::group("votes of the reference", Call::on_reference));
-    report.run(ways::group("ways of the reference", Call::on_reference));
-    report.run(double::group("two wrong symbols of the reference", Call::on_reference));
-    report.run(batches::group("bundles of the reference", Call::on_reference));
-    report.run(proposals::group("proposals of the reference", Call::on_reference));
+    of_both(&mut report, "reference", Call::on_reference);
     report.run(reference::group());
     library(&mut report);
     program(&mut report);
@@ -39,6 +27,32 @@ fn main() -> ExitCode {
         ExitCode::SUCCESS
     } else {
         ExitCode::FAILURE
+    }
+}
+
+/// A group by its name and by whichever makes its calls.
+type Grouped = fn(String, Make) -> Group;
+
+/// The groups whose calls the reference makes as well as the library.
+const OF_BOTH: [(&str, Grouped); 13] = [
+    ("bench values", vectors::group),
+    ("slopes", slopes::group),
+    ("figures", figures::group),
+    ("idle marks", idle::group),
+    ("bills", energy::group),
+    ("coverage", coverage::group),
+    ("dead cells", erasures::group),
+    ("checks looked at,", looked::group),
+    ("votes", vote::group),
+    ("ways", ways::group),
+    ("two wrong symbols", double::group),
+    ("bundles", batches::group),
+    ("proposals", proposals::group),
+];
+
+fn of_both(report: &mut Report, maker: &str, make: Make) {
+    for (name, group) in OF_BOTH {
+        report.run(group(format!("{name} of the {maker}"), make));
     }
 }
 
@@ -52,19 +66,7 @@ fn seed() -> u64 {
 #[cfg(not(feature = "reference-only"))]
 fn library(report: &mut Report) {
     use shaftglimmer_tests::groups::{codec, pages, refusals, sessions, words};
-    report.run(vectors::group("bench values of the library", Call::on_library));
-    report.run(slopes::group("slopes of the library", Call::on_library));
-    report.run(figures::group("figures of the library", Call::on_library));
-    report.run(idle::group("idle marks of the library", Call::on_library));
-    report.run(energy::group("bills of the library", Call::on_library));
-    report.run(coverage::group("coverage of the library", Call::on_library));
-    report.run(erasures::group("dead cells of the library", Call::on_library));
-    report.run(looked::group("checks looked at, of the library", Call::on_library));
-    report.run(vote::group("votes of the library", Call::on_library));
-    report.run(ways::group("ways of the library", Call::on_library));
-    report.run(double::group("two wrong symbols of the library", Call::on_library));
-    report.run(batches::group("bundles of the library", Call::on_library));
-    report.run(proposals::group("proposals of the library", Call::on_library));
+    of_both(report, "library", Call::on_library);
     report.run(codec::group());
     report.run(words::group());
     report.run(refusals::group());

@@ -2,12 +2,14 @@
 
 use crate::terminal::Terminal;
 use std::ffi::OsStr;
+use std::fmt::Display;
 use std::fs::{self, File, Permissions};
 use std::io::Write;
 use std::os::unix::fs::PermissionsExt;
 use std::path::{Path, PathBuf};
-use std::process::{Child, Command, Stdio};
+use std::process::{Child, ChildStdin, Command, Stdio};
 use std::sync::atomic::{AtomicUsize, Ordering};
+use std::thread::ScopedJoinHandle;
 use std::time::Duration;
 use std::{env, process, thread};
 
@@ -41,20 +43,10 @@ impl Program {
         pieces: impl Iterator<Item = &'a [u8]> + Send,
         pause: Duration,
     ) -> Result<Vec<u8>, String> {
-        let mut child = self.start(Stdio::piped())?;
-        let mut input = child.stdin.take().ok_or("no pipe")?;
+        let mut child = self.start(&mut self.command())?;
+        let pipe = child.stdin.take().ok_or("no pipe")?;
         thread::scope(|scope| {
-            scope.spawn(move || {
-                for piece in pieces {
-                    // After a fault in lines 1 to 3 the program may end without reading on.
-                    if input.write_all(piece).is_err() {
-                        break;
-                    }
-                    if !pause.is_zero() {
-                        thread::sleep(pause);
-                    }
-                }
-            });
+            scope.spawn(move || feed(pipe, pieces, pause));
             finish(child)
         })
     }
@@ -62,16 +54,15 @@ impl Program {
     /// The same from a file, so that every read but the last gets as much as it asks for.
     pub fn run_file(&self, input: &[u8]) -> Result<Vec<u8>, String> {
         let file = TemporaryFile::new(input)?;
-        finish(self.start(Stdio::from(file.open()?))?)
+        finish(self.start(self.command().stdin(file.open()?))?)
     }
 
     /// Runs on an open file and throws the output away.
     pub fn run_silently(&self, input: File) -> Result<(), String> {
-        let status = Command::new(&self.0).stdin(input).stdout(Stdio::null()).status();
-        match status {
-            Ok(status) if status.success() => Ok(()),
-            Ok(status) => Err(format!("{}: {status}", self.0.display())),
-            Err(error) => Err(format!("{}: {error}", self.0.display())),
+        let status = Command::new(&self.0).stdin(input).stdout(Stdio::null()).status().map_err(about(&self.0))?;
+        match status.success() {
+            true => Ok(()),
+            false => Err(about(&self.0)(status)),
         }
     }
 
@@ -87,14 +78,13 @@ impl Program {
         input: &[u8],
         prepare: impl FnOnce(&mut Command),
     ) -> Result<Written, String> {
-        let mut command = Command::new(&self.0);
-        command.args(arguments).stdin(Stdio::piped()).stdout(Stdio::piped()).stderr(Stdio::piped());
+        let mut command = self.command();
+        command.args(arguments);
         prepare(&mut command);
-        let mut child = command.spawn().map_err(|error| format!("{}: {error}", self.0.display()))?;
+        let mut child = self.start(&mut command)?;
         let pipe = child.stdin.take();
         thread::scope(|scope| {
-            // A program that is refused its arguments reads nothing.
-            scope.spawn(move || pipe.map(|mut pipe| pipe.write_all(input)));
+            scope.spawn(move || pipe.map(|pipe| feed(pipe, [input].into_iter(), Duration::ZERO)));
             let output = child.wait_with_output().map_err(|error| error.to_string())?;
             match output.status.success() {
                 true => Ok(Written { output: output.stdout, error: output.stderr }),
@@ -112,10 +102,8 @@ impl Program {
         output: bool,
         error: bool,
     ) -> Result<Written, String> {
-        let mut command = Command::new(&self.0);
-        command.stdin(Stdio::piped()).stdout(Stdio::piped()).stderr(Stdio::piped());
-        let terminals = [output, error].map(|wanted| wanted.then(Terminal::open));
-        let [output, error] = terminals.map(Option::transpose);
+        let mut command = self.command();
+        let [output, error] = [output, error].map(|wanted| wanted.then(Terminal::open).transpose());
         let (output, error) = (output?, error?);
         if let Some(terminal) = &output {
             command.stdout(terminal.program_side()?);
@@ -123,44 +111,62 @@ impl Program {
         if let Some(terminal) = &error {
             command.stderr(terminal.program_side()?);
         }
-        let mut child = command.spawn().map_err(|error| format!("{}: {error}", self.0.display()))?;
+        let mut child = self.start(&mut command)?;
         // It holds the program's sides open.
         drop(command);
-        let mut pipe = child.stdin.take().ok_or("no pipe")?;
+        let pipe = child.stdin.take().ok_or("no pipe")?;
         thread::scope(|scope| {
-            scope.spawn(move || {
-                for piece in pieces {
-                    if pipe.write_all(piece).is_err() {
-                        break;
-                    }
-                    thread::sleep(pause);
-                }
-            });
-            let output = output.map(|terminal| scope.spawn(move || terminal.read_all()));
-            let error = error.map(|terminal| scope.spawn(move || terminal.read_all()));
+            scope.spawn(move || feed(pipe, pieces, pause));
+            let reading = |terminal: Terminal| scope.spawn(move || terminal.read_all());
+            let [output, error] = [output, error].map(|terminal| terminal.map(reading));
             let written = child.wait_with_output().map_err(|error| error.to_string())?;
-            let shown = |reader: Option<thread::ScopedJoinHandle<Result<Vec<u8>, String>>>, piped: Vec<u8>| match reader
-            {
-                Some(reader) => reader.join().map_err(|_| "the terminal's reader panicked".to_string())?,
-                None => Ok(piped),
-            };
             Ok(Written { output: shown(output, written.stdout)?, error: shown(error, written.stderr)? })
         })
     }
 
     /// A copy that every user may start.
     pub fn copied(&self) -> Result<(TemporaryFile, Program), String> {
-        let content = fs::read(&self.0).map_err(|error| format!("{}: {error}", self.0.display()))?;
+        let content = fs::read(&self.0).map_err(about(&self.0))?;
         let file = TemporaryFile::new(&content)?;
         file.set_mode(0o755)?;
         let program = Program(file.0.clone());
         Ok((file, program))
     }
 
-    fn start(&self, input: Stdio) -> Result<Child, String> {
+    /// With a pipe for its input and for each output.
+    fn command(&self) -> Command {
         let mut command = Command::new(&self.0);
-        let started = command.stdin(input).stdout(Stdio::piped()).stderr(Stdio::piped()).spawn();
-        started.map_err(|error| format!("{}: {error}", self.0.display()))
+        command.stdin(Stdio::piped()).stdout(Stdio::piped()).stderr(Stdio::piped());
+        command
+    }
+
+    fn start(&self, command: &mut Command) -> Result<Child, String> {
+        command.spawn().map_err(about(&self.0))
+    }
+}
+
+/// A complaint about a file.
+fn about<E: Display>(path: &Path) -> impl Fn(E) -> String + '_ {
+    move |error| format!("{}: {error}", path.display())
+}
+
+/// Writes the pieces with a pause after each. After a fault the program may end without reading on.
+fn feed<'a>(mut pipe: ChildStdin, pieces: impl Iterator<Item = &'a [u8]>, pause: Duration) {
+    for piece in pieces {
+        if pipe.write_all(piece).is_err() {
+            break;
+        }
+        if !pause.is_zero() {
+            thread::sleep(pause);
+        }
+    }
+}
+
+/// What was written to a terminal, or to the pipe in its place.
+fn shown(terminal: Option<ScopedJoinHandle<Result<Vec<u8>, String>>>, piped: Vec<u8>) -> Result<Vec<u8>, String> {
+    match terminal {
+        Some(reading) => reading.join().map_err(|_| "the terminal's reader panicked".to_string())?,
+        None => Ok(piped),
     }
 }
 
@@ -182,7 +188,7 @@ impl TemporaryFile {
         static NEXT: AtomicUsize = AtomicUsize::new(0);
         let number = NEXT.fetch_add(1, Ordering::Relaxed);
         let path = env::temp_dir().join(format!("shaftglimmer-{}-{number}", process::id()));
-        fs::write(&path, content).map_err(|error| format!("{}: {error}", path.display()))?;
+        fs::write(&path, content).map_err(about(&path))?;
         Ok(TemporaryFile(path))
     }
 
@@ -191,12 +197,11 @@ impl TemporaryFile {
     }
 
     pub fn set_mode(&self, mode: u32) -> Result<(), String> {
-        let set = fs::set_permissions(&self.0, Permissions::from_mode(mode));
-        set.map_err(|error| format!("{}: {error}", self.0.display()))
+        fs::set_permissions(&self.0, Permissions::from_mode(mode)).map_err(about(&self.0))
     }
 
     pub fn open(&self) -> Result<File, String> {
-        File::open(&self.0).map_err(|error| format!("{}: {error}", self.0.display()))
+        File::open(&self.0).map_err(about(&self.0))
     }
 }
 

@@ -24,14 +24,14 @@ pub enum Unit {
 }
 
 pub struct Group {
-    name: &'static str,
+    name: String,
     unit: Unit,
     tests: Vec<(String, Body)>,
 }
 
 impl Group {
-    pub fn new(name: &'static str, unit: Unit) -> Group {
-        Group { name, unit, tests: vec![] }
+    pub fn new(name: impl Into<String>, unit: Unit) -> Group {
+        Group { name: name.into(), unit, tests: vec![] }
     }
 
     pub fn test(&mut self, name: impl Into<String>, body: impl Fn(&mut Random) -> Verdict + Send + Sync + 'static) {

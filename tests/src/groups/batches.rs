@@ -18,7 +18,7 @@ use crate::report::{Group, Unit, Verdict};
 const WIDTHS: Widths = |_, random| vec![random.pick(&[1, 3, 8]), random.pick(&[11, 31, 32])];
 
 /// The group for whichever makes the calls.
-pub fn group(name: &'static str, make: Make) -> Group {
+pub fn group(name: String, make: Make) -> Group {
     let mut group = Group::new(name, Unit::Calls);
     let mut shapes = Shapes::new(&mut group, make, WIDTHS);
     let mut test = |name: &str, body: fn(Make, Shape, u32, &mut Random) -> Verdict| {

@@ -17,7 +17,7 @@ use std::collections::BTreeSet;
 const COUNTS: [u32; 9] = [1, 2, 3, 255, 256, 1 << 16, 1 << 31, 0xffff_ff00, u32::MAX];
 
 /// The group for whichever makes the calls.
-pub fn group(name: &'static str, make: Make) -> Group {
+pub fn group(name: String, make: Make) -> Group {
     let mut group = Group::new(name, Unit::Calls);
     let mut shapes = Shapes::new(&mut group, make, ONE_WIDTH);
     shapes.test("single functions, (q, n)", single_functions);

@@ -13,7 +13,7 @@ use crate::reference::square::positions_on;
 use crate::report::{Group, Unit, Verdict};
 
 /// The group for whichever makes the calls.
-pub fn group(name: &'static str, make: Make) -> Group {
+pub fn group(name: String, make: Make) -> Group {
     let mut group = Group::new(name, Unit::Words);
     let mut two = Shapes::new(&mut group, make, WIDTHS).only(|_, n| n == 2);
     two.test("two directions, (q, n)", two_directions);

@@ -52,7 +52,7 @@ const SUMS: [u128; 28] = [
 ];
 
 /// The group for whichever makes the calls.
-pub fn group(name: &'static str, make: Make) -> Group {
+pub fn group(name: String, make: Make) -> Group {
     let mut group = Group::new(name, Unit::Calls);
     let mut shapes = Shapes::new(&mut group, make, ONE_WIDTH);
     shapes.test("sums, (q, n)", sums);

@@ -22,7 +22,7 @@ use cases::{
 use faults::{lengths, refused_lists, several_faults, widths};
 
 /// The group for whichever makes the calls.
-pub fn group(name: &'static str, make: Make) -> Group {
+pub fn group(name: String, make: Make) -> Group {
     let mut group = Group::new(name, Unit::Calls);
     let mut shapes = Shapes::new(&mut group, make, WIDTHS);
     shapes.test("few places, (q, n)", few_places);

@@ -1,5 +1,15 @@
 //! Malformed text with the numbers that the rules gives it, for a capture of shape (3, 2, 8).
 
+use crate::reference::shape::Shape;
+
+pub const SHAPE: Shape = Shape::new(3, 2, 8);
+
+/// The rules' capture, and what the program prints for it.
+pub const EXAMPLE: (&str, &str) = (
+    "q n b\n3 2 8\nword\n5 2 7 3 1 2 6 3 5\n12 2 7 3 1 2 6 3 5\n1 0 0 0 1 0 0 0 0\n",
+    "outcome page fixed\ntaken 1 0\nagain 1 1\nrefused 4 0\nfunction calls\n3 1\n5 1\n",
+);
+
 /// A page's word line.
 pub const GOOD: &str = "5 2 7 3 1 2 6 3 5";
 

@@ -23,7 +23,7 @@ use crate::report::{Group, Unit, Verdict};
 const ANY_WIDTH: Widths = |_, random| vec![random.pick(&[1, 2, 8, 10, 11, 31, 32])];
 
 /// The group for whichever makes the calls.
-pub fn group(name: &'static str, make: Make) -> Group {
+pub fn group(name: String, make: Make) -> Group {
     let mut group = Group::new(name, Unit::Calls);
     group.test_each("that disagree, (q, n)", move |q, n, random| disagreeing(make, q, n, random));
     Shapes::new(&mut group, make, ANY_WIDTH).test("with another fault, (q, n)", with_another_fault);

@@ -30,7 +30,7 @@ pub const CAPTURES: [(&str, &str); 5] = [
 const WIDTHS: Widths = |_, random| vec![random.pick(&[1, 2]), random.pick(&[8, 9, 10, 11]), random.pick(&[31, 32])];
 
 /// The group for whichever makes the calls, of all shapes whose pages have marks.
-pub fn group(name: &'static str, make: Make) -> Group {
+pub fn group(name: String, make: Make) -> Group {
     let mut group = Group::new(name, Unit::Calls);
     let mut shapes = Shapes::new(&mut group, make, WIDTHS).only(|q, n| Shape::new(q, n, 1).most_marks() > 0);
     shapes.test("among others, (q, n)", among_others);

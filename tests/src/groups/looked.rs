@@ -15,7 +15,7 @@ use crate::report::{Group, Unit, Verdict};
 const WIDTHS: Widths = |q, _| repeated(&[1, 8, 11, 32], (900 / (q * q)).clamp(3, 20));
 
 /// The group for whichever makes the calls.
-pub fn group(name: &'static str, make: Make) -> Group {
+pub fn group(name: String, make: Make) -> Group {
     let mut group = Group::new(name, Unit::Calls);
     let mut shapes = Shapes::new(&mut group, make, WIDTHS);
     shapes.test("codewords, (q, n)", codewords);

@@ -1,6 +1,6 @@
 //! The linked program in a person's hands: its arguments, and what it says on standard error.
 
-use super::faults::{first_lines, second_lines};
+use super::faults::{first_lines, second_lines, SHAPE};
 use super::text::compare;
 use crate::capture::{heading, recording, text, word_lines};
 use crate::process::{Program, TemporaryFile, Written};
@@ -23,17 +23,12 @@ extern "C" {
 /// A capture of one page.
 const CAPTURE: &str = "q n b\n3 2 8\nword\n5 2 7 3 1 2 6 3 5\n";
 
-const SHAPE: Shape = Shape::new(3, 2, 8);
-
 /// A line of the terminal emptied.
 const CLEAR: &str = "\r\x1b[K";
 
 pub fn group(program: &Program) -> Group {
     let mut group = Group::new("program, arguments and terminals", Unit::Captures);
-    let mut test = |name: &str, body: fn(&Program, &mut Random) -> Verdict| {
-        let program = program.clone();
-        group.test(name, move |random| body(&program, random));
-    };
+    let mut test = |name: &str, body: fn(&Program, &mut Random) -> Verdict| group.test_program(name, program, body);
     test("a file gives what standard input gives", files);
     test("a dash is standard input", dash);
     test("help", |program, _| help(program));
@@ -61,6 +56,11 @@ fn expect_refusal(written: &Written, name: &str, reason: &str) -> Result<(), Str
     } else {
         Ok(())
     }
+}
+
+/// The same of a run with this argument.
+fn expect_refused(program: &Program, name: &str, reason: &str) -> Result<(), String> {
+    expect_refusal(&program.run_arguments(&[OsStr::new(name)], CAPTURE.as_bytes())?, name, reason)
 }
 
 fn expect_tally(input: &[u8], written: &Written) -> Result<(), String> {
@@ -132,8 +132,7 @@ fn several(program: &Program) -> Verdict {
 fn options(program: &Program) -> Verdict {
     let options = ["-x", "--", "---", "-help", "--hel", "--helpp", "-H", "-h ", "--help=1", "--version", "-1"];
     for option in options {
-        let written = program.run_arguments(&[OsStr::new(option)], CAPTURE.as_bytes())?;
-        expect_refusal(&written, option, "no such option")?;
+        expect_refused(program, option, "no such option")?;
     }
     Ok(options.len() as u64)
 }
@@ -153,7 +152,7 @@ fn unopened(program: &Program) -> Verdict {
         (&"y".repeat(4_096), "File name too long"),
     ];
     for (name, reason) in cases {
-        expect_refusal(&program.run_arguments(&[OsStr::new(name)], CAPTURE.as_bytes())?, name, reason)?;
+        expect_refused(program, name, reason)?;
     }
     // Longer than any name: its beginning is named.
     let written = program.run_arguments(&[OsStr::new(&"y".repeat(4_097))], CAPTURE.as_bytes())?;
@@ -165,7 +164,7 @@ fn unopened(program: &Program) -> Verdict {
 fn unread(program: &Program) -> Verdict {
     let folder = env::temp_dir().to_string_lossy().into_owned();
     for (name, reason) in [(folder.as_str(), "Is a directory"), ("/proc/self/mem", "Input/output error")] {
-        expect_refusal(&program.run_arguments(&[OsStr::new(name)], CAPTURE.as_bytes())?, name, reason)?;
+        expect_refused(program, name, reason)?;
         let file = File::open(name).map_err(|error| format!("{name}: {error}"))?;
         let written = program.run_command(&[], b"", |command| {
             command.stdin(file);
@@ -231,6 +230,18 @@ fn shown(error: &[u8]) -> Result<(Vec<String>, String), String> {
     Ok((parts, last))
 }
 
+/// The progress lines of a run with this input. Output and summary must be right.
+fn progress_of(input: &[u8], written: &Written) -> Result<Vec<String>, String> {
+    expect_tally(input, &Written { output: written.output.clone(), error: vec![] })?;
+    let (lines, last) = shown(&written.error)?;
+    let summary = summary_of(&written.output);
+    if last == summary {
+        Ok(lines)
+    } else {
+        Err(format!("at the end it says {last:?}, expected {summary:?}"))
+    }
+}
+
 /// After each line of a capture: the bytes so far, the pages taken and the lowest that is missing.
 fn states(input: &[u8]) -> Vec<(usize, usize, usize)> {
     let output = tally(input);
@@ -278,17 +289,13 @@ fn progress(program: &Program, random: &mut Random) -> Verdict {
     let pieces = input.chunks(input.len().div_ceil(30));
     let written = program.run_watched(pieces, Duration::from_millis(100), false, true)?;
     let seconds = start.elapsed().as_secs() as usize + 1;
-    expect_tally(&input, &Written { output: written.output.clone(), error: vec![] })?;
-    let (lines, last) = shown(&written.error)?;
+    let lines = progress_of(&input, &written)?;
     if lines.len() < 2 || lines.len() > 4 * seconds {
         return Err(format!("{} progress lines in {seconds} seconds", lines.len()));
     }
     let states = states(&input);
     if let Some(line) = lines.iter().find(|line| !is_right(line, &states)) {
         return Err(format!("a progress line that is right at no time: {line:?}"));
-    }
-    if last != summary_of(&written.output) {
-        return Err(format!("at the end it says {last:?}, expected {:?}", summary_of(&written.output)));
     }
     Ok(1)
 }
@@ -300,13 +307,9 @@ fn summary(program: &Program, random: &mut Random) -> Verdict {
         for terminal in [true, false] {
             let pieces = input.chunks(input.len().div_ceil(3).max(1));
             let written = program.run_watched(pieces, Duration::ZERO, terminal, true)?;
-            expect_tally(input, &Written { output: written.output.clone(), error: vec![] })?;
-            let (lines, last) = shown(&written.error)?;
+            let lines = progress_of(input, &written)?;
             if terminal && !lines.is_empty() {
                 return Err(format!("progress where both are terminals: {lines:?}"));
-            }
-            if last != summary_of(&written.output) {
-                return Err(format!("at the end it says {last:?}, expected {:?}", summary_of(&written.output)));
             }
         }
     }

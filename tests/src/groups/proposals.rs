@@ -16,7 +16,7 @@ use crate::reference::square::is_unmasked;
 use crate::report::{Group, Unit, Verdict};
 
 /// The group for whichever makes the calls.
-pub fn group(name: &'static str, make: Make) -> Group {
+pub fn group(name: String, make: Make) -> Group {
     let mut group = Group::new(name, Unit::Calls);
     let mut shapes = Shapes::new(&mut group, make, |_, _| vec![1, 8, 11, 31, 32]);
     shapes.test("right ones, (q, n)", right);

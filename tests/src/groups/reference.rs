@@ -1,5 +1,6 @@
 //! The reference against the rules' own statements, and its reader against trying everything.
 
+use super::faults::{EXAMPLE, SHAPE};
 use super::idle::CAPTURES;
 use crate::capture::heading;
 use crate::damage::{damaged, list, make, unmasked, Style, STYLES};
@@ -145,15 +146,14 @@ fn sampled(shape: Shape, random: &mut Random) -> Verdict {
 }
 
 fn example() -> Verdict {
-    let input = "q n b\n3 2 8\nword\n5 2 7 3 1 2 6 3 5\n12 2 7 3 1 2 6 3 5\n1 0 0 0 1 0 0 0 0\n";
-    let output = "outcome page fixed\ntaken 1 0\nagain 1 1\nrefused 4 0\nfunction calls\n3 1\n5 1\n";
+    let (input, output) = EXAMPLE;
     require(tally(input.as_bytes()) == output.as_bytes(), "the rules' output")?;
     Ok(1)
 }
 
 fn idle_captures() -> Verdict {
     for (words, below) in CAPTURES {
-        let input = heading(Shape::new(3, 2, 8)) + words;
+        let input = heading(SHAPE) + words;
         let output = format!("outcome page fixed\n{below}");
         require(tally(input.as_bytes()) == output.as_bytes(), &format!("{words:?} has {below:?}"))?;
     }

@@ -9,7 +9,7 @@ use crate::reference::shape::{Refusal, Shape, SHAPE_LEN, SLOPES};
 use crate::report::{Group, Unit, Verdict};
 
 /// The group for whichever makes the calls.
-pub fn group(name: &'static str, make: Make) -> Group {
+pub fn group(name: String, make: Make) -> Group {
     let mut group = Group::new(name, Unit::Calls);
     let mut test = |name: &str, body: fn(Make, Shape, Entry, &mut Random) -> Verdict| {
         group.test_each(name, move |q, n, random| of_each_entry(make, q, n, body, random));

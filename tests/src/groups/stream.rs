@@ -1,5 +1,6 @@
 //! How the linked program takes its input: in pieces, across block borders, long, and without end.
 
+use super::faults::SHAPE;
 use super::text::{compare, Capture};
 use crate::capture::{heading, recording, word_lines};
 use crate::process::Program;
@@ -15,36 +16,31 @@ const BLOCKS: [usize; 6] = [4_096, 8_192, 16_384, 32_768, 65_536, 131_072];
 
 const PAUSE: Duration = Duration::from_micros(500);
 
-type Body = Box<dyn Fn(&Program, &mut Random) -> Verdict + Send + Sync>;
-
 pub fn group(program: &Program) -> Group {
     let mut group = Group::new("program, input", Unit::Captures);
-    let mut test = |name: String, body: Body| {
-        let program = program.clone();
-        group.test(name, move |random| body(&program, random));
-    };
     for last in [MAX_INPUT, MAX_INPUT + 1] {
-        test(format!("a newline as byte {last}"), Box::new(move |program, _| without_end(program, last)));
+        let name = format!("a newline as byte {last}");
+        group.test_program(name, program, move |program, _| without_end(program, last));
     }
     for shape in [Shape::new(17, 4, 32), Shape::new(31, 8, 32), Shape::new(31, 2, 16), Shape::new(5, 3, 16)] {
         let Shape { q, n, b, .. } = shape;
-        test(
-            format!("a long capture of ({q}, {n}, {b})"),
-            Box::new(move |program, random| long(program, shape, random)),
-        );
+        let name = format!("a long capture of ({q}, {n}, {b})");
+        group.test_program(name, program, move |program, random| long(program, shape, random));
     }
     for block in BLOCKS {
-        test(format!("cut around {block}"), Box::new(move |program, random| cut(program, block, random)));
-        test(format!("longest lines around {block}"), Box::new(move |program, _| longest_lines(program, block)));
+        let name = format!("cut around {block}");
+        group.test_program(name, program, move |program, random| cut(program, block, random));
+        let name = format!("longest lines around {block}");
+        group.test_program(name, program, move |program, _| longest_lines(program, block));
     }
-    test("line ends everywhere in a block".into(), Box::new(shifted));
-    test("byte by byte".into(), Box::new(byte_by_byte));
-    test("random pieces".into(), Box::new(random_pieces));
+    group.test_program("line ends everywhere in a block", program, shifted);
+    group.test_program("byte by byte", program, byte_by_byte);
+    group.test_program("random pieces", program, random_pieces);
     group
 }
 
 /// Shapes with short lines.
-const SHAPES: [Shape; 3] = [Shape::new(3, 2, 8), Shape::new(3, 3, 32), Shape::new(5, 3, 16)];
+const SHAPES: [Shape; 3] = [SHAPE, Shape::new(3, 3, 32), Shape::new(5, 3, 16)];
 
 /// A capture of at least `length` bytes.
 fn capture(shape: Shape, length: usize, random: &mut Random) -> Vec<u8> {
@@ -56,14 +52,18 @@ fn capture(shape: Shape, length: usize, random: &mut Random) -> Vec<u8> {
     input
 }
 
-/// Delivered in pieces, an input must give what it gives whole.
+/// What the program wrote for an input, however it came, must be what the reference says.
+fn expect_tally(input: &[u8], how: &str, written: Result<Vec<u8>, String>) -> Result<(), String> {
+    let difference = compare(&tally(input), written);
+    difference.map_or(Ok(()), |difference| Err(format!("{} bytes {how}: {difference}", input.len())))
+}
+
 fn expect_pieces<'a>(
     program: &Program,
     input: &[u8],
     pieces: impl Iterator<Item = &'a [u8]> + Send,
 ) -> Result<(), String> {
-    let difference = compare(&tally(input), program.run_pieces(pieces, PAUSE));
-    difference.map_or(Ok(()), |difference| Err(format!("{} bytes in pieces: {difference}", input.len())))
+    expect_tally(input, "in pieces", program.run_pieces(pieces, PAUSE))
 }
 
 fn cut(program: &Program, block: usize, random: &mut Random) -> Verdict {
@@ -102,8 +102,7 @@ fn random_pieces(program: &Program, random: &mut Random) -> Verdict {
 }
 
 fn expect_file(program: &Program, input: &[u8]) -> Result<(), String> {
-    let difference = compare(&tally(input), program.run_file(input));
-    difference.map_or(Ok(()), |difference| Err(format!("{} bytes from a file: {difference}", input.len())))
+    expect_tally(input, "from a file", program.run_file(input))
 }
 
 /// From a file, with a first line that moves all others by one byte more each time.
@@ -139,7 +138,7 @@ fn longest_lines(program: &Program, block: usize) -> Verdict {
 
 /// A capture of refused lines that is exactly `length` bytes long.
 fn filled(length: usize) -> Vec<u8> {
-    let mut input = heading(Shape::new(3, 2, 8)).into_bytes();
+    let mut input = heading(SHAPE).into_bytes();
     while input.len() < length {
         let line = (length - input.len()).min(1_000);
         input.extend(vec![b'x'; line - 1]);
@@ -159,7 +158,7 @@ fn long(program: &Program, shape: Shape, random: &mut Random) -> Verdict {
 /// More bytes than are read: a page's newline is byte `last`, the first byte being 1. Up to 2^32 - 1
 /// that is a page; one byte later the newline counts as absent. Nothing after it is read.
 fn without_end(program: &Program, last: usize) -> Verdict {
-    let start = heading(Shape::new(3, 2, 8)).into_bytes();
+    let start = heading(SHAPE).into_bytes();
     let end = b"\n5 2 7 3 1 2 6 3 5\n";
     let after = b"x\n".repeat(100);
     let chunk = vec![b'x'; 1 << 20];

@@ -1,6 +1,6 @@
 //! Malformed text of every kind through the linked program.
 
-use super::faults::{bad_lines, first_lines, long_lines, second_lines, third_lines, zeros, GOOD};
+use super::faults::{bad_lines, first_lines, long_lines, second_lines, third_lines, zeros, EXAMPLE, GOOD, SHAPE};
 use super::idle;
 use crate::capture::{heading, line, own_tally, recording, recording_of, text, word_lines, Page};
 use crate::process::Program;
@@ -10,14 +10,9 @@ use crate::reference::shape::Shape;
 use crate::report::{Group, Unit, Verdict};
 use crate::shrink::{expect, parts, without_parts, Case};
 
-const SHAPE: Shape = Shape::new(3, 2, 8);
-
 pub fn group(program: &Program) -> Group {
     let mut group = Group::new("program, text", Unit::Captures);
-    let mut test = |name: &str, body: fn(&Program, &mut Random) -> Verdict| {
-        let program = program.clone();
-        group.test(name, move |random| body(&program, random));
-    };
+    let mut test = |name: &str, body: fn(&Program, &mut Random) -> Verdict| group.test_program(name, program, body);
     test("the rules' capture", |program, _| example(program));
     test("captures with idle marks", |program, _| idle_captures(program));
     test("recordings with idle marks", idle_recordings);
@@ -30,6 +25,18 @@ pub fn group(program: &Program) -> Group {
     test("random edits of word lines", edited_lines);
     test("random edits anywhere", edited_captures);
     group
+}
+
+impl Group {
+    pub fn test_program(
+        &mut self,
+        name: impl Into<String>,
+        program: &Program,
+        body: impl Fn(&Program, &mut Random) -> Verdict + Send + Sync + 'static,
+    ) {
+        let program = program.clone();
+        self.test(name, move |random| body(&program, random));
+    }
 }
 
 /// An input on which program and reference must agree.
@@ -81,8 +88,7 @@ fn expect_output(program: &Program, input: &[u8], output: &str) -> Result<(), St
 }
 
 fn example(program: &Program) -> Verdict {
-    let input = heading(SHAPE) + GOOD + "\n12 2 7 3 1 2 6 3 5\n1 0 0 0 1 0 0 0 0\n";
-    let output = "outcome page fixed\ntaken 1 0\nagain 1 1\nrefused 4 0\nfunction calls\n3 1\n5 1\n";
+    let (input, output) = EXAMPLE;
     expect_output(program, input.as_bytes(), output)?;
     expect_output(program, heading(SHAPE).as_bytes(), "outcome page fixed\nfunction calls\n")?;
     Ok(2)

@@ -24,7 +24,7 @@ struct Vector {
 }
 
 /// The group for the reference or for the library, whichever makes the calls.
-pub fn group(name: &'static str, make: Make) -> Group {
+pub fn group(name: String, make: Make) -> Group {
     let mut group = Group::new(name, Unit::Calls);
     for Vector { name, call, expected } in vectors() {
         group.test(name, move |_| difference(call.entry, &expected, &make(&call)).map_or(Ok(1), Err));

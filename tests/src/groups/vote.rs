@@ -14,7 +14,7 @@ use crate::reference::writer::codeword;
 use crate::report::{Group, Unit, Verdict};
 
 /// The group for whichever makes the calls.
-pub fn group(name: &'static str, make: Make) -> Group {
+pub fn group(name: String, make: Make) -> Group {
     let mut group = Group::new(name, Unit::Words);
     let mut shapes = Shapes::new(&mut group, make, WIDTHS);
     shapes.test("stripes, (q, n)", stripes);

@@ -17,7 +17,7 @@ use crate::report::{Group, Unit, Verdict};
 const NONE: [u32; 7] = [WAYS, WAYS + 1, 255, 256, 1 << 16, 1 << 31, u32::MAX];
 
 /// The group for whichever makes the calls.
-pub fn group(name: &'static str, make: Make) -> Group {
+pub fn group(name: String, make: Make) -> Group {
     let mut group = Group::new(name, Unit::Calls);
     let mut shapes = Shapes::new(&mut group, make, |_, _| vec![1, 8, 11, 32]);
     shapes.test("that are none, (q, n)", that_are_none);
