@@ -83,7 +83,7 @@ fn follow(make: Make, call: &Call) -> Result<After, String> {
 }
 
 /// A session from elsewhere with right figures, of which few pages have come.
-fn any_session(shape: Shape, random: &mut Random) -> Vec<u32> {
+fn few_pages(shape: Shape, random: &mut Random) -> Vec<u32> {
     let come: Come = (0..PAGES as u32).filter(|_| random.one_in(8)).collect();
     session(shape, figures(&come), &any_marks(&come, random), &any_calls(random))
 }
@@ -121,7 +121,7 @@ fn any_words(make: Make, shape: Shape, way: u32, random: &mut Random) -> Verdict
     for _ in 0..6 {
         let count = 1 + random.below(6);
         let words: Vec<Vec<u32>> = (0..count).map(|_| any_word(shape, way, random)).collect();
-        let session = any_session(shape, random);
+        let session = few_pages(shape, random);
         follow(make, &bundle(shape, way, &session, &words, random))?;
     }
     Ok(6)
@@ -131,7 +131,7 @@ fn any_words(make: Make, shape: Shape, way: u32, random: &mut Random) -> Verdict
 fn of_size(make: Make, shape: Shape, count: usize, random: &mut Random) -> Verdict {
     for way in 0..ways_of(shape) {
         let words: Vec<Vec<u32>> = (0..count).map(|_| any_word(shape, way, random)).collect();
-        let session = any_session(shape, random);
+        let session = few_pages(shape, random);
         let call = bundle(shape, way, &session, &words, random);
         if count <= BUNDLE {
             follow(make, &call)?;
@@ -147,7 +147,7 @@ fn wrong_lengths(make: Make, shape: Shape, way: u32, random: &mut Random) -> Ver
     let mut tried = 0;
     let count = random.pick(&[1, 2, 3]);
     let words: Vec<Vec<u32>> = (0..count).map(|_| any_word(shape, way, random)).collect();
-    let session = any_session(shape, random);
+    let session = few_pages(shape, random);
     let call = bundle(shape, way, &session, &words, random);
     let (size, room) = (shape.word_len(), shape.scratch_len());
     let run = count * size;
@@ -168,7 +168,7 @@ fn wrong_lengths(make: Make, shape: Shape, way: u32, random: &mut Random) -> Ver
 fn with_another_fault(make: Make, shape: Shape, way: u32, random: &mut Random) -> Verdict {
     let mut tried = 0;
     let words: Vec<Vec<u32>> = (0..2).map(|_| any_word(shape, way, random)).collect();
-    let right = any_session(shape, random);
+    let right = few_pages(shape, random);
     let call = bundle(shape, way, &right, &words, random);
     let ragged = |call: &Call, random: &mut Random| {
         let i = 1 + random.below(3);

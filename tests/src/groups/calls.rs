@@ -5,7 +5,7 @@ use crate::call::{answer_of, to_bytes, After, Call, Entry};
 use crate::capture::Page;
 use crate::damage::{allowed, apply, damaged, list, make, STYLES};
 use crate::random::Random;
-use crate::reference::page::{FUNCTIONS, PAGES};
+use crate::reference::page::FUNCTIONS;
 use crate::reference::session::{CALLS_AT, CLEAN, LOWEST_AT, OUTCOMES_LEN, PAGES_AT, SESSION_LEN, VOTE};
 use crate::reference::shape::{Refusal, Shape};
 use crate::reference::writer::codeword;
@@ -31,9 +31,6 @@ pub const ENTRIES: [Entry; 19] = [
     Entry::HostReadWord,
     Entry::HostReadPage,
 ];
-
-/// Numbers that a yes may cross as.
-pub const YES: [u32; 8] = [1, 1, 2, 255, 256, 1 << 16, 1 << 31, u32::MAX];
 
 /// A call that nothing is wrong with; what it only writes to is full of old numbers. Of the host pair
 /// it has the standard slopes. Reading two wrong symbols refuses every shape of two directions.
@@ -108,22 +105,6 @@ fn called(mut session: Vec<u32>, shifts: usize, random: &mut Random) -> Vec<u32>
 /// Prices so low that no sum passes 2^64 - 1.
 fn cheap_prices(random: &mut Random) -> Vec<u32> {
     (0..FUNCTIONS).map(|_| random.number() >> (8 + random.below(24))).collect()
-}
-
-/// A session from elsewhere: any pages marked, counts near both ends. Its figures are right.
-pub fn any_session(shape: Shape, random: &mut Random) -> Vec<u32> {
-    let mut session = shape.values().to_vec();
-    let marks: Vec<u32> = (0..PAGES).map(|_| if random.one_in(3) { random.pick(&YES) } else { 0 }).collect();
-    session.push(marks.iter().filter(|&&mark| mark != 0).count() as u32);
-    session.push(marks.iter().position(|&mark| mark == 0).unwrap_or(PAGES) as u32);
-    session.extend(marks);
-    let mut count = || match random.below(3) {
-        0 => 0,
-        1 => random.number(),
-        _ => u32::MAX - random.below(4) as u32,
-    };
-    session.extend((0..FUNCTIONS).map(|_| count()));
-    session
 }
 
 /// Puts another shape in place of the call's own.

@@ -3,11 +3,11 @@
 
 use super::calls::{resized, turned_down};
 use super::every::{Shapes, WIDTHS};
-use super::expect::{expect, expect_reference};
-use crate::call::{answer_of, After, Call, Entry, Make};
+use super::expect::{expect, expect_nearest, expect_reference, restored};
+use crate::call::{Call, Entry, Make};
 use crate::damage::{apply, damaged, make as damage, unmasked, Style, STYLES};
 use crate::random::Random;
-use crate::reference::brute::{all_codewords, all_words, within};
+use crate::reference::brute::{all_codewords, all_words};
 use crate::reference::shape::{Refusal, Shape};
 use crate::reference::square::positions_on;
 use crate::report::{Group, Unit, Verdict};
@@ -34,11 +34,6 @@ pub fn group(name: String, make: Make) -> Group {
 
 fn call(shape: Shape, word: &[u32]) -> Call {
     Call::new(Entry::DecodeTwo, shape, &[word])
-}
-
-/// Restored to this word, with so many symbols changed.
-fn restored(word: &[u32], changed: usize) -> After {
-    After { answer: answer_of(Ok(changed as u32)), slices: vec![word.to_vec()] }
 }
 
 /// Equal symbols cancel on a check that both are on, unequal ones show their XOR there.
@@ -198,13 +193,9 @@ fn two_directions(make: Make, shape: Shape, random: &mut Random) -> Verdict {
     Ok(words.len() as u64)
 }
 
-/// What must come by the definition: the one codeword within two symbols, or 17.
-fn by_definition(codewords: &[Vec<u32>], call: &Call) -> Result<After, String> {
-    match &within(codewords, &call.slices[0], 2)[..] {
-        [] => Ok(turned_down(call, Refusal::NoPair)),
-        [(near, differ)] => Ok(restored(near, *differ)),
-        _ => Err(format!("{}: two codewords within two symbols", call.text())),
-    }
+/// What the definition says: the one codeword within two symbols, or 17.
+fn expect_near(make: Make, call: &Call, codewords: &[Vec<u32>]) -> Result<(), String> {
+    expect_nearest(make, call, codewords, 2, Refusal::NoPair)
 }
 
 /// All 2^9 words.
@@ -212,8 +203,7 @@ fn every_word(make: Make, shape: Shape) -> Verdict {
     let codewords = all_codewords(shape);
     let words = all_words(shape);
     for word in &words {
-        let call = call(shape, word);
-        expect(make, &call, &by_definition(&codewords, &call)?)?;
+        expect_near(make, &call(shape, word), &codewords)?;
     }
     Ok(words.len() as u64)
 }
@@ -229,8 +219,7 @@ fn sampled(make: Make, shape: Shape, random: &mut Random) -> Verdict {
         if random.one_in(8) {
             word = random.symbols(shape, shape.word_len());
         }
-        let call = call(shape, &word);
-        expect(make, &call, &by_definition(&codewords, &call)?)?;
+        expect_near(make, &call(shape, &word), &codewords)?;
     }
     Ok(rounds)
 }

@@ -1,7 +1,6 @@
 //! Sessions from elsewhere and fresh ones, and pages that come to them. What is in a session is said by a plain set
 //! of page numbers.
 
-use super::calls::YES;
 use crate::call::{After, Call, Entry, Make};
 use crate::capture::{recording_of, Page};
 use crate::damage::allowed;
@@ -36,6 +35,9 @@ pub fn session(shape: Shape, figures: [u32; 2], marks: &[u32], calls: &[u32]) ->
     [&shape.values()[..], &figures, marks, calls].concat()
 }
 
+/// Numbers that a yes may cross as.
+const YES: [u32; 8] = [1, 1, 2, 255, 256, 1 << 16, 1 << 31, u32::MAX];
+
 /// Each yes crosses as 1.
 pub fn plain_marks(come: &Come) -> Vec<u32> {
     let mut marks = vec![0; PAGES];
@@ -63,6 +65,20 @@ pub fn marked(shape: Shape, come: &Come, calls: &[u32], random: &mut Random) -> 
     session(shape, figures(come), &any_marks(come, random), calls)
 }
 
+/// Any pages have come, and the counts are near both ends.
+pub fn any_session(shape: Shape, random: &mut Random) -> Vec<u32> {
+    let marks: Vec<u32> = (0..PAGES).map(|_| if random.one_in(3) { random.pick(&YES) } else { 0 }).collect();
+    let come: Come = (0..ALL).filter(|&page| marks[page as usize] != 0).collect();
+    let mut count = |_| match random.below(3) {
+        0 => 0,
+        1 => random.number(),
+        _ => u32::MAX - random.below(4) as u32,
+    };
+    let calls: Vec<u32> = (0..FUNCTIONS).map(&mut count).collect();
+    session(shape, figures(&come), &marks, &calls)
+}
+
+/// Nothing has come or is counted.
 pub fn fresh(shape: Shape) -> Vec<u32> {
     plain(shape, &Come::new(), &[0; FUNCTIONS])
 }
@@ -86,12 +102,16 @@ pub fn wrong_figures(come: &Come, marks: &[u32]) -> Vec<[u32; 2]> {
     wrong
 }
 
+/// The arrival of a word, read this way; scratch and outcome are full of old numbers.
+pub fn arrival(way: u32, shape: Shape, session: &[u32], word: &[u32], random: &mut Random) -> Call {
+    let scratch = random.numbers(shape.scratch_len());
+    Call::numbered(Entry::Arrive, shape, way, &[session, word, &scratch, &[9; 3]])
+}
+
 /// The arrival of a page with damage that reading undoes, and how many symbols it changes.
 pub fn readable(shape: Shape, session: &[u32], page: &Page, random: &mut Random) -> (Call, u32) {
     let error = allowed(CLEAN, shape, random);
-    let word = page.damaged(shape, &error);
-    let scratch = random.numbers(shape.scratch_len());
-    (Call::new(Entry::Arrive, shape, &[session, &word, &scratch, &[9; 3]]), error.len() as u32)
+    (arrival(CLEAN, shape, session, &page.damaged(shape, &error), random), error.len() as u32)
 }
 
 /// What the arrival of this page leaves where these have come. The page is one of them from then on.

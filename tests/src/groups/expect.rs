@@ -1,6 +1,9 @@
 //! What must come of a call, and where it does not, the smallest call of which it does not.
 
+use super::calls::turned_down;
 use crate::call::{difference, After, Call, Entry, Make};
+use crate::reference::brute::within;
+use crate::reference::shape::Refusal;
 use crate::shrink::{self, with_zeros, without_parts, Case};
 
 /// The call ends as expected. If the reference too says that it does not, it is made smaller before it is shown.
@@ -13,6 +16,27 @@ pub fn expect(make: Make, call: &Call, expected: &After) -> Result<(), String> {
 /// The call ends as the reference ends it.
 pub fn expect_reference(make: Make, call: &Call) -> Result<(), String> {
     expect(make, call, &call.on_reference())
+}
+
+/// Restored to this word, with so many symbols changed.
+pub fn restored(word: &[u32], changed: usize) -> After {
+    After { answer: changed as u64, slices: vec![word.to_vec()] }
+}
+
+/// The call, of a word, ends with the only codeword within so many symbols, or with this refusal if there is none.
+/// Two would be a fault of the rules.
+pub fn expect_nearest(
+    make: Make,
+    call: &Call,
+    codewords: &[Vec<u32>],
+    most: usize,
+    refusal: Refusal,
+) -> Result<(), String> {
+    match &within(codewords, &call.slices[0], most)[..] {
+        [] => expect(make, call, &turned_down(call, refusal)),
+        [(only, changed)] => expect(make, call, &restored(only, *changed)),
+        _ => Err(format!("{}: several codewords within {most} symbols", call.text())),
+    }
 }
 
 /// A call that is to end as the reference ends it.

@@ -1,8 +1,7 @@
 //! Words that somebody else restored, against the words that were received. What must come is said here where
 //! the case itself settles it, by trying every error where these are few, and by the reference elsewhere.
 
-use super::calls::any_session;
-use super::elsewhere::fresh;
+use super::elsewhere::{any_session, fresh};
 use super::every::Shapes;
 use super::expect::{expect, expect_reference};
 use crate::call::{answer_of, After, Call, Entry, Make};

@@ -1,6 +1,7 @@
 //! Arrivals in sessions grown from a fresh one and in sessions handed in from elsewhere.
 
-use super::calls::{any_session, old_scratch_len};
+use super::calls::old_scratch_len;
+use super::elsewhere::any_session;
 use super::every::repeated;
 use super::expect::expect_reference;
 use crate::call::{difference, Call, Entry};

@@ -1,8 +1,9 @@
 //! The rules' bench values, and some for other slopes, as calls with what must come of them.
 
+use super::elsewhere::fresh;
 use crate::call::{answer_of, difference, to_bytes, After, Call, Entry, Make};
 use crate::reference::session::{CALLS_AT, CLEAN, LOWEST_AT, MARKS_AT, PAGES_AT, SESSION_LEN, TWO, VOTE};
-use crate::reference::shape::{Refusal, Shape, SHAPE_LEN, SLOPES};
+use crate::reference::shape::{Refusal, Shape, SLOPES};
 use crate::report::{Group, Unit};
 
 const B3: Shape = Shape::new(3, 3, 3);
@@ -105,7 +106,7 @@ fn words() -> Vec<Vector> {
 fn old_scratch() -> Vec<Vector> {
     let extract = Call::new(Entry::Extract, B3, &[&P4_WORD, &[7; 9], &[9; 2]]);
     let encode = Call::new(Entry::Encode, B3, &[&[5, 3], &[7; 9], &[1; 9]]);
-    let session = fresh_values(B8);
+    let session = fresh(B8);
     let arrive = Call::new(Entry::Arrive, B8, &[&session, &P7_WORD, &[7; 6], &[9; 3]]);
     vec![
         unchanging("P4 extracted, old scratch", extract, Err(Refusal::Length)),
@@ -184,15 +185,10 @@ fn pages() -> Vec<Vector> {
     ]
 }
 
-/// A fresh session: its shape, and nothing come or counted.
-fn fresh_values(shape: Shape) -> Vec<u32> {
-    [shape.values().as_slice(), &[0; SESSION_LEN - SHAPE_LEN]].concat()
-}
-
 /// The words of the program's example, in turn.
 fn arrivals() -> Vec<Vector> {
     let session = |taken: bool| {
-        let mut session = fresh_values(B8);
+        let mut session = fresh(B8);
         if taken {
             session[PAGES_AT] = 1;
             session[MARKS_AT + 1] = 1;
@@ -233,7 +229,7 @@ fn arrivals() -> Vec<Vector> {
 /// Page 5 with no marks, damaged as in P6: the ways compared.
 fn masked_page() -> Vec<Vector> {
     let (stored, received) = ([0, 5, 5, 5, 0, 5, 5, 5, 0], [0, 5, 5, 2, 7, 5, 5, 5, 0]);
-    let fresh = fresh_values(B3);
+    let fresh = fresh(B3);
     let mut taken = fresh.clone();
     taken[PAGES_AT] = 1;
     taken[MARKS_AT + 5] = 1;
@@ -249,7 +245,7 @@ fn masked_page() -> Vec<Vector> {
 /// and only the latter can make it 9.
 fn idle() -> Vec<Vector> {
     let session = |taken: Option<usize>, idle: u32, calls: u32| {
-        let mut session = fresh_values(B8);
+        let mut session = fresh(B8);
         if let Some(page) = taken {
             session[PAGES_AT] = 1;
             session[MARKS_AT + page] = 1;
@@ -280,7 +276,7 @@ fn idle() -> Vec<Vector> {
 /// Pages 0, 2 and 3 have come, and now P7's, which is page 1: the lowest number goes from 1 to 4.
 fn figures() -> Vec<Vector> {
     let session = |pages: u32, lowest: u32| {
-        let mut session = fresh_values(B8);
+        let mut session = fresh(B8);
         (session[PAGES_AT], session[LOWEST_AT]) = (pages, lowest);
         [0, 2, 3].into_iter().for_each(|page| session[MARKS_AT + page] = 1);
         session[CALLS_AT + 5] = 6;
@@ -313,10 +309,17 @@ fn figures() -> Vec<Vector> {
     vectors
 }
 
+fn begin(shape: Shape) -> Call {
+    Call::new(Entry::Fresh, shape, &[&[5; SESSION_LEN]])
+}
+
+/// A shape that a session can begin with.
+fn accepted(name: &str, shape: Shape) -> Vector {
+    vector(name, begin(shape), Ok(0), &[&fresh(shape)])
+}
+
 fn shapes() -> Vec<Vector> {
-    let fresh = |shape: Shape| Call::new(Entry::Fresh, shape, &[&[5; SESSION_LEN]]);
-    let accepted = |name, shape| vector(name, fresh(shape), Ok(0), &[&fresh_values(shape)]);
-    let refused = |name, shape| unchanging(name, fresh(shape), Err(Refusal::Shape));
+    let refused = |name, shape| unchanging(name, begin(shape), Err(Refusal::Shape));
     vec![
         accepted("shape 31 8 32", Shape::new(31, 8, 32)),
         accepted("shape 3 3 1", Shape::new(3, 3, 1)),
@@ -344,9 +347,7 @@ fn slopes() -> Vec<Vector> {
         vector(name, call, Ok(0), &[&[5, 3], &[0; 7], word])
     };
     let decode = |first: &[u32], word: &[u32]| Call::new(Entry::Decode, sloped(B3, first), &[word]);
-    let fresh = |shape: Shape| Call::new(Entry::Fresh, shape, &[&[5; SESSION_LEN]]);
-    let accepted = |name, shape| vector(name, fresh(shape), Ok(0), &[&fresh_values(shape)]);
-    let refused = |name, shape| unchanging(name, fresh(shape), Err(Refusal::Slope));
+    let refused = |name, shape| unchanging(name, begin(shape), Err(Refusal::Slope));
     let mirrored = [5, 3, 6, 3, 6, 5, 6, 5, 3];
     let sheared = [6, 5, 3, 6, 5, 3, 6, 5, 3];
     let by_slope_1 = [1, 6, 7, 3, 1, 2, 6, 3, 5];

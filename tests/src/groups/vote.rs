@@ -3,13 +3,12 @@
 
 use super::calls::turned_down;
 use super::every::{Shapes, WIDTHS};
-use super::expect::{expect, expect_reference};
-use crate::call::{After, Call, Entry, Make};
+use super::expect::{expect, expect_nearest, expect_reference, restored};
+use crate::call::{Call, Entry, Make};
 use crate::damage::{any_line, damaged, make as damage, unmasked, Error, STYLES};
 use crate::random::Random;
-use crate::reference::brute::{all_codewords, all_words, near};
+use crate::reference::brute::{all_codewords, all_words};
 use crate::reference::shape::{Refusal, Shape};
-use crate::reference::square::{weight, xor};
 use crate::reference::writer::codeword;
 use crate::report::{Group, Unit, Verdict};
 
@@ -32,17 +31,12 @@ fn vote(shape: Shape, word: &[u32]) -> Call {
     Call::new(Entry::DecodeMajority, shape, &[word])
 }
 
-/// The word is left as this one; the answer is how many of its symbols came otherwise.
-fn read(call: &Call, word: &[u32]) -> After {
-    After { answer: weight(&xor(&call.slices[0], word)) as u64, slices: vec![word.to_vec()] }
-}
-
 /// A codeword with this error: up to n/2 symbols it comes back. With more, the reference says what comes.
 fn expect_damaged(make: Make, shape: Shape, error: &Error, random: &mut Random) -> Result<(), String> {
     let sent = random.codeword(shape);
     let call = vote(shape, &damaged(&sent, error));
     if error.len() <= shape.most_votes() {
-        expect(make, &call, &read(&call, &sent))
+        expect(make, &call, &restored(&sent, error.len()))
     } else {
         expect_reference(make, &call)
     }
@@ -142,13 +136,9 @@ fn faults(make: Make, shape: Shape, random: &mut Random) -> Verdict {
     Ok(tried)
 }
 
-/// What the definition says: the codeword that is near enough, if there is one; two would be a fault of the rules.
-fn by_definition(shape: Shape, call: &Call, codewords: &[Vec<u32>]) -> Result<After, String> {
-    match near(shape, codewords, &call.slices[0])[..] {
-        [] => Ok(turned_down(call, Refusal::NoMajority)),
-        [only] => Ok(read(call, only)),
-        _ => Err(format!("{}: more than one codeword is near", call.text())),
-    }
+/// What the definition says: the codeword that is near enough, if there is one.
+fn expect_near(make: Make, call: &Call, codewords: &[Vec<u32>]) -> Result<(), String> {
+    expect_nearest(make, call, codewords, call.shape.most_votes(), Refusal::NoMajority)
 }
 
 /// All 2^9 words.
@@ -156,8 +146,7 @@ fn every_word(make: Make, shape: Shape) -> Verdict {
     let codewords = all_codewords(shape);
     let words = all_words(shape);
     for word in &words {
-        let call = vote(shape, word);
-        expect(make, &call, &by_definition(shape, &call, &codewords)?)?;
+        expect_near(make, &vote(shape, word), &codewords)?;
     }
     Ok(words.len() as u64)
 }
@@ -170,8 +159,7 @@ fn sampled(make: Make, shape: Shape, random: &mut Random) -> Verdict {
         let sent = &codewords[random.below(codewords.len())];
         let weight = random.below(shape.n as usize + 1);
         let error = damage(random.pick(&STYLES), shape, weight, random);
-        let call = vote(shape, &damaged(sent, &error));
-        expect(make, &call, &by_definition(shape, &call, &codewords)?)?;
+        expect_near(make, &vote(shape, &damaged(sent, &error)), &codewords)?;
     }
     Ok(rounds)
 }

@@ -2,7 +2,7 @@
 //! reference, which is held to it like the library.
 
 use super::calls::{bad_slope, good, later_faults, reshaped, turned_down};
-use super::elsewhere::{after_arrival, any_calls, fresh, plain, Come};
+use super::elsewhere::{after_arrival, any_calls, arrival, fresh, plain, Come};
 use super::every::Shapes;
 use super::expect::expect;
 use crate::call::{Call, Entry, Make};
@@ -51,12 +51,6 @@ fn that_are_none(make: Make, shape: Shape, random: &mut Random) -> Verdict {
     Ok(tried)
 }
 
-/// The arrival of a page with this error, read this way.
-fn arrival(way: u32, shape: Shape, session: &[u32], page: &Page, error: &Error, random: &mut Random) -> Call {
-    let scratch = random.numbers(shape.scratch_len());
-    Call::numbered(Entry::Arrive, shape, way, &[session, &page.damaged(shape, error), &scratch, &[9; 3]])
-}
-
 /// The pages of a recording some times each, in any order, each arrival by any way with damage that this
 /// way allows: the answers are those of a plain set of pages, and the counts the recording's own.
 fn mixed(make: Make, shape: Shape, random: &mut Random) -> Verdict {
@@ -70,7 +64,7 @@ fn mixed(make: Make, shape: Shape, random: &mut Random) -> Verdict {
     for page in list {
         let way = random.below(ways_of(shape) as usize) as u32;
         let error = allowed(way, shape, random);
-        let call = arrival(way, shape, &state, page, &error, random);
+        let call = arrival(way, shape, &state, &page.damaged(shape, &error), random);
         let after = after_arrival(&call, page, error.len() as u32, &mut come);
         expect(make, &call, &after)?;
         state.copy_from_slice(&after.slices[0]);
@@ -89,7 +83,7 @@ fn expect_undone(make: Make, way: u32, shape: Shape, places: &[usize], random: &
     let page = Page::any(shape, random);
     let mut come = Come::new();
     let state = plain(shape, &come, &any_calls(random));
-    let call = arrival(way, shape, &state, &page, &error, random);
+    let call = arrival(way, shape, &state, &page.damaged(shape, &error), random);
     expect(make, &call, &after_arrival(&call, &page, places.len() as u32, &mut come))
 }
 

@@ -37,11 +37,6 @@ pub fn agreeing<'a>(codewords: &'a [Vec<u32>], received: &[u32], places: &[u32])
     codewords.iter().filter(agrees).collect()
 }
 
-/// Those of the codewords that differ from the received word in at most n/2 symbols.
-pub fn near<'a>(shape: Shape, codewords: &'a [Vec<u32>], received: &[u32]) -> Vec<&'a Vec<u32>> {
-    codewords.iter().filter(|codeword| weight(&xor(codeword, received)) <= shape.most_votes()).collect()
-}
-
 /// Those of the codewords that differ from the received word in at most so many symbols, and in how many.
 pub fn within(codewords: &[Vec<u32>], received: &[u32], most: usize) -> Vec<Explanation> {
     let beside = |codeword: &Vec<u32>| (codeword.clone(), weight(&xor(codeword, received)));

@@ -21,33 +21,28 @@ pub fn information(shape: Shape, word: &[u32]) -> Vec<u32> {
 }
 
 pub fn encode(shape: Shape, data: &[u32], scratch: &mut [u32], word: &mut [u32]) -> Result<(), Refusal> {
-    lengths(shape, data, scratch, word)?;
-    scratch.fill(0);
-    if !shape.all_fit(data) {
-        return Err(Refusal::Width);
-    }
+    judge(shape, data, scratch, word, data)?;
     word.copy_from_slice(&codeword(shape, data));
     Ok(())
 }
 
 pub fn extract(shape: Shape, word: &[u32], scratch: &mut [u32], data: &mut [u32]) -> Result<(), Refusal> {
-    lengths(shape, data, scratch, word)?;
-    scratch.fill(0);
-    if !shape.all_fit(word) {
-        return Err(Refusal::Width);
-    }
+    judge(shape, data, scratch, word, word)?;
     data.copy_from_slice(&information(shape, word));
     Ok(())
 }
 
-/// Tests 1, 18 and 2, the same for both.
-fn lengths(shape: Shape, data: &[u32], scratch: &[u32], word: &[u32]) -> Result<(), Refusal> {
+/// Tests 1, 18, 2 and 3 of both, 3 about the symbols that come in. The scratch is cleared past test 2.
+fn judge(shape: Shape, data: &[u32], scratch: &mut [u32], word: &[u32], coming: &[u32]) -> Result<(), Refusal> {
     shape.judge()?;
-    let right =
-        data.len() == shape.data_len() && scratch.len() == shape.scratch_len() && word.len() == shape.word_len();
-    if right {
+    let right = (shape.data_len(), shape.scratch_len(), shape.word_len());
+    if (data.len(), scratch.len(), word.len()) != right {
+        return Err(Refusal::Length);
+    }
+    scratch.fill(0);
+    if shape.all_fit(coming) {
         Ok(())
     } else {
-        Err(Refusal::Length)
+        Err(Refusal::Width)
     }
 }
