@@ -3,10 +3,10 @@
 use super::elsewhere::fresh;
 use crate::call::{answer_of, to_bytes, After, Call, Entry};
 use crate::capture::Page;
-use crate::damage::{allowed, apply, damaged, list, make, STYLES};
+use crate::damage::{allowed, damaged, list};
 use crate::random::Random;
 use crate::reference::page::FUNCTIONS;
-use crate::reference::session::{CALLS_AT, CLEAN, LOWEST_AT, OUTCOMES_LEN, PAGES_AT, SESSION_LEN, VOTE};
+use crate::reference::session::{CALLS_AT, CLEAN, LOWEST_AT, OUTCOMES_LEN, PAGES_AT, SESSION_LEN, TWO, VOTE};
 use crate::reference::shape::{Refusal, Shape};
 use crate::reference::writer::codeword;
 
@@ -53,7 +53,7 @@ pub fn good(entry: Entry, shape: Shape, random: &mut Random) -> Call {
         Entry::Decode => vec![received(CLEAN, shape, &data, random)],
         Entry::Looked => vec![received(CLEAN, shape, &data, random), random.numbers(word.len())],
         Entry::DecodeMajority => vec![received(VOTE, shape, &data, random)],
-        Entry::DecodeTwo => vec![two_damaged(shape, codeword(shape, &data), random)],
+        Entry::DecodeTwo => vec![received(TWO, shape, &data, random)],
         Entry::Fill => dead_cells(shape, &data, scratch, random),
         Entry::Check => vec![received(CLEAN, shape, &data, random), codeword(shape, &data)],
         Entry::ReadPage => vec![page_data],
@@ -77,13 +77,6 @@ pub fn good(entry: Entry, shape: Shape, random: &mut Random) -> Call {
 /// The codeword of these symbols with damage that this way undoes.
 fn received(way: u32, shape: Shape, data: &[u32], random: &mut Random) -> Vec<u32> {
     damaged(&codeword(shape, data), &allowed(way, shape, random))
-}
-
-/// At most two wrong symbols, often such that cancel.
-fn two_damaged(shape: Shape, mut word: Vec<u32>, random: &mut Random) -> Vec<u32> {
-    let (style, weight) = (random.pick(&STYLES), random.below(3));
-    apply(&make(style, shape, weight, random), &mut word);
-    word
 }
 
 /// As many places as there are directions, or fewer: only one codeword can agree off them.

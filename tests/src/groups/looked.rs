@@ -6,6 +6,7 @@ use super::expect::expect;
 use crate::call::{After, Call, Entry, Make};
 use crate::damage::{damaged, make as make_error, unmasked, Error, STYLES};
 use crate::random::Random;
+use crate::reference::brute::all_words;
 use crate::reference::reader::error_of;
 use crate::reference::shape::Shape;
 use crate::reference::square::check;
@@ -106,9 +107,9 @@ fn random_words(make: Make, shape: Shape, random: &mut Random) -> Verdict {
 
 /// All 2^9 words.
 fn every_word(make: Make, shape: Shape, random: &mut Random) -> Verdict {
-    for bits in 0..1u32 << shape.word_len() {
-        let word: Vec<u32> = (0..shape.word_len()).map(|j| bits >> j & 1).collect();
-        expect_word(make, shape, &word, random)?;
+    let words = all_words(shape);
+    for word in &words {
+        expect_word(make, shape, word, random)?;
     }
-    Ok(1 << shape.word_len())
+    Ok(words.len() as u64)
 }

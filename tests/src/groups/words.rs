@@ -5,6 +5,7 @@ use super::every::{repeated, Widths};
 use crate::call::{brief, difference, to_bytes, After, Call, Entry};
 use crate::damage::{damaged, make, unmasked, Error, STYLES};
 use crate::random::Random;
+use crate::reference::brute::all_words;
 use crate::reference::shape::{Shape, ORDERS};
 use crate::report::{Group, Unit, Verdict};
 use crate::shrink::{expect, without_parts, Case};
@@ -85,11 +86,11 @@ fn shipped(random: &mut Random) -> Verdict {
 
 /// All 2^9 words.
 fn every_word(shape: Shape) -> Verdict {
-    for bits in 0..1 << shape.word_len() {
-        let word: Vec<u32> = (0..shape.word_len()).map(|j| bits >> j & 1).collect();
-        expect(&Damaged::by_itself(shape, &word))?;
+    let words = all_words(shape);
+    for word in &words {
+        expect(&Damaged::by_itself(shape, word))?;
     }
-    Ok(1 << shape.word_len())
+    Ok(words.len() as u64)
 }
 
 #[derive(Clone)]
