@@ -6,7 +6,7 @@ use std::fmt::Display;
 use std::fs::{self, File, Permissions};
 use std::io::Write;
 use std::os::unix::fs::PermissionsExt;
-use std::path::{Path, PathBuf};
+use std::path::{absolute, Path, PathBuf};
 use std::process::{Child, ChildStdin, Command, Stdio};
 use std::sync::atomic::{AtomicUsize, Ordering};
 use std::thread::ScopedJoinHandle;
@@ -27,9 +27,11 @@ impl Program {
         Program(PathBuf::from(path.as_ref()))
     }
 
-    /// The program under test, named by TALLY.
+    /// The program under test, named by TALLY. It is started in other folders too, so a path has to be whole.
     pub fn from_env() -> Option<Program> {
-        env::var_os("TALLY").map(Program::new)
+        let named = PathBuf::from(env::var_os("TALLY")?);
+        let is_path = named.components().count() > 1;
+        Some(Program(if is_path { absolute(&named).unwrap_or(named) } else { named }))
     }
 
     /// What the program writes when its input comes through a pipe in one piece.

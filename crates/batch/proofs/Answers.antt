@@ -2,91 +2,52 @@
 use mathlib.Core.Path.{_≡_, refl, sym, ap, ap₂, _∙_}
 use mathlib.Core.Bool.{true, false, _&&_}
 use mathlib.Core.List.{List}
-use Prim.Native.Nat.{ℕ, _<_}
+use Prim.Native.Nat.{ℕ}
 use lib.Dec.{eqb}
-use lib.ListN.{length, take, drop}
+use lib.ListN.{length}
 use borrow.Author.Tests.{eqb-true, eq-eqb, ne-eqb}
 use Rattle.parity.proofs.Tests.{and-left, and-right}
 use Rattle.gtb.specs.declared.Shape.{Shape}
 use Rattle.gtb.specs.declared.Refusal.{Refusal}
 use Rattle.gtb.specs.declared.Status.{Status}
 use Rattle.gtb.specs.declared.Status.the-variants as status
-use Rattle.gtb.specs.Shape.{lawful, shapeRefusal, wordLength, scratchLength}
+use Rattle.gtb.specs.Shape.{lawful, wordLength, scratchLength}
 use Rattle.gtb.specs.Answer.{statusNumber}
-use Rattle.gtb.proofs.Answers.{same-refusal, never-done, never-refused, unless-done}
+use Rattle.gtb.proofs.Answers.{never-done, never-refused, unless-done}
 use Rattle.session.specs.declared.Session.{Session}
 use Rattle.session.specs.declared.Outcome.{Outcome}
-use Rattle.session.specs.Session.{consistent}
-use Rattle.session.specs.Arrival.{isWay, wayOf, wordAfter}
+use Rattle.session.specs.Arrival.{wayOf, theWays, arrivalStatus, wordAfter}
 use Rattle.session.specs.Claim.{answerAt}
+use Rattle.session.proofs.Arrive.{past-done, admitted}
 use Rattle.session.proofs.Demand.{run-unique}
 use Rattle.batch.specs.declared.Delivered.{Delivered}
-use Rattle.batch.specs.Batch.{wordsIn, wholeRun, wordAt, batchStatus, valuesOf, Arrivals, Batching}
+use Rattle.batch.specs.Batch.{wordsIn, wholeRun, allFit, wordAt, batchStatus, valuesOf, Arrivals, Batching}
 use Rattle.batch.specs.Steps.{Tested}
 use Rattle.batch.proofs.Runs.{run-words, same-words}
 
 -- ---- test 2, by what fails it first
 module _ (s : Shape) (words scratch outcomes : List ℕ) where
-  pub fits-run : wholeRun s words ≡ false → false ≡ (wholeRun s words && eqb (length scratch) (scratchLength s) && eqb (length outcomes) 192)
+  pub fits-run : wholeRun s words ≡ false → false ≡ allFit s words scratch outcomes
   fits-run bad = sym (rw bad)
 
   pub fits-scratch : wholeRun s words ≡ true → (length scratch ≡ scratchLength s → ⊥)
-      → false ≡ (wholeRun s words && eqb (length scratch) (scratchLength s) && eqb (length outcomes) 192)
+      → false ≡ allFit s words scratch outcomes
   fits-scratch run bad = sym (rw (run, ne-eqb (length scratch) (scratchLength s) bad))
 
   pub fits-list : wholeRun s words ≡ true → length scratch ≡ scratchLength s
-      → eqb (length outcomes) 192 ≡ (wholeRun s words && eqb (length scratch) (scratchLength s) && eqb (length outcomes) 192)
+      → eqb (length outcomes) 192 ≡ allFit s words scratch outcomes
   fits-list run room = sym (rw (run, eq-eqb (length scratch) (scratchLength s) room))
 
 module _ (σ : Session) (k : ℕ) (words scratch outcomes : List ℕ) where
-  -- ---- the tests
-  pub status-way : isWay k ≡ false → status.Refused Refusal.Shape ≡ batchStatus σ k words scratch outcomes
-  unfolding batchStatus
-  status-way bad = sym (rw bad)
-
-  pub status-shape : isWay k ≡ true → lawful (σ .shape) ≡ false → status.Refused (shapeRefusal (σ .shape)) ≡ batchStatus σ k words scratch outcomes
-  unfolding batchStatus
-  status-shape known bad = sym (rw (known, bad))
-
-  pub status-figures : isWay k ≡ true → lawful (σ .shape) ≡ true → consistent σ ≡ false → status.Refused Refusal.Figures ≡ batchStatus σ k words scratch outcomes
-  unfolding batchStatus
-  status-figures known law bad = sym (rw (known, law, bad))
-
-  pub status-directions : isWay k ≡ true → lawful (σ .shape) ≡ true → consistent σ ≡ true → wayOf k .suits (σ .shape) ≡ false
-      → status.Refused Refusal.Directions ≡ batchStatus σ k words scratch outcomes
-  unfolding batchStatus
-  status-directions known law right bad = sym (rw (known, law, right, bad))
-
-  -- test 2 on all that is lent
-  abbrev sized : Type 0
-  sized = (wholeRun (σ .shape) words && eqb (length scratch) (scratchLength (σ .shape)) && eqb (length outcomes) 192) ≡ true
-
-  abbrev unsized : Type 0
-  unsized = (wholeRun (σ .shape) words && eqb (length scratch) (scratchLength (σ .shape)) && eqb (length outcomes) 192) ≡ false
-
-  pub status-length : isWay k ≡ true → lawful (σ .shape) ≡ true → consistent σ ≡ true → wayOf k .suits (σ .shape) ≡ true → unsized → status.Refused Refusal.Length ≡ batchStatus σ k words scratch outcomes
-  unfolding batchStatus
-  status-length known law right fits bad = sym (rw (known, law, right, fits, bad))
-
-  pub status-done : isWay k ≡ true → lawful (σ .shape) ≡ true → consistent σ ≡ true → wayOf k .suits (σ .shape) ≡ true → sized → status.Done ≡ batchStatus σ k words scratch outcomes
-  unfolding batchStatus
-  status-done known law right fits fit = sym (rw (known, law, right, fits, fit))
-
   -- not turned down: all tests were passed
   pub status-tested : batchStatus σ k words scratch outcomes ≡ status.Done → Tested σ k words scratch outcomes
   unfolding batchStatus
   status-tested h =
-      let (known, h₁) = unless-done (isWay k) _ _ h in
-      let (law, h₂) = unless-done (lawful (σ .shape)) _ _ h₁ in
-      let (right, h₃) = unless-done (consistent σ) _ _ h₂ in
-      let (fits, h₄) = unless-done (wayOf k .suits (σ .shape)) _ _ h₃ in
-      let (fit, h₅) = unless-done (wholeRun (σ .shape) words && eqb (length scratch) (scratchLength (σ .shape)) && eqb (length outcomes) 192) _ _ h₄ in
+      let (passed, h₁) = past-done (arrivalStatus theWays σ k) _ h in
+      let (fit, h₂) = unless-done (allFit (σ .shape) words scratch outcomes) _ _ h₁ in
       let two = and-left (wholeRun (σ .shape) words && eqb (length scratch) (scratchLength (σ .shape))) (eqb (length outcomes) 192) fit in
       record {
-        known = known;
-        lawful = law;
-        consistent = right;
-        suits = fits;
+        admitted = admitted σ k passed;
         run = and-left (wholeRun (σ .shape) words) (eqb (length scratch) (scratchLength (σ .shape))) two;
         scratchSize = eqb-true _ _ (and-right (wholeRun (σ .shape) words) (eqb (length scratch) (scratchLength (σ .shape))) two);
         outcomesSize = eqb-true _ _ (and-right (wholeRun (σ .shape) words && eqb (length scratch) (scratchLength (σ .shape))) (eqb (length outcomes) 192) fit);
@@ -118,7 +79,7 @@ module _ {σ : Session} {k : ℕ} {words scratch outcomes : List ℕ} {words₁ 
       → (end₁ ≡ end₂) × (words₁ ≡ words₂) × (scratch₁ ≡ scratch₂) × (outcomes₁ ≡ outcomes₂)
   arrivals-unique tested a b =
       let (answers, ends) = run-unique (a .run) (b .run) in
-      let whole = run-words (σ .shape) (tested .lawful) words (tested .run) in
+      let whole = run-words (σ .shape) (tested .admitted .lawful) words (tested .run) in
       let word : ℕ → List Outcome → List ℕ = λ i rs. wordAfter (wordAt (σ .shape) words i) (wayOf k .word (σ .shape) (wordAt (σ .shape) words i)) (answerAt rs i) in (
         ends,
         same-words (wordLength (σ .shape)) words₁ words₂ (wordsIn (σ .shape) words) (a .size ∙ whole .size) (b .size ∙ whole .size)

@@ -1,12 +1,12 @@
 -- The words of a run: how many there are, and each by its place.
-use mathlib.Core.Path.{_≡_, refl, sym, ap, ap₂, _∙_, subst}
+use mathlib.Core.Path.{_≡_, sym, ap, ap₂, _∙_, subst}
 use mathlib.Core.Bool.{true, false}
 use mathlib.Core.List.{List, _++_}
 use mathlib.Core.Logic.{⊎-elim}
 use Prim.Native.Nat.{ℕ, zero, suc, _+_, _-_, _*_, _/_, _%_, _<_, _≤_}
 use native.Mathlib.Nat.{le-refl, le-of-eq, le-trans, mul-le-mul, mul-le-mul-right, zero-mul, suc-mul, mul-mod-left, div-add-mod', div-eq-of-eq-mul-left}
 use native.Mathlib.Omega.{arith}
-use lib.Dec.{eqb, leb}
+use lib.Dec.{leb}
 use lib.ListN.{length, take, drop, length-drop}
 use lib.Seq.{take-all, take-add, take-append-le, drop-append-le}
 use borrow.Author.Tests.{eq-eqb, eqb-true, leb-true, le-leb}

@@ -2,7 +2,7 @@
 use mathlib.Core.Path.{_≡_, refl, sym, ap, ap₂, _∙_, subst}
 use mathlib.Core.List.{List, [], _∷_, _++_}
 use mathlib.Core.Logic.{⊎-elim}
-use Prim.Native.Nat.{ℕ, zero, suc, _+_, _-_, _*_, _<_, _≤_}
+use Prim.Native.Nat.{ℕ, _+_, _-_, _*_, _<_, _≤_}
 use native.Mathlib.Nat.{eq-or-lt-of-le, le-of-suc-le-suc, le-of-lt, not-suc-le-zero, suc-mul}
 use native.Mathlib.Numerals.{add-one}
 use native.Mathlib.Omega.{arith}
@@ -19,9 +19,10 @@ use Rattle.session.specs.declared.Arrived.{Arrived}
 use Rattle.session.specs.Session.{Consistent}
 use Rattle.session.specs.Arrival.{wayOf, theWays, outcomeValues, outcomeScratch, wordAfter, Arriving, Stepping}
 use Rattle.session.specs.Claim.{Run, stop, step, answerAt}
-use Rattle.session.proofs.Arrive.{whole-copy, step-arrives}
+use Rattle.session.proofs.Arrive.{whole-copy, step-arrives, word-cleared}
 use Rattle.session.proofs.Progress.{arrival-consistent}
-use Rattle.session.proofs.Joins.{run-join, outcome-size, after-shape, same-arrival, word-cleared}
+use Rattle.session.proofs.Joins.{run-join, outcome-size, same-arrival}
+use Rattle.session.proofs.Alikes.{shape-kept}
 use Rattle.batch.specs.Batch.{wordsIn, wordAt, arrivalOf, firstArrivals, valuesOf, Arrivals}
 use Rattle.batch.specs.Steps.{Tested, Ready, OneArrival}
 use Rattle.batch.proofs.Runs.{Place, words-before, front-part}
@@ -33,9 +34,9 @@ pub one-arrival : {σ : Session} {k : ℕ} {word scratch values word′ scratch�
     → OneArrival σ k word scratch word′ scratch′ values′ (r .session)
 one-arrival {σ} {k} {word} {scratch} {values} {three = three} r ready stepped is copied = record {
   answer = r .outcome;
-  arrives = step-arrives theWays σ k (ready .consistent) stepped;
+  arrives = step-arrives theWays σ k (ready .admitted .consistent) stepped;
   cleared = stepped .scratchLeft ∙ ap (outcomeScratch scratch) (stepped .outcome)
-      ∙ word-cleared σ k word scratch (ready .known) (ready .lawful) (ready .suits) (ready .wordSize) (ready .scratchSize);
+      ∙ word-cleared (ready .admitted) word scratch (ready .wordSize) (ready .scratchSize);
   written = copied ∙ whole-copy three values (ap length is ∙ outcome-size (r .outcome) ∙ sym (ready .valuesSize)) ∙ is;
 }
 
@@ -67,7 +68,7 @@ delivering-begins {outcomes = outcomes} tested cleared = record {
   outcomesLeft = values-none outcomes (tested .outcomesSize) cleared;
   scratchSize = refl;
   scratchLeft = λ l. absurd (not-suc-le-zero l);
-  consistent = tested .consistent;
+  consistent = tested .admitted .consistent;
   shape = refl;
 }
 
@@ -168,7 +169,7 @@ module _ {σ : Session} {k : ℕ} {words scratch : List ℕ} {m : ℕ} {words′
     scratchSize = ap length scratch-turn ∙ length-replicate (length scratch) 0;
     scratchLeft = λ _. scratch-turn;
     consistent = arrival-consistent theWays held (one .arrives) (d .consistent);
-    shape = ap (λ (τ : Session). τ .shape) (one .arrives .session) ∙ after-shape held _ ∙ d .shape;
+    shape = ap (λ (τ : Session). τ .shape) (one .arrives .session) ∙ shape-kept held _ ∙ d .shape;
   }
 
 -- with places and lengths as the code has them
@@ -192,10 +193,12 @@ module _ {σ : Session} {k : ℕ} {words scratch : List ℕ} {m : ℕ} {words′
         let gap : m * size + size - m * size ≡ size = omega arith in
         let three : 3 * m + 3 - 3 * m ≡ 3 = omega arith in
         record {
-          known = tested .known;
-          lawful = ap lawful (d .shape) ∙ tested .lawful;
-          consistent = d .consistent;
-          suits = ap (wayOf k .suits) (d .shape) ∙ tested .suits;
+          admitted = record {
+            known = tested .admitted .known;
+            lawful = ap lawful (d .shape) ∙ tested .admitted .lawful;
+            consistent = d .consistent;
+            suits = ap (wayOf k .suits) (d .shape) ∙ tested .admitted .suits;
+          };
           wordSize = mid-len (m * size) (m * size + size) words′ (omega (arith, place .room, d .size)) ∙ gap ∙ is ∙ ap (λ (s : Shape). wordLength s) (sym (d .shape));
           scratchSize = d .scratchSize ∙ tested .scratchSize ∙ ap scratchLength (sym (d .shape));
           valuesSize = mid-len (3 * m) (3 * m + 3) outcomes′ (omega (arith, list-size (le-of-lt few))) ∙ three;

@@ -10,12 +10,12 @@ use Rattle.gtb.specs.declared.Shape.{Shape}
 use Rattle.gtb.specs.declared.Refusal.{Refusal}
 use Rattle.gtb.specs.declared.Status.{Status}
 use Rattle.gtb.specs.declared.Status.the-variants.{Done, Refused}
-use Rattle.gtb.specs.Shape.{lawful, shapeRefusal, wordLength, scratchLength}
+use Rattle.gtb.specs.Shape.{wordLength, scratchLength}
 use Rattle.gtb.specs.Answer.{statusNumber, unless}
 use Rattle.session.specs.declared.Session.{Session}
 use Rattle.session.specs.declared.Outcome.{Outcome}
-use Rattle.session.specs.Session.{consistent}
-use Rattle.session.specs.Arrival.{isWay, wayOf, theWays, outcomeValues, wordAfter}
+use Rattle.session.specs.Session.{past}
+use Rattle.session.specs.Arrival.{wayOf, theWays, arrivalStatus, outcomeValues, wordAfter}
 use Rattle.session.specs.Recording.{Arrival}
 use Rattle.session.specs.Claim.{Run, answerAt}
 use Rattle.batch.specs.declared.Delivered.{Delivered}
@@ -32,15 +32,14 @@ wholeRun s words = any 64 (λ i. eqb (length words) ((i + 1) * wordLength s))
 abbrev pub wordAt : Shape → List ℕ → ℕ → List ℕ
 wordAt s words i = take (wordLength s) (drop (i * wordLength s) words)
 
--- the tests for the whole call: 1, 18, 11, 16, then 2 for the run, the scratch and the list of outcomes
+-- test 2 for the run, the scratch and the list of outcomes
+abbrev pub allFit : Shape → List ℕ → List ℕ → List ℕ → Bool
+allFit s words scratch outcomes = wholeRun s words && eqb (length scratch) (scratchLength s) && eqb (length outcomes) 192
+
+-- the tests for the whole call: an arrival's, 1, 18, 11, 16, then 2
 unfoldable pub batchStatus : Session → ℕ → List ℕ → List ℕ → List ℕ → Status
 batchStatus σ k words scratch outcomes =
-    unless (isWay k) (Refused Refusal.Shape)
-    (unless (lawful (σ .shape)) (Refused (shapeRefusal (σ .shape)))
-    (unless (consistent σ) (Refused Refusal.Figures)
-    (unless (wayOf k .suits (σ .shape)) (Refused Refusal.Directions)
-    (unless (wholeRun (σ .shape) words && eqb (length scratch) (scratchLength (σ .shape)) && eqb (length outcomes) 192) (Refused Refusal.Length)
-    Done))))
+    past (arrivalStatus theWays σ k) Refused (unless (allFit (σ .shape) words scratch outcomes) (Refused Refusal.Length) Done)
 
 -- word i as an arrival, with the way and the scratch
 abbrev pub arrivalOf : Shape → ℕ → List ℕ → List ℕ → ℕ → Arrival
@@ -56,13 +55,13 @@ abbrev pub arrivalsOf : Shape → ℕ → List ℕ → List ℕ → List Arrival
 arrivalsOf s k words scratch = firstArrivals s k words scratch (wordsIn s words)
 
 -- three values an answer
-unfoldable pub threes : List Outcome → List ℕ
-threes [] = []
-threes (answer ∷ rest) = outcomeValues answer ++ threes rest
+unfoldable pub allValues : List Outcome → List ℕ
+allValues [] = []
+allValues (answer ∷ rest) = outcomeValues answer ++ allValues rest
 
 -- zeros past the run: 192 in all
 unfoldable pub valuesOf : List Outcome → List ℕ
-valuesOf answers = threes answers ++ replicate (192 - 3 * length answers) 0
+valuesOf answers = allValues answers ++ replicate (192 - 3 * length answers) 0
 
 -- a run of the single arrivals, first word first, and what they leave
 pub record Arrivals (σ : Session) (k : ℕ) (words scratch words′ scratch′ outcomes′ : List ℕ) (end : Session) : Type 0 where

@@ -4,29 +4,23 @@ use mathlib.Core.Bool.{true}
 use mathlib.Core.List.{List}
 use Prim.Native.Nat.{ℕ}
 use lib.ListN.{length, replicate}
-use Rattle.gtb.specs.Shape.{Lawful, wordLength, scratchLength}
+use Rattle.gtb.specs.Shape.{wordLength, scratchLength}
 use Rattle.session.specs.declared.Session.{Session}
 use Rattle.session.specs.declared.Outcome.{Outcome}
-use Rattle.session.specs.Session.{Consistent}
-use Rattle.session.specs.Arrival.{isWay, wayOf, theWays, outcomeValues, Arriving}
+use Rattle.session.specs.Arrival.{theWays, outcomeValues, Arriving}
+use Rattle.session.specs.Steps.{Admitted}
 use Rattle.batch.specs.Batch.{wholeRun}
 
 -- the whole call has passed its tests
 pub record Tested (σ : Session) (k : ℕ) (words scratch outcomes : List ℕ) : Type 0 where
-  pub known : isWay k ≡ true
-  pub lawful : Lawful (σ .shape)
-  pub consistent : Consistent σ
-  pub suits : wayOf k .suits (σ .shape) ≡ true
+  pub admitted : Admitted σ k
   pub run : wholeRun (σ .shape) words ≡ true
   pub scratchSize : length scratch ≡ scratchLength (σ .shape)
   pub outcomesSize : length outcomes ≡ 192
 
 -- so one word of the run finds this
 pub record Ready (σ : Session) (k : ℕ) (word scratch values : List ℕ) : Type 0 where
-  pub known : isWay k ≡ true
-  pub lawful : Lawful (σ .shape)
-  pub consistent : Consistent σ
-  pub suits : wayOf k .suits (σ .shape) ≡ true
+  pub admitted : Admitted σ k
   pub wordSize : length word ≡ wordLength (σ .shape)
   pub scratchSize : length scratch ≡ scratchLength (σ .shape)
   pub valuesSize : length values ≡ 3

@@ -6,11 +6,8 @@ use gtb::size::scratch_length;
 use gtb::size::word_length;
 use session::Session;
 ghost use mathlib.Core.Path.{_≡_};
-ghost use mathlib.Core.Bool.{_&&_};
-ghost use lib.Dec.{eqb};
-ghost use lib.ListN.{length};
-ghost use Rattle.gtb.specs.Shape.{Lawful, scratchLength};
-ghost use Rattle.batch.specs.Batch.{wholeRun, batchStatus, Arrivals, Batching};
+ghost use Rattle.gtb.specs.Shape.{Lawful};
+ghost use Rattle.batch.specs.Batch.{wholeRun, allFit, batchStatus, Arrivals, Batching};
 ghost use Rattle.batch.specs.Steps.{Tested, Ready, OneArrival};
 
 // A run has at most so many words.
@@ -44,7 +41,7 @@ fn is_run(shape: Shape, words: &[u32]) -> bool
 // Test 2 on all that is lent.
 fn fits(shape: Shape, words: &[u32], scratch: &[u32], outcomes: &[u32]) -> bool
     requires { ⌜ Lawful shape ⌝ }
-    ensures { λ r. ⌜ r ≡ (wholeRun shape (now (words .entry)) && eqb (length (now (scratch .entry))) (scratchLength shape) && eqb (length (now (outcomes .entry))) 192) ⌝ }
+    ensures { λ r. ⌜ r ≡ allFit shape (now (words .entry)) (now (scratch .entry)) (now (outcomes .entry)) ⌝ }
 {
     if !is_run(shape, words) {
         return false;
@@ -55,24 +52,14 @@ fn fits(shape: Shape, words: &[u32], scratch: &[u32], outcomes: &[u32]) -> bool
     outcomes.len() == OUTCOMES
 }
 
-// The tests for the whole call: 1, 18, 11, 16, then 2.
+// The tests for the whole call: those of an arrival, then 2.
 fn judge(session: Session, way: u32, words: &[u32], scratch: &[u32], outcomes: &[u32]) -> Status
     ensures { λ r. ⌜ r ≡ batchStatus session way (now (words .entry)) (now (scratch .entry)) (now (outcomes .entry)) ⌝ }
 {
-    if !session::way::is_way(way) {
-        return Status::Refused(Refusal::Shape);
+    if let Status::Refused(e) = session.arrival_status(way) {
+        return Status::Refused(e);
     }
-    let shape = session.shape;
-    if !gtb::is_lawful(shape) {
-        return Status::Refused(gtb::shape_refusal(shape));
-    }
-    if !session.is_consistent() {
-        return Status::Refused(Refusal::Figures);
-    }
-    if !session::way::suits(shape, way) {
-        return Status::Refused(Refusal::Directions);
-    }
-    if !fits(shape, words, scratch, outcomes) {
+    if !fits(session.shape, words, scratch, outcomes) {
         return Status::Refused(Refusal::Length);
     }
     Status::Done

@@ -16,15 +16,16 @@ use Rattle.gtb.specs.Square.{lineOf, narrow, syndrome, silentTest}
 use Rattle.gtb.specs.Positions.{infoPosition, extractOf}
 use Rattle.correction.specs.declared.Decoded.the-variants.{Corrected}
 use Rattle.correction.specs.Error.{mended}
-use Rattle.decoder.specs.Damage.{Explains}
-use Rattle.decoder.specs.Decode.{located, alone, errorAt, restored, correctable, decodeOf}
-use Rattle.decoder.proofs.Meaning.{decode-meets}
+use Rattle.correction.specs.Reading.{changesBy, restoredBy, acceptedBy, readOf}
+use Rattle.correction.proofs.Readings.{read-means}
+use Rattle.decoder.specs.Decode.{located, alone, errorAt, restored, decodeOf}
+use Rattle.decoder.proofs.Meaning.{clean-meant}
 use Rattle.page.specs.Page.{functions, writeStatus, pageSymbols}
 use Rattle.lines.specs.Text.{ascii, decimal, spell, sameBytes}
 use Rattle.lines.specs.Content.{valuesIn, small, contentOf}
 use Rattle.session.specs.Arrival.{isWay, wayOf, theWays, opened}
 use Rattle.session.specs.Recording.{Sheet, sheetAt, symbolsOf, Recording, Arrival, arrivalAt, TurnedDown, Brings, Fits}
-use Rattle.capture.specs.Judge.{lineContent}
+use Rattle.judge.specs.Judge.{lineContent}
 use Rattle.capture.specs.Feed.{readLimit, outputOf}
 use Rattle.capture.specs.Print.{Unbroken, lineAt, linesText, captureText, arrivalOf, arrivalsIn, Prints}
 use Rattle.capture.proofs.Examples.{example}
@@ -36,7 +37,7 @@ accepted-brings : (s : Shape) (p : Sheet) (xs : List ℕ) (k : ℕ) → decodeOf
     → Brings theWays s (arrivalOf s xs) p k
 unfolding isWay wayOf
 accepted-brings s p xs k h info =
-    let x : Explains s xs (restored s xs) k = rw h at (decode-meets s xs .accepted k h) in
+    let x = read-means clean-meant s xs k h in
     record {
       known = refl;
       stored = restored s xs;
@@ -79,15 +80,15 @@ unfolding lawful regular sloped fitsSlope isOrder orders all any
 recording = record { lawful = refl; accepted = accepted; different = λ i j li lj e. omega arith }
 
 comes : Brings theWays shape (arrivalOf shape stored) sheet 0
-unfolding decodeOf correctable silentTest restored mended errorAt firstValue alone located extractOf infoPosition syndrome narrow lineOf slopeOf lawful regular sloped fitsSlope isOrder orders tabulate all any count sum bit when xorSum _⊕_ pageSymbols
+unfolding changesBy restoredBy acceptedBy readOf silentTest mended errorAt firstValue alone located extractOf infoPosition syndrome narrow lineOf slopeOf lawful regular sloped fitsSlope isOrder orders tabulate all any count sum bit when xorSum _⊕_ pageSymbols
 comes = accepted-brings shape sheet stored 0 refl refl
 
 comes-damaged : Brings theWays shape (arrivalOf shape damaged) sheet 1
-unfolding decodeOf correctable silentTest restored mended errorAt firstValue alone located extractOf infoPosition syndrome narrow lineOf slopeOf lawful regular sloped fitsSlope isOrder orders tabulate all any count sum bit when xorSum _⊕_ pageSymbols
+unfolding changesBy restoredBy acceptedBy readOf silentTest mended errorAt firstValue alone located extractOf infoPosition syndrome narrow lineOf slopeOf lawful regular sloped fitsSlope isOrder orders tabulate all any count sum bit when xorSum _⊕_ pageSymbols
 comes-damaged = accepted-brings shape sheet damaged 1 refl refl
 
 turned-down : TurnedDown theWays shape (arrivalOf shape spoiled) Refusal.Uncorrectable
-unfolding opened isWay wayOf decodeOf correctable silentTest restored mended errorAt firstValue alone located extractOf infoPosition syndrome narrow lineOf slopeOf lawful regular sloped fitsSlope isOrder orders scratchLength keptChecks tabulate all any count sum bit when xorSum _⊕_
+unfolding opened isWay wayOf changesBy restoredBy acceptedBy readOf silentTest mended errorAt firstValue alone located extractOf infoPosition syndrome narrow lineOf slopeOf lawful regular sloped fitsSlope isOrder orders scratchLength keptChecks tabulate all any count sum bit when xorSum _⊕_
 turned-down = record { by = refl }
 
 the-arrivals : arrivalsIn shape lines ≡ arrivalOf shape stored ∷ arrivalOf shape damaged ∷ arrivalOf shape spoiled ∷ []

@@ -13,13 +13,13 @@ use lib.Seq.{drop-length, drop-drop, drop-cons, getD-take, getD-drop, length-tak
 use Rattle.parity.proofs.Tests.{either, clash}
 use Rattle.lines.specs.Text.{newline, namesOutcome}
 use Rattle.lines.specs.Parse.{FirstNewline}
-use Rattle.capture.specs.declared.Phase.{Phase}
-use Rattle.capture.specs.declared.Phase.the-variants.{ShapeNames, ShapeValues, WordNames, Words, Ended}
-use Rattle.capture.specs.declared.Tally.{Tally}
-use Rattle.capture.specs.declared.Judged.{Judged}
+use Rattle.judge.specs.declared.Phase.{Phase}
+use Rattle.judge.specs.declared.Phase.the-variants.{ShapeNames, ShapeValues, WordNames, Words, Ended}
+use Rattle.judge.specs.declared.Tally.{Tally}
+use Rattle.judge.specs.declared.Judged.{Judged}
 use Rattle.capture.specs.Output.{answerText}
-use Rattle.capture.specs.Judge.{passed, judgedOf}
-use Rattle.capture.specs.Feed.{start, isEnded, Fed, after, feed, closing, written}
+use Rattle.judge.specs.Judge.{passed, judgedOf, start}
+use Rattle.capture.specs.Feed.{isEnded, Fed, after, feed, closing, written}
 use Rattle.capture.proofs.Texts.{closing-in}
 
 -- ---- one byte more

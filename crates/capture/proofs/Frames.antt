@@ -13,16 +13,16 @@ use Rattle.parity.proofs.Tests.{either}
 use Rattle.lines.specs.Text.{Put}
 use Rattle.lines.specs.Parse.{FirstNewline}
 use Rattle.session.specs.Session.{Consistent}
-use Rattle.capture.specs.declared.Tally.{Tally}
-use Rattle.capture.specs.declared.Judged.{Judged}
+use Rattle.judge.specs.declared.Tally.{Tally}
+use Rattle.judge.specs.declared.Judged.{Judged}
 use Rattle.capture.specs.declared.Reader.{Reader}
 use Rattle.capture.specs.Output.{answerText}
-use Rattle.capture.specs.Judge.{judgedOf}
+use Rattle.judge.specs.Judge.{judgedOf}
 use Rattle.capture.specs.Feed.{Fed, after, feed}
 use Rattle.capture.specs.Steps.{Appended, LineSoFar, Extended, End, LineEnded, BlockTaken}
-use Rattle.capture.proofs.Figures.{judged-consistent}
+use Rattle.judge.proofs.Figures.{judged-consistent}
 use Rattle.capture.proofs.Texts.{put-appended}
-use Rattle.capture.proofs.Judges.{long-judged}
+use Rattle.judge.proofs.Judges.{long-judged}
 use Rattle.capture.proofs.Feeds.{after-after, piece, feed-rest, feed-line}
 
 -- ---- bytes join the line
@@ -77,21 +77,16 @@ judged-held t {buffer} {line} {held} {end} e h =
     ap (λ (k : ℕ). judgedOf t (take k buffer)) (e .long l) ∙ sym (long-judged t line (h .long l)))
     (either (ltb held 16384))
 
-pub line-ended : (reader : Reader) {buffer out scratch′ out′ : List ℕ} {j : Judged} {end at : ℕ} → Consistent (reader .tally .session) → End (reader .held) end
-    → j ≡ judgedOf (reader .tally) (take end buffer) → length scratch′ ≡ 7471
+pub line-ended : (reader : Reader) {buffer out out′ : List ℕ} {end at : ℕ} {j : Judged} → Consistent (reader .tally .session) → j ≡ judgedOf (reader .tally) (take end buffer)
     → Appended out (reader .at) (answerText (j .answer)) out′ at → at ≤ reader .at + 30
-    → LineEnded reader buffer out scratch′ out′ (record { tally = j .tally; held = 0; at = at })
-line-ended reader {buffer = buffer} {out = out} {out′ = out′} {j = j} {end = end} {at = at} right e is room a few =
-    record {
-      tally = λ line h. ap (λ (x : Judged). x .tally) (is ∙ judged-held (reader .tally) e h);
-      output = λ line h.
-          subst (λ (x : Judged). Appended out (reader .at) (answerText (x .answer)) out′ at) (is ∙ judged-held (reader .tally) e h) a;
-      figures = subst (λ (x : Judged). Consistent (x .tally .session)) (sym is) (judged-consistent (reader .tally) (take end buffer) right);
-      empty = refl;
-      short = few;
-      size = a .size;
-      room = room;
-    }
+    → LineEnded reader buffer end out out′ (record { tally = j .tally; held = 0; at = at })
+line-ended reader {buffer} {out} {out′} {end} {at} right is a few = record {
+  tally = ap (λ (x : Judged). x .tally) is;
+  output = subst (λ (x : Judged). Appended out (reader .at) (answerText (x .answer)) out′ at) is a;
+  figures = subst (λ (x : Judged). Consistent (x .tally .session)) (sym is) (judged-consistent (reader .tally) (take end buffer) right);
+  empty = refl;
+  short = few;
+}
 
 -- ---- a block, of which the first `from` bytes have been taken
 -- the line so far; what is left leads to the same end
@@ -100,38 +95,36 @@ pub record Left (fed : Fed) (block buffer out : List ℕ) (reader : Reader) (fro
   pub held : LineSoFar buffer (reader .held) line
   pub same : after (take (reader .at) out) (feed (reader .tally) line (drop from block)) ≡ fed
 
-pub record Reading (reader₀ : Reader) (buffer₀ block buffer scratch out : List ℕ) (reader : Reader) (from : ℕ) : Type 0 where
+pub record Reading (reader₀ : Reader) (buffer₀ block buffer out : List ℕ) (reader : Reader) (from : ℕ) : Type 0 where
   pub left : (line : List ℕ) → LineSoFar buffer₀ (reader₀ .held) line → Left (feed (reader₀ .tally) line block) block buffer out reader from
   pub figures : Consistent (reader .tally .session)
   pub low : from ≤ length block
   pub few : reader .at ≤ 30 * from
   pub buffer-size : length buffer ≡ 16384
-  pub scratch-size : length scratch ≡ 7471
   pub out-size : length out ≡ 491584
 
 -- none yet
-pub reading-begins : (reader : Reader) (buffer block scratch out : List ℕ) → Consistent (reader .tally .session) → reader .at ≡ 0 → length buffer ≡ 16384 → length scratch ≡ 7471 → length out ≡ 491584
-    → Reading reader buffer block buffer scratch out reader 0
-reading-begins reader buffer block scratch out right none b s o =
+pub reading-begins : (reader : Reader) (buffer block out : List ℕ) → Consistent (reader .tally .session) → reader .at ≡ 0 → length buffer ≡ 16384 → length out ≡ 491584
+    → Reading reader buffer block buffer out reader 0
+reading-begins reader buffer block out right none b o =
     record {
       left = λ line h. record { line = line; held = h; same = ap (λ (k : ℕ). after (take k out) (feed (reader .tally) line block)) none };
       figures = right;
       low = omega arith;
       few = omega arith;
       buffer-size = b;
-      scratch-size = s;
       out-size = o;
     }
 
-module _ {reader₀ : Reader} {buffer₀ block buffer scratch out : List ℕ} {reader : Reader} {from to : ℕ}
-    (r : Reading reader₀ buffer₀ block buffer scratch out reader from) (f : FirstNewline block from (length block) to)
+module _ {reader₀ : Reader} {buffer₀ block buffer out : List ℕ} {reader : Reader} {from to : ℕ}
+    (r : Reading reader₀ buffer₀ block buffer out reader from) (f : FirstNewline block from (length block) to)
     {buffer′ : List ℕ} {held′ : ℕ} (x : Extended buffer (reader .held) (piece block from to) buffer′ held′) where
   -- the line with the bytes up to the newline
   abbrev grown : Reader
   grown = record { tally = reader .tally; held = held′; at = reader .at }
 
   -- the last piece
-  pub block-taken : to ≡ length block → length block ≤ 16384 → BlockTaken reader₀ buffer₀ block buffer′ scratch out grown
+  pub block-taken : to ≡ length block → length block ≤ 16384 → BlockTaken reader₀ buffer₀ block buffer′ out grown
   block-taken all few =
       record {
         fed = λ line h.
@@ -145,27 +138,27 @@ module _ {reader₀ : Reader} {buffer₀ block buffer scratch out : List ℕ} {r
         figures = r .figures;
         within = omega (arith, r .few, r .low);
         line = x .size;
-        room = r .scratch-size;
         size = r .out-size;
       }
 
   -- a line, and on with the byte after its newline
-  pub reading-on : {scratch′ out′ : List ℕ} {reader′ : Reader} → to < length block → LineEnded grown buffer′ out scratch′ out′ reader′
-      → Reading reader₀ buffer₀ block buffer′ scratch′ out′ reader′ (to + 1)
-  reading-on {scratch′} {out′} {reader′} more e =
+  pub reading-on : {end : ℕ} {out′ : List ℕ} {reader′ : Reader} → to < length block → End held′ end → LineEnded grown buffer′ end out out′ reader′
+      → Reading reader₀ buffer₀ block buffer′ out′ reader′ (to + 1)
+  reading-on {end} {out′} {reader′} more upto e =
       record {
         left = λ line h.
             let l = r .left line h in
             let line′ = l .line ++ piece block from to in
-            let held = x .joined (l .line) (l .held) in
             let j = judgedOf (reader .tally) line′ in
+            let same : judgedOf (reader .tally) (take end buffer′) ≡ j = judged-held (reader .tally) upto (x .joined (l .line) (l .held)) in
             let rest = drop (to + 1) block in
             record {
               line = [];
               held = record { size = x .size; kept = λ _. ap (λ (k : ℕ). take k buffer′) (e .empty); long = λ m. absurd (omega (arith, e .empty)) };
               same =
-                  ap (λ (t : List ℕ). after t (feed (reader′ .tally) [] rest)) (e .output line′ held .front)
-                  ∙ ap (λ (t : Tally). after (take (reader .at) out ++ answerText (j .answer)) (feed t [] rest)) (e .tally line′ held)
+                  ap (λ (t : List ℕ). after t (feed (reader′ .tally) [] rest)) (e .output .front)
+                  ∙ ap (λ (t : Tally). after (take (reader .at) out ++ answerText (judgedOf (reader .tally) (take end buffer′) .answer)) (feed t [] rest)) (e .tally)
+                  ∙ ap (λ (y : Judged). after (take (reader .at) out ++ answerText (y .answer)) (feed (y .tally) [] rest)) same
                   ∙ after-after (take (reader .at) out) (answerText (j .answer)) (feed (j .tally) [] rest)
                   ∙ ap (after (take (reader .at) out)) (sym (feed-line (reader .tally) (l .line) f more))
                   ∙ l .same;
@@ -174,6 +167,5 @@ module _ {reader₀ : Reader} {buffer₀ block buffer scratch out : List ℕ} {r
         low = omega arith;
         few = omega (arith, r .few, e .short, f .low);
         buffer-size = x .size;
-        scratch-size = e .room;
-        out-size = e .size ∙ r .out-size;
+        out-size = e .output .size ∙ r .out-size;
       }

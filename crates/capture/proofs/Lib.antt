@@ -1,12 +1,8 @@
 pub mod Texts
-pub mod Judges
 pub mod Feeds
-pub mod Figures
 pub mod Frames
-pub mod Glances
 pub mod Examples
 pub mod Whole
-pub mod Standards
 pub mod Print
 pub mod Ranks
 pub mod Printed

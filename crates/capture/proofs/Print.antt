@@ -11,7 +11,6 @@ use lib.ListN.{length, getD, length-append, length-replicate}
 use Rattle.parity.proofs.Tests.{and-left, and-right}
 use Rattle.parity.proofs.Lists.{length-tabulate}
 use Rattle.gtb.specs.declared.Shape.{Shape}
-use Rattle.gtb.specs.declared.Refusal.{Refusal}
 use Rattle.gtb.specs.Shape.{Lawful, standard}
 use Rattle.gtb.proofs.Bounds.{bounds}
 use Rattle.lines.specs.Text.{newline, space, decimal, spell, namesShape, namesWord, sameBytes}
@@ -27,18 +26,17 @@ use Rattle.session.specs.Arrival.{theWays, Opened, Page, Bad, outcomeOf, sessio
 use Rattle.session.specs.Recording.{Arrival}
 use Rattle.session.specs.Claim.{Run, stop, step}
 use Rattle.session.proofs.Arrive.{step-arrives}
-use Rattle.session.proofs.Joins.{after-shape}
-use Rattle.capture.specs.declared.Phase.{Phase}
-use Rattle.capture.specs.declared.Phase.the-variants.{ShapeValues, WordNames, Words}
-use Rattle.capture.specs.declared.Tally.{Tally}
-use Rattle.capture.specs.declared.Answer.{Answer}
-use Rattle.capture.specs.declared.Answer.the-variants.{Nothing, Line}
-use Rattle.capture.specs.declared.Judged.{Judged}
+use Rattle.session.proofs.Alikes.{shape-kept}
+use Rattle.judge.specs.declared.Phase.{Phase}
+use Rattle.judge.specs.declared.Phase.the-variants.{ShapeValues, WordNames, Words}
+use Rattle.judge.specs.declared.Tally.{Tally}
+use Rattle.judge.specs.declared.Answer.the-variants.{Line}
+use Rattle.judge.specs.declared.Judged.{Judged}
 use Rattle.capture.specs.Output.{outcomeLine}
-use Rattle.capture.specs.Judge.{lineContent, passed, broughtBy, arrived, worded, judgedOf}
-use Rattle.capture.specs.Feed.{start, after, feed}
+use Rattle.judge.specs.Judge.{lineContent, passed, broughtBy, arrived, judgedOf, start}
+use Rattle.capture.specs.Feed.{after, feed}
 use Rattle.capture.specs.Print.{Unbroken, lineAt, linesText, captureText, joining, arrivalsIn, answerLines}
-use Rattle.capture.proofs.Figures.{word-consistent}
+use Rattle.judge.proofs.Figures.{word-consistent}
 use Rattle.capture.proofs.Feeds.{next, feed-none, feed-end, feed-run, after-after}
 
 -- ---- texts without a newline
@@ -164,27 +162,17 @@ module _ (q n b : ℕ) (law : Lawful (standard q n b)) where
 abbrev words : Session → Tally
 words σ = record { phase = Words; session = σ }
 
--- the outcome that is answered; a word line is answered with one
-abbrev outcomeIn : Answer → Outcome
-outcomeIn Nothing = Refused Refusal.Shape
-outcomeIn (Line r) = r
-
 -- the answer to what a line says, and the session after it
 abbrev pub replied : Session → Content → Outcome
-replied σ c = outcomeIn (worded σ c .answer)
+replied σ c = outcomeOf σ (broughtBy (σ .shape) c)
 
 abbrev pub left : Session → Content → Session
-left σ c = worded σ c .tally .session
-
-content-judged : (σ : Session) (c : Content) → worded σ c ≡ record { tally = words (left σ c); answer = Line (replied σ c) }
-unfolding arrived
-content-judged σ (Spelled xs) = refl
-content-judged σ Unreadable = refl
+left σ c = sessionAfter σ (broughtBy (σ .shape) c)
 
 word-judged : (σ : Session) (line : List ℕ)
     → judgedOf (words σ) line ≡ record { tally = words (left σ (lineContent line)); answer = Line (replied σ (lineContent line)) }
-unfolding judgedOf
-word-judged σ line = content-judged σ (lineContent line)
+unfolding judgedOf arrived
+word-judged σ line = refl
 
 -- one line after the other
 abbrev pub answersTo : Session → List (List ℕ) → List Outcome
@@ -224,9 +212,8 @@ by-calls σ (Page number marks k) (Refused e) h = h
 by-calls σ (Bad e) r h = h
 
 left-calls : (σ : Session) (c : Content) → length (σ .calls) ≡ 256 → length (left σ c .calls) ≡ 256
-unfolding arrived sessionAfter
-left-calls σ (Spelled xs) h = by-calls σ (broughtBy σ xs) (outcomeOf σ (broughtBy σ xs)) h
-left-calls σ Unreadable h = h
+unfolding sessionAfter
+left-calls σ c = by-calls σ (broughtBy (σ .shape) c) (replied σ c)
 
 end-calls : (lines : List (List ℕ)) (σ : Session) → length (σ .calls) ≡ 256 → length (endOf σ lines .calls) ≡ 256
 end-calls [] σ h = h
@@ -248,17 +235,14 @@ repliesTo σ [] = []
 repliesTo σ (line ∷ lines) = joins (lineContent line) (replied σ (lineContent line)) (repliesTo (left σ (lineContent line)) lines)
 
 left-shape : (σ : Session) (c : Content) → left σ c .shape ≡ σ .shape
-unfolding arrived
-left-shape σ (Spelled xs) = after-shape σ (broughtBy σ xs)
-left-shape σ Unreadable = refl
+left-shape σ c = shape-kept σ (broughtBy (σ .shape) c)
 
 -- the program steps past test 11, which a session with right figures passes
 content-run : (σ : Session) → Consistent σ → (c : Content) {arrivals : List Arrival} {answers : List Outcome} {end : Session}
     → Run theWays (left σ c) arrivals answers end → Run theWays σ (joining (σ .shape) c arrivals) (joins c (replied σ c) answers) end
-unfolding arrived
+unfolding sessionAfter
 content-run σ right (Spelled xs) run =
-    let o : Opened = broughtBy σ xs in
-    let r : Arrived = record { session = sessionAfter σ o; outcome = outcomeOf σ o } in
+    let r : Arrived = record { session = left σ (Spelled xs); outcome = replied σ (Spelled xs) } in
     step {r = r} (step-arrives theWays σ 0 right (record { outcome = refl; values = refl; session = refl; wordLeft = refl; scratchLeft = refl })) run
 content-run σ right Unreadable run = run
 

@@ -26,12 +26,12 @@ use Rattle.session.specs.Recording.{Sheet, sheetAt, Recording, tally, Arrival, 
 use Rattle.session.specs.Claim.{come, answerAt, answerTo, Demand3}
 use Rattle.session.proofs.Demand.{demand3-ways}
 use Rattle.session.proofs.Progress.{fresh-consistent}
-use Rattle.capture.specs.declared.Phase.the-variants.{Words}
-use Rattle.capture.specs.declared.Tally.{Tally}
+use Rattle.judge.specs.declared.Phase.the-variants.{Words}
+use Rattle.judge.specs.declared.Tally.{Tally}
 use Rattle.capture.specs.declared.Reader.{Reader}
 use Rattle.capture.specs.Output.{outcomeLine, refusedLine, callsText}
-use Rattle.capture.specs.Judge.{lineContent}
-use Rattle.capture.specs.Feed.{start, after, closing, written, readLimit, outputOf}
+use Rattle.judge.specs.Judge.{lineContent, start}
+use Rattle.capture.specs.Feed.{after, closing, written, readLimit, outputOf}
 use Rattle.capture.specs.Steps.{Finished}
 use Rattle.capture.specs.Whole.{BlockRun, joined}
 use Rattle.capture.specs.Print.{Unbroken, lineAt, captureText, arrivalOf, arrivalsIn, LineBrings, answerLines, cutLine, ownTable, Prints, tableFrom, secondTable}

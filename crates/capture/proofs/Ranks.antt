@@ -11,8 +11,9 @@ use Rattle.session.specs.declared.Session.{Session}
 use Rattle.session.specs.declared.Outcome.{Outcome}
 use Rattle.session.specs.declared.Outcome.the-variants.{Refused}
 use Rattle.session.specs.Recording.{Arrival, arrivalAt}
+use Rattle.session.specs.Arrival.{outcomeOf}
 use Rattle.session.specs.Claim.{answerAt}
-use Rattle.capture.specs.Judge.{lineContent}
+use Rattle.judge.specs.Judge.{lineContent}
 use Rattle.capture.specs.Print.{lineAt, arrivalOf, joining, arrivalsIn}
 use Rattle.capture.proofs.Print.{replied, left, answersTo, joins, repliesTo}
 
@@ -99,6 +100,7 @@ line-before s (line ∷ lines) (suc i) m l = before-more s line lines i (lineCon
 -- ---- an unreadable line
 pub line-unread : (lines : List (List ℕ)) (σ : Session) (i : ℕ) → i < length lines → lineContent (lineAt lines i) ≡ Unreadable
     → answerAt (answersTo σ lines) i ≡ Refused Refusal.Syntax
+unfolding outcomeOf
 line-unread [] σ i l e = absurd (not-suc-le-zero l)
 line-unread (line ∷ lines) σ zero l e = ap (replied σ) e
 line-unread (line ∷ lines) σ (suc i) l e = line-unread lines (left σ (lineContent line)) i (le-of-suc-le-suc l) e

@@ -1,6 +1,6 @@
 -- Texts written one after another at the end of the output that waits.
 use mathlib.Core.Path.{_≡_, refl, sym, ap, _∙_}
-use mathlib.Core.Bool.{Bool, true, false}
+use mathlib.Core.Bool.{Bool}
 use mathlib.Core.List.{List, [], _++_, map-id, append-assoc, append-nil}
 use mathlib.Core.Logic.{⊎-elim}
 use Prim.Native.Nat.{ℕ, _+_, _*_, _^_, _≤_, _<_}
@@ -15,7 +15,6 @@ use mir.Val.{Val}
 use denote.Plain.{UInt}
 use denote.Array.{Array}
 use denote.Laws.{Is}
-use Rattle.gtb.specs.declared.Refusal.{Refusal}
 use Rattle.parity.proofs.Tests.{either}
 use Rattle.lines.specs.Text.{countText, outcomeText, Put, pasted}
 use Rattle.lines.proofs.Decimals.{at-most-ten}
@@ -25,10 +24,9 @@ use Rattle.session.specs.declared.Outcome.the-variants.{Taken, Again, Refused}
 use Rattle.session.specs.Arrival.{outcomeValues}
 use Rattle.session.specs.Steps.{Counts}
 use Rattle.session.proofs.Arrays.{counts}
-use Rattle.capture.specs.declared.Phase.{Phase}
-use Rattle.capture.specs.declared.Phase.the-variants.{Words}
-use Rattle.capture.specs.declared.Tally.{Tally}
-use Rattle.capture.specs.Output.{outcomeLine, refusedLine, callsFrom, callsText}
+use Rattle.judge.specs.declared.Phase.{Phase}
+use Rattle.judge.specs.declared.Tally.{Tally}
+use Rattle.capture.specs.Output.{outcomeLine, callsFrom}
 use Rattle.capture.specs.Feed.{closing, closingIn}
 use Rattle.capture.specs.Steps.{Appended, LineSoFar, Closed}
 
@@ -132,13 +130,6 @@ counting-ends {calls = calls} {out} {next = next} {f = f} l h = h .left out next
 pub closing-in : (t : Tally) (line : List ℕ) {p : Phase} → t .phase ≡ p → closing t line ≡ closingIn p (t .session) line
 unfolding closing
 closing-in t line e = rw e
-
-module _ (t : Tally) (line : List ℕ) (words : t .phase ≡ Words) {whole : Bool} (same : whole ≡ eqb (length line) 0) where
-  pub closing-whole : whole ≡ true → closing t line ≡ callsText (t .session .calls)
-  closing-whole e = closing-in t line words ∙ rw (← same, e)
-
-  pub closing-begun : whole ≡ false → closing t line ≡ refusedLine Refusal.Syntax ++ callsText (t .session .calls)
-  closing-begun e = closing-in t line words ∙ rw (← same, e)
 
 -- the text at the end, written from the start on
 pub closed-by : {t : Tally} {whole : Bool} {old text new : List ℕ} {r : ℕ} → ((line : List ℕ) → whole ≡ eqb (length line) 0 → closing t line ≡ text)

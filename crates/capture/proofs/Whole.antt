@@ -7,9 +7,10 @@ use native.Mathlib.Omega.{arith}
 use lib.ListN.{length, take}
 use lib.Seq.{take-all, take-append-add, take-at}
 use Rattle.lines.specs.Text.{namesOutcome}
-use Rattle.capture.specs.declared.Tally.{Tally}
+use Rattle.judge.specs.declared.Tally.{Tally}
 use Rattle.capture.specs.declared.Reader.{Reader}
-use Rattle.capture.specs.Feed.{start, isEnded, Fed, feed, closing, written, readLimit, outputOf}
+use Rattle.judge.specs.Judge.{start}
+use Rattle.capture.specs.Feed.{isEnded, Fed, feed, closing, written, readLimit, outputOf}
 use Rattle.capture.specs.Steps.{LineSoFar, Finished}
 use Rattle.capture.specs.Whole.{BlockRun, None, Block, joined}
 use Rattle.capture.proofs.Feeds.{feed-none, feed-append, ended-rest}

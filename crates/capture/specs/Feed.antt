@@ -7,17 +7,11 @@ use lib.ListN.{length, take}
 use Rattle.gtb.specs.declared.Refusal.{Refusal}
 use Rattle.lines.specs.Text.{newline, namesOutcome}
 use Rattle.session.specs.declared.Session.{Session}
-use Rattle.session.specs.Session.{freshOf}
-use Rattle.gtb.specs.Shape.{standard}
-use Rattle.capture.specs.declared.Phase.{Phase}
-use Rattle.capture.specs.declared.Phase.the-variants.{ShapeNames, ShapeValues, WordNames, Words, Ended}
-use Rattle.capture.specs.declared.Tally.{Tally}
+use Rattle.judge.specs.declared.Phase.{Phase}
+use Rattle.judge.specs.declared.Phase.the-variants.{ShapeNames, ShapeValues, WordNames, Words, Ended}
+use Rattle.judge.specs.declared.Tally.{Tally}
 use Rattle.capture.specs.Output.{answerText, refusedLine, callsText}
-use Rattle.capture.specs.Judge.{judgedOf}
-
--- before the first line; the session is of no use until line 2 has come
-unfoldable pub start : Tally
-start = record { phase = ShapeNames; session = freshOf (standard 0 0 0) }
+use Rattle.judge.specs.Judge.{judgedOf, start}
 
 -- a fault ends the program
 abbrev pub isEnded : Phase → Bool

@@ -1,5 +1,4 @@
 pub mod Output
-pub mod Judge
 pub mod Feed
 pub mod Steps
 pub mod Whole

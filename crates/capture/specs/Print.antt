@@ -17,7 +17,7 @@ use Rattle.session.specs.Arrival.{theWays}
 use Rattle.session.specs.Recording.{Sheet, sheetAt, tally, Arrival, TurnedDown, Brings}
 use Rattle.session.specs.Claim.{answerAt}
 use Rattle.capture.specs.Output.{outcomeLine, refusedLine, callsText}
-use Rattle.capture.specs.Judge.{lineContent}
+use Rattle.judge.specs.Judge.{lineContent}
 
 -- ---- a capture
 

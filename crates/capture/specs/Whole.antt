@@ -8,9 +8,8 @@ use Rattle.capture.specs.Steps.{BlockTaken}
 
 -- one block taken, and what it wrote
 pub record BlockStep (reader : Reader) (buffer block : List ℕ) (text : List ℕ) (reader′ : Reader) (buffer′ : List ℕ) : Type 0 where
-  pub scratch : List ℕ
   pub out : List ℕ
-  pub taken : BlockTaken reader buffer block buffer′ scratch out reader′
+  pub taken : BlockTaken reader buffer block buffer′ out reader′
   pub wrote : text ≡ take (reader′ .at) out
 
 -- all blocks in turn, and what they wrote together

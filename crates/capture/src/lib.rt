@@ -1,53 +1,23 @@
 // The tally program without its input and output: a capture comes in blocks of bytes, and text goes out.
-mod glance;
-mod judge;
 mod output;
 
-use crate::glance::glance;
-use crate::glance::line_end;
-use crate::judge::judge;
 use crate::output::put_answer;
 use crate::output::put_closing;
+use crate::output::put_line;
 use gtb::Shape;
-use session::Outcome;
+use judge::Phase;
+use judge::Seen;
+use judge::Tally;
+use judge::glance::glance;
 use session::Session;
 ghost use mathlib.Core.Path.{_≡_};
-ghost use Prim.Native.Nat.{_+_, _≤_, min};
-ghost use lib.ListN.{length};
+ghost use Prim.Native.Nat.{_+_, _<_, _≤_, min};
+ghost use lib.ListN.{length, take};
 ghost use Rattle.session.specs.Session.{Consistent};
-ghost use Rattle.capture.specs.Feed.{start, isEnded, readLimit};
-ghost use Rattle.capture.specs.Steps.{Extended, LineEnded, BlockTaken, Finished};
-
-// Which line is next: the first three, a word line, or none any more after a fault.
-pub enum Phase {
-    ShapeNames,
-    ShapeValues,
-    WordNames,
-    Words,
-    Ended,
-}
-
-pub struct Tally {
-    pub phase: Phase,
-    pub session: Session,
-}
-
-// What a line is answered with: nothing, or a line of output.
-pub enum Answer {
-    Nothing,
-    Line(Outcome),
-}
-
-pub struct Judged {
-    pub tally: Tally,
-    pub answer: Answer,
-}
-
-// What a look at a line tells: its outcome, if it is known to leave the tally as it is.
-pub enum Foreseen {
-    Known(Outcome),
-    Open,
-}
+ghost use Rattle.judge.specs.Judge.{start};
+ghost use Rattle.capture.specs.Feed.{isEnded, readLimit};
+ghost use Rattle.judge.specs.Steps.{Foretold};
+ghost use Rattle.capture.specs.Steps.{End, Extended, LineEnded, BlockTaken, Finished};
 
 // The tally, the length of the line so far, and the length of the output that waits. A line too long counts as 16,384.
 pub struct Reader {
@@ -99,14 +69,27 @@ fn append(line: &mut [u8], held: usize, bytes: &[u8]) -> usize
     lines::put_text(line, held, bytes)
 }
 
-// Judges the line so far and writes the answer. One too long is malformed, as an empty one is.
-fn end_line(reader: Reader, line: &[u8], scratch: &mut [u32], out: &mut [u8]) -> Reader
-    requires { ⌜ Consistent (reader .tally .session) × (length (now line) ≡ 16384) × (length (now scratch) ≡ 7471) × (reader .at + 40 ≤ length (now out)) ⌝ }
-    ensures { λ r. ⌜ LineEnded reader (now (line .entry)) (now (out .entry)) (now (scratch .exit)) (now (out .exit)) r ⌝ }
+// How much of the line so far is judged. One too long is malformed, as an empty one is.
+fn line_end(held: usize) -> usize
+    ensures { λ r. ⌜ End held r ⌝ }
 {
-    let end = line_end(reader.held);
+    if held < 16384 { held } else { 0 }
+}
+
+// Judges the line and writes the answer.
+fn end_line(
+    reader: Reader,
+    seen: Seen,
+    line: &[u8],
+    end: usize,
+    symbols: &[u32],
+    out: &mut [u8],
+) -> Reader
+    requires { ⌜ Consistent (reader .tally .session) × (length (now line) ≡ 16384) × (end < 16384) × Foretold (reader .tally) (take end (now line)) (now symbols) seen × (reader .at + 40 ≤ length (now out)) ⌝ }
+    ensures { λ r. ⌜ LineEnded reader (now (line .entry)) end (now (out .entry)) (now (out .exit)) r ⌝ }
+{
     let before = reader.tally;
-    let judged = judge(before, &line[..end], scratch);
+    let judged = judge::judge(before, seen, &line[..end], symbols);
     let tally = judged.tally;
     let answer = judged.answer;
     let at = put_answer(out, reader.at, answer);
@@ -114,15 +97,9 @@ fn end_line(reader: Reader, line: &[u8], scratch: &mut [u32], out: &mut [u8]) ->
 }
 
 // Takes a block. The output on the way stands at the start of `out`, which has room for it: 30 bytes for each byte of the block.
-pub fn take_block(
-    reader: Reader,
-    block: &[u8],
-    line: &mut [u8],
-    scratch: &mut [u32],
-    out: &mut [u8],
-) -> Reader
-    requires { ⌜ Consistent (reader .tally .session) × (length (now block) ≤ 16384) × (length (now line) ≡ 16384) × (length (now scratch) ≡ 7471) × (length (now out) ≡ 491584) ⌝ }
-    ensures { λ r. ⌜ BlockTaken reader (now (line .entry)) (now (block .entry)) (now (line .exit)) (now (scratch .exit)) (now (out .exit)) r ⌝ }
+pub fn take_block(reader: Reader, block: &[u8], line: &mut [u8], out: &mut [u8]) -> Reader
+    requires { ⌜ Consistent (reader .tally .session) × (length (now block) ≤ 16384) × (length (now line) ≡ 16384) × (length (now out) ≡ 491584) ⌝ }
+    ensures { λ r. ⌜ BlockTaken reader (now (line .entry)) (now (block .entry)) (now (line .exit)) (now (out .exit)) r ⌝ }
 {
     let mut reader = reader;
     reader.at = 0;
@@ -135,16 +112,17 @@ pub fn take_block(
         if to == block.len() {
             return reader;
         }
+        from = to + 1;
+        let end = line_end(reader.held);
         let tally = reader.tally;
         let taken = &reader.tally.session.taken;
-        let seen = glance(tally, taken, line, reader.held, &mut values, &mut symbols);
-        from = to + 1;
-        if let Foreseen::Known(outcome) = seen {
+        let seen = glance(tally, taken, line, end, &mut values, &mut symbols);
+        if let Seen::Known(outcome) = seen {
             reader.held = 0;
-            reader.at = put_answer(out, reader.at, Answer::Line(outcome));
+            reader.at = put_line(out, reader.at, outcome);
             continue;
         }
-        reader = end_line(reader, line, scratch, out);
+        reader = end_line(reader, seen, line, end, &symbols, out);
     }
 }
 

@@ -1,8 +1,8 @@
 // Answers as text at the end of the output that waits.
-use crate::Answer;
-use crate::Phase;
-use crate::Tally;
 use gtb::Refusal;
+use judge::Answer;
+use judge::Phase;
+use judge::Tally;
 use session::Outcome;
 use session::Session;
 ghost use Prim.Native.Nat.{_+_, _≤_};
@@ -10,7 +10,7 @@ ghost use lib.ListN.{length};
 ghost use Rattle.capture.specs.Output.{outcomeLine, answerText, callsFrom, callsText};
 ghost use Rattle.capture.specs.Steps.{Appended, Closed};
 
-fn put_line(out: &mut [u8], at: usize, outcome: Outcome) -> usize
+pub fn put_line(out: &mut [u8], at: usize, outcome: Outcome) -> usize
     requires { ⌜ at + 40 ≤ length (now out) ⌝ }
     ensures { λ r. ⌜ Appended (now (out .entry)) at (outcomeLine outcome) (now (out .exit)) r × (r ≤ at + 30) ⌝ }
 {

@@ -6,3 +6,6 @@ pub mod Toggles
 pub mod Silence
 pub mod Errors
 pub mod Tables
+pub mod Readings
+pub mod Near
+pub mod Slopes

@@ -1,11 +1,14 @@
--- The list of the numbers that pass a test, made by going through the numbers in rising order.
+-- The list of the numbers that pass a test, made by going through the numbers in rising order, and lists of values beside it.
 use mathlib.Core.Path.{_≡_, refl, sym, ap, ap₂, _∙_, subst}
-use mathlib.Core.Bool.{Bool, true, false, _&&_, _||_}
+use mathlib.Core.Bool.{Bool, true, false, not, _&&_, _||_}
 use mathlib.Core.List.{List}
+use mathlib.Core.Logic.{⊎-elim}
 use Prim.Native.Nat.{ℕ, zero, suc, _+_, _-_, _<_, _≤_}
 use native.Mathlib.Nat.{add-zero, le-step, lt-suc-self, ne-of-lt, not-suc-le-zero}
 use native.Mathlib.Omega.{arith}
 use borrow.Author.Count.{below-more}
+use borrow.Author.Tests.{eqb-true}
+use lib.Dec.{eqb}
 use lib.ListN.{length, set, length-set}
 use lib.Seq.{getD-set-same, getD-set-other}
 use Rattle.parity.specs.Xor.{_⊕_, xorSum, when}
@@ -13,9 +16,12 @@ use Rattle.parity.specs.Count.{bit, count, any}
 use Rattle.parity.proofs.Xors.{zero-r}
 use Rattle.parity.proofs.XorSums.{xs-zero, cong, more}
 use Rattle.parity.proofs.Sums.{sum-split, count-zero, count-more}
-use Rattle.parity.proofs.Tests.{any-zero, any-more, any-cong}
+use Rattle.parity.proofs.Tests.{either, any-zero, any-more, any-cong}
+use Rattle.gtb.specs.declared.Shape.{Shape}
+use Rattle.gtb.specs.Shape.{Lawful, wordLength}
 use Rattle.gtb.specs.Square.{at}
-use Rattle.correction.specs.Steps.{Listed, Scanned}
+use Rattle.gtb.proofs.Bounds.{bounds}
+use Rattle.correction.specs.Steps.{Gathered, Within, Lists, Listed, Scanned}
 
 -- before the first number
 pub listed-none : (p : ℕ → Bool) (places : List ℕ) → length places ≡ 8 → Listed p 0 0 places
@@ -74,6 +80,10 @@ listed-skips {p} {m} {k} {places} zero n h = rw (add-zero m) h
 listed-skips {p} {m} {k} {places} (suc d) n h =
     subst (λ (x : ℕ). Listed p x k places) (omega arith) (listed-skip (n d (lt-suc-self d)) (listed-skips d (λ c l. n c (le-step l)) h))
 
+-- the listed places are positions
+pub within : {s : Shape} {p : ℕ → Bool} {k : ℕ} {places : List ℕ} → Lawful s → k < s .n → Listed p (wordLength s) k places → Within s k places
+within {s} h lk l = record { few = omega (arith, bounds s h .n8); below = l .below }
+
 -- ---- a search that ends at n
 pub scanned-few : {p : ℕ → Bool} {n m k : ℕ} {places : List ℕ} → k < n → Listed p m k places → Scanned p n m k places
 scanned-few l h = record { few = λ l′. h; many = λ l′. absurd (omega arith) }
@@ -87,3 +97,39 @@ count-grows p {m} {m′} l =
 
 pub scanned-many : {p : ℕ → Bool} {n : ℕ} {places : List ℕ} (m : ℕ) {m′ : ℕ} → m ≤ m′ → n ≤ count m p → Scanned p n m′ n places
 scanned-many {p} m l h = record { few = λ l′. absurd (omega arith); many = λ l′. omega (arith, count-grows p l) }
+
+-- ---- values put into a list, one after the other
+pub gathered-none : (room : ℕ) (f : ℕ → ℕ) (values : List ℕ) → length values ≡ room → Gathered room f 0 values
+gathered-none room f values e = record { size = e; value = λ x l. absurd (not-suc-le-zero l) }
+
+pub gathered-more : {room : ℕ} {f : ℕ → ℕ} {m : ℕ} {values : List ℕ} (v : ℕ) → m < room → v ≡ f m → Gathered room f m values → Gathered room f (m + 1) (set values m v)
+gathered-more {room} {f} {m} {values} v l e h = record {
+  size = length-set values m v ∙ h .size;
+  value = below-more (λ x. at (set values m v) x ≡ f x) m (λ x lx. getD-set-other values m x v 0 (ne-of-lt lx) ∙ h .value x lx)
+      (getD-set-same values m v 0 (rw (h .size) l) ∙ e);
+}
+
+-- ---- the values at the places that pass a test are an error
+when-swap : (a b : Bool) (x : ℕ) → when a (when b x) ≡ when b (when a x)
+unfolding when
+when-swap true b x = refl
+when-swap false true x = refl
+when-swap false false x = refl
+
+pub listed-lists : (s : Shape) {p : ℕ → Bool} (f : ℕ → ℕ) {k : ℕ} {places errors : List ℕ} → Listed p (wordLength s) k places → Gathered 8 (λ x. f (at places x)) k errors
+    → Lists s (λ j. when (p j) (f j)) k places errors
+listed-lists s {p} f {k} {places} l m = record {
+  sums = λ g.
+      cong (wordLength s) _ _ (λ j lj. when-swap (g j) (p j) (f j))
+      ∙ l .sums (λ j. when (g j) (f j))
+      ∙ cong k _ _ (λ x lx. ap (when (g (at places x))) (sym (m .value x lx)));
+}
+
+pub lists-cong : {s : Shape} {error error′ : ℕ → ℕ} {k : ℕ} {places errors : List ℕ} → ((j : ℕ) → j < wordLength s → error′ j ≡ error j)
+    → Lists s error k places errors → Lists s error′ k places errors
+lists-cong {s} same l = record { sums = λ g. cong (wordLength s) _ _ (λ j lj. ap (when (g j)) (same j lj)) ∙ l .sums g }
+
+-- what is not zero is all that counts
+pub when-nonzero : (x : ℕ) → x ≡ when (not (eqb x 0)) x
+unfolding when
+when-nonzero x = ⊎-elim (λ (z : eqb x 0 ≡ true). rw z (eqb-true x 0 z)) (λ (z : eqb x 0 ≡ false). rw z) (either (eqb x 0))

@@ -15,12 +15,13 @@ use Rattle.parity.proofs.Tests.{same, all-elim, all-intro, all-cong}
 use Rattle.parity.proofs.Lists.{is-tabulate}
 use Rattle.gtb.specs.declared.Shape.{Shape}
 use Rattle.gtb.specs.Shape.{Lawful, wordLength}
-use Rattle.gtb.specs.Square.{lineOf, at, syndrome, silentTest, Syndromes}
+use Rattle.gtb.specs.Square.{lineOf, at, syndrome, silentTest, Word, Codeword, Syndromes}
 use Rattle.gtb.proofs.Bounds.{positive}
 use Rattle.gtb.proofs.Lines.{line-lt}
 use Rattle.gtb.proofs.Rows.{syndrome-cong, syndrome-linear}
+use Rattle.gtb.proofs.Words.{test-silent}
 use Rattle.correction.specs.Error.{checkOf, onCheck, mended}
-use Rattle.correction.specs.Steps.{Lists, Toggled, Cancelled}
+use Rattle.correction.specs.Steps.{quiet, Lists, Toggled, Cancelled}
 use Rattle.correction.proofs.Errors.{mended-at}
 
 -- a test of n × q places, by rows
@@ -39,6 +40,16 @@ pub shown : (s : Shape) → Lawful s → (w syn : List ℕ) → Syndromes s w sy
     → at syn (checkOf s j t) ≡ onCheck s (at w) j t
 shown s h w syn y j t lj lt = y .entry t (lineOf s t j) lt (line-lt s h t j lt lj)
 
+-- and whether the word is silent
+pub silent-shown : (s : Shape) → Lawful s → (w syn : List ℕ) → Syndromes s w syn → quiet s syn ≡ silentTest s (at w)
+unfolding silentTest
+silent-shown s h w syn y =
+    all-rows (s .n) (s .q) (λ e. eqb (at syn e) 0) (positive s h)
+    ∙ all-cong (s .n) _ _ (λ t lt. all-cong (s .q) _ _ (λ L lL. ap (λ (x : ℕ). eqb x 0) (y .entry t L lt lL)))
+
+pub silent-codeword : {s : Shape} {w syn : List ℕ} → Lawful s → Word s w → Syndromes s w syn → quiet s syn ≡ true → Codeword s w
+silent-codeword {s} {w} {syn} h hw y e = record { word = hw; checks = test-silent s (at w) (sym (silent-shown s h w syn y) ∙ e) }
+
 module _ {s : Shape} {error : ℕ → ℕ} {k : ℕ} {places errors : List ℕ} (l : Lists s error k places errors) where
   -- the error at a position: what the list has there
   pub error-listed : (j : ℕ) → j < wordLength s → error j ≡ xorSum k (λ x. when (eqb (at places x) j) (at errors x))
@@ -56,19 +67,17 @@ module _ {s : Shape} {error : ℕ → ℕ} {k : ℕ} {places errors : List ℕ} 
   mends {w} {w′} size g =
       is-tabulate (wordLength s) _ w′ (g .size ∙ size) (λ j lj. g .entry j ∙ ap (λ (x : ℕ). at w j ⊕ x) (sym (error-listed j lj)))
 
-  module _ {w syn new : List ℕ} (y : Syndromes s w syn) (c : Cancelled s k places errors syn new) where
-    -- the table after the corrections has the syndromes of the mended word
-    mended-syndrome : (t L : ℕ) → t < s .n → L < s .q → syndrome s (at (mended s w error)) t L ≡ at new (t * s .q + L)
-    unfolding syndrome
-    mended-syndrome t L lt lL =
-        syndrome-cong s (at (mended s w error)) (λ j. at w j ⊕ error j) t L (mended-at s w error)
-        ∙ syndrome-linear s (at w) error t L
-        ∙ ap₂ (λ (x z : ℕ). x ⊕ z) (sym (y .entry t L lt lL)) (l .sums (λ j. eqb (lineOf s t j) L))
-        ∙ sym (c .entry t L lt lL)
+  -- the table after the corrections has the syndromes of the mended word
+  mended-syndromes : {w syn new : List ℕ} → Syndromes s w syn → Cancelled s k places errors syn new → Syndromes s (mended s w error) new
+  unfolding syndrome
+  mended-syndromes {w} y c = record {
+    size = c .size;
+    entry = λ t L lt lL.
+        c .entry t L lt lL
+        ∙ ap₂ (λ (x z : ℕ). x ⊕ z) (y .entry t L lt lL) (sym (l .sums (λ j. eqb (lineOf s t j) L)))
+        ∙ sym (syndrome-cong s (at (mended s w error)) (λ j. at w j ⊕ error j) t L (mended-at s w error) ∙ syndrome-linear s (at w) error t L);
+  }
 
-    -- so the table shows whether that word is silent
-    pub silent-by : Lawful s → silentTest s (at (mended s w error)) ≡ all (s .n * s .q) (λ e. eqb (at new e) 0)
-    unfolding silentTest
-    silent-by h =
-        all-cong (s .n) _ _ (λ t lt. all-cong (s .q) _ _ (λ L lL. ap (λ (x : ℕ). eqb x 0) (mended-syndrome t L lt lL)))
-        ∙ sym (all-rows (s .n) (s .q) (λ e. eqb (at new e) 0) (positive s h))
+  -- so it shows whether that word is silent
+  pub silent-by : {w syn new : List ℕ} → Syndromes s w syn → Cancelled s k places errors syn new → Lawful s → silentTest s (at (mended s w error)) ≡ quiet s new
+  silent-by {w} {syn} {new} y c h = sym (silent-shown s h (mended s w error) new (mended-syndromes y c))

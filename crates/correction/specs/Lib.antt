@@ -1,4 +1,5 @@
 pub mod Error
 pub mod Answer
+pub mod Reading
 pub mod Shipped
 pub mod Steps

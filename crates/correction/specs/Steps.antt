@@ -1,15 +1,43 @@
 -- What the shared steps of reading establish. They see the syndromes in their table alone: check t × q + L at that place.
 use mathlib.Core.Path.{_≡_}
-use mathlib.Core.Bool.{Bool, _&&_}
+use mathlib.Core.Bool.{Bool, true, false, _&&_}
 use mathlib.Core.List.{List}
 use Prim.Native.Nat.{ℕ, _+_, _*_, _%_, _<_, _≤_}
 use lib.Dec.{eqb}
 use lib.ListN.{length}
 use Rattle.parity.specs.Xor.{_⊕_, xorSum, when}
-use Rattle.parity.specs.Count.{count, any}
+use Rattle.parity.specs.Count.{count, any, all}
 use Rattle.gtb.specs.declared.Shape.{Shape}
-use Rattle.gtb.specs.Shape.{wordLength, slopeOf}
-use Rattle.gtb.specs.Square.{lineOf, at}
+use Rattle.gtb.specs.declared.Refusal.{Refusal}
+use Rattle.gtb.specs.declared.Status.{Status}
+use Rattle.gtb.specs.declared.Status.the-variants as status
+use Rattle.gtb.specs.Shape.{lawful, shapeRefusal, wordLength, slopeOf}
+use Rattle.gtb.specs.Square.{lineOf, at, silentTest, Word, Syndromes}
+use Rattle.gtb.specs.Answer.{unless}
+use Rattle.gtb.specs.Lent.{wordStatus}
+use Rattle.correction.specs.declared.Decoded.{Decoded}
+use Rattle.correction.specs.declared.Decoded.the-variants.{Corrected, Refused}
+use Rattle.correction.specs.Answer.{decodedWord}
+use Rattle.correction.specs.Error.{mended}
+use Rattle.correction.specs.Reading.{Reader, changesBy, restoredBy, acceptedBy}
+
+-- tests 1, 18, 16, 2, 3
+unfoldable pub testsOf : Shape → Bool → List ℕ → Status
+testsOf s suits w = unless (lawful s) (status.Refused (shapeRefusal s)) (unless suits (status.Refused Refusal.Directions) (wordStatus s w))
+
+-- past them: the reader's own test, the answer and the word
+pub record Corrects (reader : Reader) (s : Shape) (w w′ : List ℕ) (r : Decoded) : Type 0 where
+  pub answer : r ≡ unless (acceptedBy reader s w) (Refused (reader .refusal)) (Corrected (changesBy reader s w))
+  pub word : w′ ≡ decodedWord w (restoredBy reader s w) r
+
+-- every check is silent
+abbrev pub quiet : Shape → List ℕ → Bool
+quiet s syn = all (s .n * s .q) (λ e. eqb (at syn e) 0)
+
+-- the first m of a list with room for so many values are f 0 .. f (m - 1)
+pub record Gathered (room : ℕ) (f : ℕ → ℕ) (m : ℕ) (values : List ℕ) : Type 0 where
+  pub size : length values ≡ room
+  pub value : (x : ℕ) → x < m → at values x ≡ f x
 
 -- the first k of 8 places are positions of the word
 pub record Within (s : Shape) (k : ℕ) (places : List ℕ) : Type 0 where
@@ -19,6 +47,28 @@ pub record Within (s : Shape) (k : ℕ) (places : List ℕ) : Type 0 where
 -- k places with an error each are the error that a function gives: to XOR over either is the same
 pub record Lists (s : Shape) (error : ℕ → ℕ) (k : ℕ) (places errors : List ℕ) : Type 0 where
   pub sums : (g : ℕ → Bool) → xorSum (wordLength s) (λ j. when (g j) (error j)) ≡ xorSum k (λ x. when (g (at places x)) (at errors x))
+
+-- these corrections taken off the word: it is mended by the error that they are
+pub record Mends (s : Shape) (k : ℕ) (places errors w w′ : List ℕ) : Type 0 where
+  pub mends : (error : ℕ → ℕ) → Lists s error k places errors → w′ ≡ mended s w error
+
+-- these corrections tried on a table: r says whether they silence every check of its word
+pub record Silences (s : Shape) (k : ℕ) (places errors syn : List ℕ) (r : Bool) : Type 0 where
+  pub silent : (error : ℕ → ℕ) → Lists s error k places errors → (w : List ℕ) → Syndromes s w syn → r ≡ silentTest s (at (mended s w error))
+
+-- the reader accepts the word, and these corrections restore it
+pub record Corrections (reader : Reader) (s : Shape) (w : List ℕ) (k : ℕ) (places errors : List ℕ) : Type 0 where
+  pub error : ℕ → ℕ
+  pub listed : Lists s error k places errors
+  pub accepted : acceptedBy reader s w ≡ true
+  pub changed : changesBy reader s w ≡ k
+  pub word : restoredBy reader s w ≡ mended s w error
+
+-- what is found from the syndromes of a word: its corrections; or `limit`, if there are none that are accepted, or if not all was looked at
+pub record Found (reader : Reader) (s : Shape) (limit : ℕ) (whole : Bool) (syn places errors : List ℕ) (r : ℕ) : Type 0 where
+  pub within : r < limit → Within s r places
+  pub few : r < limit → (w : List ℕ) → Word s w → Syndromes s w syn → Corrections reader s w r places errors
+  pub many : whole ≡ true → limit ≤ r → (w : List ℕ) → Word s w → Syndromes s w syn → acceptedBy reader s w ≡ false
 
 -- new is old with value x XORed onto the entry at place x, for each x below k
 pub record Toggled (k : ℕ) (place value : ℕ → ℕ) (old new : List ℕ) : Type 0 where

@@ -2,15 +2,12 @@
 use crate::shipped::number_by;
 use gtb::Shape;
 ghost use mathlib.Core.Path.{_≡_};
-ghost use Prim.Native.Nat.{_<_, _≤_};
-ghost use lib.Dec.{eqb};
+ghost use Prim.Native.Nat.{_<_};
 ghost use lib.ListN.{length};
-ghost use Rattle.parity.specs.Count.{all};
 ghost use Rattle.gtb.specs.Shape.{Lawful, wordLength};
-ghost use Rattle.gtb.specs.Square.{at};
 ghost use Rattle.correction.specs.Error.{checkOf};
 ghost use Rattle.correction.specs.Shipped.{Tabled};
-ghost use Rattle.correction.specs.Steps.{Toggled, Within, Cancelled};
+ghost use Rattle.correction.specs.Steps.{quiet, Toggled, Within, Cancelled, Silences};
 
 // The n checks on position j.
 fn cancel_one(shape: Shape, table: &[u8], syn: &mut [u32; 248], j: usize, error: u32)
@@ -41,29 +38,48 @@ pub fn cancel_by(
     }
 }
 
-// The same without a table.
-pub fn cancel(
-    shape: Shape,
-    syn: &mut [u32; 248],
-    places: &[usize; 8],
-    errors: &[u32; 8],
-    count: usize,
-)
-    requires { ⌜ Lawful shape × (length (now syn) ≡ 248) × Within shape count (now places) ⌝ }
-    ensures { λ _. ⌜ Cancelled shape count (now (places .entry)) (now (errors .entry)) (now (syn .entry)) (now (syn .exit)) ⌝ }
+// Every check is silent. One value gathers the bits of them all, so that the loop has no branch.
+pub fn is_silent(shape: Shape, syn: &[u32; 248]) -> bool
+    requires { ⌜ Lawful shape ⌝ }
+    ensures { λ r. ⌜ r ≡ quiet shape (now (syn .entry)) ⌝ }
 {
-    let none = [0u8; 1];
-    cancel_by(shape, &none, syn, places, errors, count);
-}
-
-// The first `count` checks are silent. One value gathers the bits of them all, so that the loop has no branch.
-pub fn is_silent(syn: &[u32; 248], count: usize) -> bool
-    requires { ⌜ count ≤ 248 ⌝ }
-    ensures { λ r. ⌜ r ≡ all count (λ e. eqb (at (now (syn .entry)) e) 0) ⌝ }
-{
+    let q = shape.q as usize;
+    let n = shape.n as usize;
+    let count = n * q;
     let mut bits = 0;
     for e in 0..count {
         bits |= syn[e];
     }
     bits == 0
+}
+
+// The corrections are tried on `syn`: every check is silent then.
+pub fn silences_by(
+    shape: Shape,
+    table: &[u8],
+    syn: &mut [u32; 248],
+    places: &[usize; 8],
+    errors: &[u32; 8],
+    count: usize,
+) -> bool
+    requires { ⌜ Lawful shape × Tabled shape (now table) × (length (now syn) ≡ 248) × Within shape count (now places) ⌝ }
+    ensures { λ r. ⌜ Silences shape count (now (places .entry)) (now (errors .entry)) (now (syn .entry)) r ⌝ }
+{
+    cancel_by(shape, table, syn, places, errors, count);
+    is_silent(shape, syn)
+}
+
+// The same without a table.
+pub fn silences(
+    shape: Shape,
+    syn: &mut [u32; 248],
+    places: &[usize; 8],
+    errors: &[u32; 8],
+    count: usize,
+) -> bool
+    requires { ⌜ Lawful shape × (length (now syn) ≡ 248) × Within shape count (now places) ⌝ }
+    ensures { λ r. ⌜ Silences shape count (now (places .entry)) (now (errors .entry)) (now (syn .entry)) r ⌝ }
+{
+    let none = [0u8; 1];
+    silences_by(shape, &none, syn, places, errors, count)
 }

@@ -19,7 +19,7 @@ use Rattle.gtb.specs.declared.Shape.{Shape}
 use Rattle.gtb.specs.Shape.{lawful}
 use Rattle.session.specs.declared.Session.{Session}
 use Rattle.session.specs.declared.Outcome.{Outcome}
-use Rattle.session.specs.Session.{isCall, countOf}
+use Rattle.session.specs.Session.{isCall, countOf, sessionStatus}
 use Rattle.session.specs.Arrival.{Ways}
 use Rattle.session.specs.Recording.{Sheet, sheetAt, Recording, tally, Arrival}
 use Rattle.session.specs.Claim.{Demand3}
@@ -121,7 +121,7 @@ no-is false h = refl
 
 pub recording-cover : {ways : Ways} {s : Shape} {pages : List Sheet} {arrivals : List Arrival} {answers : List Outcome} {end : Session} {bytes bytes′ : List ℕ} {r : Covered}
     → Recording s pages → Demand3 ways s pages arrivals answers end → length bytes ≡ 256 → Covering end bytes bytes′ r → Viewed pages bytes′ r
-unfolding coverOf coverBytes coverCount
+unfolding coverOf sessionStatus coverBytes coverCount
 recording-cover {pages = pages} {end = end} {bytes = bytes} {bytes′ = bytes′} {r = r} recording d size c =
     record { size = rw left (length-tabulate 256 _); yes = λ f l. (λ h. marked-means pages f .0 (yes-is _ (sym (byte f l) ∙ h)), λ m. byte f l ∙ bit-true (marked-means pages f .1 m)); no = λ f l none. byte f l ∙ no-is _ (λ t. none (marked-means pages f .0 t)); number = answer ∙ ap Functions (count-cong 256 _ _ called) }
   where

@@ -9,10 +9,9 @@ use lib.ListN.{length, getD}
 use Rattle.parity.specs.Count.{bit, any, count}
 use Rattle.parity.specs.Lists.{tabulate}
 use Rattle.gtb.specs.declared.Refusal.{Refusal}
-use Rattle.gtb.specs.Shape.{lawful, shapeRefusal}
 use Rattle.gtb.specs.Answer.{refusalNumber, unless}
 use Rattle.session.specs.declared.Session.{Session}
-use Rattle.session.specs.Session.{consistent}
+use Rattle.session.specs.Session.{sessionStatus, past}
 use Rattle.session.specs.Recording.{Sheet, sheetAt}
 use Rattle.coverage.specs.declared.Covered.{Covered}
 use Rattle.coverage.specs.declared.Covered.the-variants.{Functions, Refused}
@@ -36,9 +35,8 @@ coverCount calls = count 256 (isCalled calls)
 -- the viewer tests 1, 18, 11, then 2
 unfoldable pub coverOf : Session → List ℕ → Covered
 coverOf σ bytes =
-    unless (lawful (σ .shape)) (Refused (shapeRefusal (σ .shape)))
-    (unless (consistent σ) (Refused Refusal.Figures)
-    (unless (eqb (length bytes) 256) (Refused Refusal.Length) (Functions (coverCount (σ .calls)))))
+    past (sessionStatus σ) Refused
+    (unless (eqb (length bytes) 256) (Refused Refusal.Length) (Functions (coverCount (σ .calls))))
 
 -- as one number: how many, or 2^31 plus the refusal's
 abbrev pub coveredNumber : Covered → ℕ

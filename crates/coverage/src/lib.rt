@@ -2,6 +2,7 @@
 pub mod number;
 
 use gtb::Refusal;
+use gtb::Status;
 use session::Session;
 ghost use mathlib.Core.Path.{_≡_};
 ghost use lib.Dec.{ltb};
@@ -20,12 +21,8 @@ pub enum Covered {
 pub fn cover(session: Session, bytes: &mut [u8]) -> Covered
     ensures { λ r. ⌜ Covering session (now (bytes .entry)) (now (bytes .exit)) r ⌝ }
 {
-    let shape = session.shape;
-    if !gtb::is_lawful(shape) {
-        return Covered::Refused(gtb::shape_refusal(shape));
-    }
-    if !session.is_consistent() {
-        return Covered::Refused(Refusal::Figures);
+    if let Status::Refused(e) = session.status() {
+        return Covered::Refused(e);
     }
     if bytes.len() != Session::FUNCTIONS {
         return Covered::Refused(Refusal::Length);

@@ -1,6 +1,6 @@
 -- What the number of checks looked at says of a position, and the answers of `looked`.
 use mathlib.Core.Path.{_≡_, refl, sym, ap, _∙_}
-use mathlib.Core.Bool.{true, false, not}
+use mathlib.Core.Bool.{Bool, true, false, not, _&&_}
 use mathlib.Core.List.{List}
 use mathlib.Core.Logic.{⊎-elim}
 use Prim.Native.Nat.{ℕ, _+_, _-_, _<_, _≤_}
@@ -11,8 +11,8 @@ use lib.ListN.{length}
 use borrow.Author.Tests.{eq-eqb, ne-eqb, eqb-true, eqb-false, not-true, not-false}
 use Rattle.parity.specs.Count.{lowestNot}
 use Rattle.parity.specs.Lists.{tabulate}
-use Rattle.parity.proofs.Xors.{zero-r}
-use Rattle.parity.proofs.Tests.{either, clash, not-of-true, not-of-false, all-elim, all-intro}
+use Rattle.parity.proofs.Xors.{eq-of-zero}
+use Rattle.parity.proofs.Tests.{either, clash, and-no-right, not-of-true, not-of-false, all-elim, all-intro}
 use Rattle.parity.proofs.Lowest.{lowest-right}
 use Rattle.gtb.specs.declared.Shape.{Shape}
 use Rattle.gtb.specs.declared.Refusal.{Refusal}
@@ -20,15 +20,17 @@ use Rattle.gtb.specs.declared.Status.{Status}
 use Rattle.gtb.specs.declared.Status.the-variants.{Done, Refused}
 use Rattle.gtb.specs.Shape.{lawful, shapeRefusal, Lawful, wordLength}
 use Rattle.gtb.specs.Square.{lineOf, at, narrow, Codeword}
-use Rattle.gtb.specs.Answer.{statusNumber}
+use Rattle.gtb.specs.Answer.{statusNumber, unless}
+use Rattle.gtb.specs.Lent.{wordStatus}
 use Rattle.gtb.proofs.Bounds.{bounds}
 use Rattle.gtb.proofs.Lines.{line-lt}
 use Rattle.correction.specs.Error.{onCheck}
+use Rattle.correction.proofs.Near.{support, outside}
 use Rattle.decoder.specs.Damage.{Explains}
 use Rattle.decoder.specs.Decode.{located}
 use Rattle.decoder.specs.Looking.{lookedAt, LookedUpTo, lookingOf, lookedLeft, Looking}
 use Rattle.decoder.proofs.Clean.{located-exact}
-use Rattle.decoder.proofs.Meaning.{explained}
+use Rattle.decoder.proofs.Meaning.{explains-near, explains-unmasked}
 use Rattle.decoder.proofs.Looks.{looks-all, looks-first}
 
 module _ (s : Shape) (f : ℕ → ℕ) (j : ℕ) where
@@ -100,10 +102,11 @@ codeword-looked s law w c j lj =
 pub silent-settles : (s : Shape) → Lawful s → (w v : List ℕ) (k : ℕ) → Explains s w v k → (t j : ℕ) → t < s .n → j < wordLength s → onCheck s (at w) j t ≡ 0
     → at v j ≡ at w j
 silent-settles s law w v k x t j lt lj z =
-    let r = explained s w v k x in
-    ⊎-elim (λ (e : eqb (at (x .error) j) 0 ≡ true). sym (r .sum j lj ∙ rw (eqb-true (at (x .error) j) 0 e) (zero-r (at v j))))
-    (λ (e : eqb (at (x .error) j) 0 ≡ false). absurd (none-silent s (at w) j (located-exact s law (at w) (at v) (at (x .error)) r j lj ∙ not-of-false e) t lt z))
-    (either (eqb (at (x .error) j) 0))
+    ⊎-elim
+    (λ (e : support w v j ≡ true).
+    absurd (none-silent s (at w) j (located-exact s law w v k (explains-near s w v k x) (explains-unmasked s w v k x) j lj ∙ e) t lt z))
+    (λ (e : support w v j ≡ false). sym (eq-of-zero (at w j) (at v j) (outside w v j e)))
+    (either (support w v j))
 
 -- ---- the answers of `looked`, one for each way out
 module _ {s : Shape} {w looked : List ℕ} where
@@ -114,19 +117,23 @@ module _ {s : Shape} {w looked : List ℕ} where
   unfolding lookingOf
   looking-shape h is = looking (rw h (ap Refused is)) refl
 
-  pub looking-word : Lawful s → (length w ≡ wordLength s → ⊥) → Looking s w looked looked (Refused Refusal.Length)
+  pub looking-list : Lawful s → (length looked ≡ wordLength s → ⊥) → Looking s w looked looked (Refused Refusal.Length)
   unfolding lookingOf
-  looking-word h ne = looking (rw (h, ne-eqb _ _ ne)) refl
+  looking-list h ne = looking (rw (h, and-no-right (eqb (length w) (wordLength s)) (ne-eqb _ _ ne))) refl
 
-  pub looking-list : Lawful s → length w ≡ wordLength s → (length looked ≡ wordLength s → ⊥) → Looking s w looked looked (Refused Refusal.Length)
-  unfolding lookingOf
-  looking-list h e ne = looking (rw (h, eq-eqb _ _ e, ne-eqb _ _ ne)) refl
+-- past them, tests 2 and 3 on the word
+module _ (s : Shape) (law : Lawful s) (w looked : List ℕ) (size : length looked ≡ wordLength s) where
+  by-word : wordStatus s w ≡ lookingOf s w looked
+  unfolding lookingOf wordStatus
+  by-word = rw (law, eq-eqb _ _ size) (same (eqb (length w) (wordLength s)))
+    where
+      same : (a : Bool) → unless a (Refused Refusal.Length) (unless (narrow (s .b) w) (Refused Refusal.Width) Done)
+          ≡ unless (a && true) (Refused Refusal.Length) (unless (narrow (s .b) w) (Refused Refusal.Width) Done)
+      same true = refl
+      same false = refl
 
-  pub looking-width : Lawful s → length w ≡ wordLength s → length looked ≡ wordLength s → narrow (s .b) w ≡ false → Looking s w looked looked (Refused Refusal.Width)
-  unfolding lookingOf
-  looking-width h e l n = looking (rw (h, eq-eqb _ _ e, eq-eqb _ _ l, n)) refl
+  pub looking-word : {e : Refusal} → Refused e ≡ wordStatus s w → Looking s w looked looked (Refused e)
+  looking-word h = looking (h ∙ by-word) refl
 
-  pub looking-done : {looked′ : List ℕ} → Lawful s → length w ≡ wordLength s → length looked ≡ wordLength s → narrow (s .b) w ≡ true
-      → looked′ ≡ tabulate (wordLength s) (lookedAt s (at w)) → Looking s w looked looked′ Done
-  unfolding lookingOf
-  looking-done h e l n is = looking (rw (h, eq-eqb _ _ e, eq-eqb _ _ l, n)) is
+  pub looking-done : {looked′ : List ℕ} → Done ≡ wordStatus s w → looked′ ≡ tabulate (wordLength s) (lookedAt s (at w)) → Looking s w looked looked′ Done
+  looking-done h is = looking (h ∙ by-word) is

@@ -3,9 +3,7 @@ pub mod Looks
 pub mod Shifts
 pub mod Private
 pub mod Reading
-pub mod Answers
 pub mod Clean
 pub mod Meaning
 pub mod Judging
 pub mod Alikes
-pub mod Refusals

@@ -3,12 +3,9 @@ use mathlib.Core.Path.{_≡_, refl, sym, ap, _∙_}
 use mathlib.Core.Bool.{Bool, true, false, not, cond}
 use mathlib.Core.List.{List}
 use Prim.Native.Nat.{ℕ, _+_, _*_, _<_}
-use native.Mathlib.Nat.{not-suc-le-zero, ne-of-lt}
+use native.Mathlib.Nat.{not-suc-le-zero}
 use native.Mathlib.Omega.{arith}
-use borrow.Author.Count.{below-more}
 use lib.Dec.{eqb}
-use lib.ListN.{length, set, length-set}
-use lib.Seq.{getD-set-same, getD-set-other}
 use Rattle.parity.specs.Count.{all, lowestNot}
 use Rattle.parity.specs.Lists.{tabulate}
 use Rattle.parity.proofs.Tests.{all-no, all-intro, all-cong}
@@ -19,11 +16,12 @@ use Rattle.gtb.specs.Shape.{Lawful, wordLength}
 use Rattle.gtb.specs.Square.{at, Syndromes}
 use Rattle.gtb.proofs.Bounds.{bounds}
 use Rattle.correction.specs.Error.{checkOf}
+use Rattle.correction.specs.Steps.{Gathered}
 use Rattle.correction.proofs.Tables.{shown}
 use Rattle.decoder.specs.declared.locate.Judged.{Judged}
 use Rattle.decoder.specs.Decode.{located}
 use Rattle.decoder.specs.Looking.{lookedAt}
-use Rattle.decoder.specs.Steps.{judged, lookedIn, Judges, PassedOver, Noted}
+use Rattle.decoder.specs.Steps.{judged, lookedIn, Judges, PassedOver}
 use Rattle.correction.proofs.Rows.{own-check}
 use Rattle.decoder.proofs.Numbers.{silent}
 
@@ -64,17 +62,6 @@ module _ (s : Shape) (h : Lawful s) (syn : List ℕ) (row : ℕ) (z : at syn row
   }
 
 -- ---- the list
-pub noted-none : (s : Shape) (syn looked : List ℕ) → length looked ≡ wordLength s → Noted s syn 0 looked
-noted-none s syn looked e = record { size = e; entry = λ j l. absurd (not-suc-le-zero l) }
-
-pub noted-more : {s : Shape} {syn looked : List ℕ} {m : ℕ} (v : ℕ) → m < wordLength s → v ≡ lookedIn s syn m → Noted s syn m looked → Noted s syn (m + 1) (set looked m v)
-noted-more {s} {syn} {looked} {m} v l e h = record {
-  size = length-set looked m v ∙ h .size;
-  entry = below-more (λ j. at (set looked m v) j ≡ lookedIn s syn j) m
-      (λ j lj. getD-set-other looked m j v 0 (ne-of-lt lj) ∙ h .entry j lj)
-      (getD-set-same looked m v 0 (rw (h .size) l) ∙ e);
-}
-
 -- the table shows the syndromes, so by it as many are looked at
 pub looked-shown : (s : Shape) → Lawful s → (w syn : List ℕ) → Syndromes s w syn → (j : ℕ) → j < wordLength s → lookedIn s syn j ≡ lookedAt s (at w) j
 unfolding lookedIn lookedAt judged located
@@ -82,7 +69,7 @@ looked-shown s h w syn y j lj = λ i.
     cond (all-cong (s .n) _ _ (λ t lt. ap (λ (x : ℕ). not (eqb x 0)) (shown s h w syn y j t lj lt)) i) (s .n)
     (lowest-cong (s .n) _ _ (λ t lt. ap (λ (x : ℕ). not (eqb x 0)) (shown s h w syn y j t lj lt)) i + 1)
 
-pub noted-all : {s : Shape} {w syn looked : List ℕ} → Lawful s → Syndromes s w syn → Noted s syn (wordLength s) looked
+pub noted-all : {s : Shape} {w syn looked : List ℕ} → Lawful s → Syndromes s w syn → Gathered (wordLength s) (lookedIn s syn) (wordLength s) looked
     → looked ≡ tabulate (wordLength s) (lookedAt s (at w))
 noted-all {s} {w} {syn} {looked} h y n =
-    is-tabulate (wordLength s) (lookedAt s (at w)) looked (n .size) (λ j l. n .entry j l ∙ looked-shown s h w syn y j l)
+    is-tabulate (wordLength s) (lookedAt s (at w)) looked (n .size) (λ j l. n .value j l ∙ looked-shown s h w syn y j l)

@@ -1,20 +1,22 @@
 // The work on a word of lawful shape, length and width. Nothing is written to it before the answer is known.
-use crate::error::measure;
+use crate::error::evaluate;
 use crate::locate::locate;
 use correction::Decoded;
 use correction::apply;
-use correction::cancel::cancel_by;
 use correction::cancel::is_silent;
+use correction::cancel::silences_by;
 use correction::shipped::is_shipped;
 use correction::table::check_numbers;
 use gtb::Refusal;
 use gtb::Shape;
 ghost use mathlib.Core.Path.{_≡_};
+ghost use mathlib.Core.Bool.{true};
 ghost use lib.ListN.{length};
-ghost use Rattle.gtb.specs.Shape.{Lawful, wordLength};
-ghost use Rattle.correction.specs.Steps.{Within};
+ghost use Rattle.gtb.specs.Shape.{Lawful};
+ghost use Rattle.gtb.specs.Square.{Word};
+ghost use Rattle.correction.specs.Steps.{Found, Corrects};
 ghost use Rattle.correction.specs.Shipped.{Tabled};
-ghost use Rattle.decoder.specs.Steps.{Restores, Found, Corrects};
+ghost use Rattle.decoder.specs.Decode.{clean};
 
 // The corrections, places and errors: how many, or n if there are none that silence every check. They are tried on `syn`.
 fn find_by(
@@ -25,33 +27,25 @@ fn find_by(
     errors: &mut [u32; 8],
 ) -> usize
     requires { ⌜ Lawful shape × Tabled shape (now table) × (length (now syn) ≡ 248) × (length (now places) ≡ 8) × (length (now errors) ≡ 8) ⌝ }
-    ensures { λ r. ⌜ Found shape (now (syn .entry)) (now (places .exit)) (now (errors .exit)) r ⌝ }
+    ensures { λ r. ⌜ Found clean shape (shape .n) true (now (syn .entry)) (now (places .exit)) (now (errors .exit)) r ⌝ }
 {
-    let q = shape.q as usize;
     let n = shape.n as usize;
     let count = locate(shape, table, syn, places);
     if n <= count {
         return n;
     }
-    measure(shape, table, syn, places, count, errors);
-    cancel_by(shape, table, syn, places, errors, count);
-    if is_silent(syn, n * q) {
+    evaluate(shape, table, syn, places, count, errors);
+    if silences_by(shape, table, syn, places, errors, count) {
         return count;
     }
     n
 }
 
-// The same, with the table of the shipped shape. Where every check is silent nothing is to be found, and no table to be made.
+// The same, with the table of the shipped shape.
 fn find(shape: Shape, syn: &mut [u32; 248], places: &mut [usize; 8], errors: &mut [u32; 8]) -> usize
     requires { ⌜ Lawful shape × (length (now syn) ≡ 248) × (length (now places) ≡ 8) × (length (now errors) ≡ 8) ⌝ }
-    ensures { λ r. ⌜ Found shape (now (syn .entry)) (now (places .exit)) (now (errors .exit)) r ⌝ }
+    ensures { λ r. ⌜ Found clean shape (shape .n) true (now (syn .entry)) (now (places .exit)) (now (errors .exit)) r ⌝ }
 {
-    let q = shape.q as usize;
-    let n = shape.n as usize;
-    let checks = n * q;
-    if is_silent(syn, checks) {
-        return 0;
-    }
     if is_shipped(shape) {
         let table = check_numbers();
         return find_by(shape, &table, syn, places, errors);
@@ -60,21 +54,16 @@ fn find(shape: Shape, syn: &mut [u32; 248], places: &mut [usize; 8], errors: &mu
     find_by(shape, &none, syn, places, errors)
 }
 
-// The errors are taken off the word.
-fn restore(shape: Shape, word: &mut [u32], places: &[usize; 8], errors: &[u32; 8], count: usize)
-    requires { ⌜ (length (now word) ≡ wordLength shape) × Within shape count (now places) ⌝ }
-    ensures { λ _. ⌜ Restores shape (now (word .entry)) (now (places .entry)) (now (errors .entry)) count (now (word .exit)) ⌝ }
-{
-    apply(word, places, errors, count);
-}
-
-// Test 4: the word is corrected, or left as it came.
+// Test 4: the word is corrected, or left as it came. Where every check is silent nothing is to be found, and no table to be made.
 pub fn correct(shape: Shape, word: &mut [u32]) -> Decoded
-    requires { ⌜ Lawful shape × (length (now word) ≡ wordLength shape) ⌝ }
-    ensures { λ r. ⌜ Corrects shape (now (word .entry)) (now (word .exit)) r ⌝ }
+    requires { ⌜ Lawful shape × Word shape (now word) ⌝ }
+    ensures { λ r. ⌜ Corrects clean shape (now (word .entry)) (now (word .exit)) r ⌝ }
 {
     let mut syn = [0u32; 248];
     syndrome::fill(shape, word, &mut syn);
+    if is_silent(shape, &syn) {
+        return Decoded::Corrected(0);
+    }
     let mut places = [0usize; 8];
     let mut errors = [0u32; 8];
     let n = shape.n as usize;
@@ -82,7 +71,7 @@ pub fn correct(shape: Shape, word: &mut [u32]) -> Decoded
     if n <= count {
         return Decoded::Refused(Refusal::Uncorrectable);
     }
-    restore(shape, word, &places, &errors, count);
+    apply(shape, word, &places, &errors, count);
     let changed = count as u32;
     Decoded::Corrected(changed)
 }

@@ -5,9 +5,10 @@ ghost use mathlib.Core.Path.{_≡_};
 ghost use Prim.Native.Nat.{_<_};
 ghost use lib.ListN.{length};
 ghost use Rattle.gtb.specs.Shape.{Lawful, wordLength};
-ghost use Rattle.correction.specs.Steps.{Within};
+ghost use Rattle.gtb.specs.Square.{at};
+ghost use Rattle.correction.specs.Steps.{Within, Gathered};
 ghost use Rattle.correction.specs.Shipped.{Tabled};
-ghost use Rattle.decoder.specs.Steps.{shares, aloneAmong, errorAmong, Measured};
+ghost use Rattle.decoder.specs.Steps.{shares, aloneAmong, errorAmong};
 
 // i is another position than j on the check of direction t on j.
 fn shares_check(shape: Shape, table: &[u8], t: usize, j: usize, i: usize) -> bool
@@ -62,7 +63,7 @@ fn error_of(
 }
 
 // The errors at the first `count` places.
-pub fn measure(
+pub fn evaluate(
     shape: Shape,
     table: &[u8],
     syn: &[u32; 248],
@@ -71,7 +72,7 @@ pub fn measure(
     errors: &mut [u32; 8],
 )
     requires { ⌜ Lawful shape × Tabled shape (now table) × (length (now errors) ≡ 8) × Within shape count (now places) ⌝ }
-    ensures { λ _. ⌜ Measured shape (now (syn .entry)) (now (places .entry)) count count (now (errors .exit)) ⌝ }
+    ensures { λ _. ⌜ Gathered 8 (λ x. errorAmong shape (now (syn .entry)) (now (places .entry)) count (at (now (places .entry)) x)) count (now (errors .exit)) ⌝ }
 {
     for x in 0..count {
         errors[x] = error_of(shape, table, syn, places, count, places[x]);

@@ -1,13 +1,16 @@
-// Reading a damaged word.
+// Reading a damaged word, the clean way.
 mod correct;
 mod error;
 mod locate;
 mod looking;
 
 use correction::Decoded;
+use correction::test;
 use gtb::Refusal;
 use gtb::Shape;
 use gtb::Status;
+use gtb::lent::word_status;
+use gtb::size::word_length;
 ghost use Rattle.decoder.specs.Decode.{Decoding};
 ghost use Rattle.decoder.specs.Looking.{Looking};
 
@@ -15,17 +18,11 @@ ghost use Rattle.decoder.specs.Looking.{Looking};
 pub fn decode(shape: Shape, word: &mut [u32]) -> Decoded
     ensures { λ r. ⌜ Decoding shape (now (word .entry)) (now (word .exit)) r ⌝ }
 {
-    if !gtb::is_lawful(shape) {
-        return Decoded::Refused(gtb::shape_refusal(shape));
+    let tested = test(shape, true, word);
+    match tested {
+        Status::Refused(e) => Decoded::Refused(e),
+        Status::Done => correct::correct(shape, word),
     }
-    let q = shape.q as usize;
-    if word.len() != q * q {
-        return Decoded::Refused(Refusal::Length);
-    }
-    if !gtb::is_narrow(word, shape.b) {
-        return Decoded::Refused(Refusal::Width);
-    }
-    correct::correct(shape, word)
 }
 
 // How many checks of each symbol reading looks at, by reading's own judging: tests 1, 18, 2, 3, then the list.
@@ -35,16 +32,15 @@ pub fn looked(shape: Shape, word: &[u32], looked: &mut [u32]) -> Status
     if !gtb::is_lawful(shape) {
         return Status::Refused(gtb::shape_refusal(shape));
     }
-    let length = gtb::size::word_length(shape);
-    if word.len() != length {
+    if looked.len() != word_length(shape) {
         return Status::Refused(Refusal::Length);
     }
-    if looked.len() != length {
-        return Status::Refused(Refusal::Length);
+    let tested = word_status(shape, word);
+    match tested {
+        Status::Refused(e) => Status::Refused(e),
+        Status::Done => {
+            looking::note(shape, word, looked);
+            Status::Done
+        }
     }
-    if !gtb::is_narrow(word, shape.b) {
-        return Status::Refused(Refusal::Width);
-    }
-    looking::note(shape, word, looked);
-    Status::Done
 }

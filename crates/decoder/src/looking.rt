@@ -9,13 +9,14 @@ ghost use Rattle.parity.specs.Lists.{tabulate};
 ghost use Rattle.gtb.specs.Shape.{Lawful, wordLength};
 ghost use Rattle.gtb.specs.Square.{at};
 ghost use Rattle.correction.specs.Shipped.{Tabled};
+ghost use Rattle.correction.specs.Steps.{Gathered};
 ghost use Rattle.decoder.specs.Looking.{lookedAt};
-ghost use Rattle.decoder.specs.Steps.{Noted};
+ghost use Rattle.decoder.specs.Steps.{lookedIn};
 
 // One row of the list.
 fn note_row(shape: Shape, table: &[u8], syn: &[u32; 248], row: usize, looked: &mut [u32])
-    requires { ⌜ Lawful shape × Tabled shape (now table) × (row < shape .q) × Noted shape (now syn) (row * shape .q) (now looked) ⌝ }
-    ensures { λ _. ⌜ Noted shape (now (syn .entry)) (row * shape .q + shape .q) (now (looked .exit)) ⌝ }
+    requires { ⌜ Lawful shape × Tabled shape (now table) × (row < shape .q) × Gathered (wordLength shape) (lookedIn shape (now syn)) (row * shape .q) (now looked) ⌝ }
+    ensures { λ _. ⌜ Gathered (wordLength shape) (lookedIn shape (now (syn .entry))) (row * shape .q + shape .q) (now (looked .exit)) ⌝ }
 {
     let q = shape.q as usize;
     let own = syn[row];

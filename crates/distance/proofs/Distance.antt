@@ -17,14 +17,14 @@ use Rattle.gtb.specs.declared.Shape.{Shape}
 use Rattle.gtb.specs.Shape.{Lawful, wordLength}
 use Rattle.gtb.specs.Square.{at, Codeword}
 use Rattle.gtb.proofs.Bounds.{bounds}
-use Rattle.distance.specs.Distance.{differences, apart, Distance, Sure, Near}
+use Rattle.distance.specs.Distance.{differences, minimumDistance, Distance, Unambiguous, Near}
 use Rattle.distance.proofs.Even.{bit-inside}
 use Rattle.distance.proofs.Twice.{twice}
 use Rattle.distance.proofs.Differences.{differs, difference-silent, some-differs}
 
 -- the places where one bit of the difference is set are an even set
 pub distance : (s : Shape) → Lawful s → Distance s
-unfolding apart differences
+unfolding minimumDistance differences
 distance s law = record {
   least = λ v w hv hw ne.
       let (j, l, h) = some-differs s law v w hv hw ne in
@@ -41,17 +41,17 @@ distance s law = record {
 
 -- (N14) four with two directions, six with three or more
 pub four-apart : (s : Shape) → Lawful s → (v w : List ℕ) → Codeword s v → Codeword s w → (v ≡ w → ⊥) → 4 ≤ differences s v w
-unfolding apart
+unfolding minimumDistance
 four-apart s law v w hv hw ne = omega (arith, bounds s law .n2, distance s law .least v w hv hw ne)
 
 pub six-apart : (s : Shape) → Lawful s → 3 ≤ s .n → (v w : List ℕ) → Codeword s v → Codeword s w → (v ≡ w → ⊥) → 6 ≤ differences s v w
-unfolding apart
+unfolding minimumDistance
 six-apart s law n3 v w hv hw ne = omega (arith, distance s law .least v w hv hw ne)
 
 -- fewer marked places than the distance leave no choice
-pub few-sure : (s : Shape) → Lawful s → (marked : ℕ → Bool) → count (wordLength s) marked < apart (s .n) → Sure s marked
+pub few-unambiguous : (s : Shape) → Lawful s → (marked : ℕ → Bool) → count (wordLength s) marked < minimumDistance (s .n) → Unambiguous s marked
 unfolding differences
-few-sure s law marked few = record {
+few-unambiguous s law marked few = record {
   one = λ v w hv hw same.
       ext-getD 0 v w (hv .word .size ∙ sym (hw .word .size))
       (λ j l.
@@ -68,13 +68,13 @@ few-sure s law marked few = record {
 }
 
 -- at most one codeword is within less than half the distance of a word, and it has one number
-pub within-unique : (s : Shape) → Lawful s → (limit : ℕ) → 2 * limit < apart (s .n) → (w v v′ : List ℕ) (k k′ : ℕ)
+pub within-unique : (s : Shape) → Lawful s → (limit : ℕ) → 2 * limit < minimumDistance (s .n) → (w v v′ : List ℕ) (k k′ : ℕ)
     → Near s limit w v k → Near s limit w v′ k′ → (v ≡ v′) × (k ≡ k′)
 unfolding differences
 within-unique s law limit half w v v′ k k′ x y = (same, sym (x .changed) ∙ ap (λ (u : List ℕ). differences s u w) same ∙ y .changed)
   where
     same : v ≡ v′
     same =
-        few-sure s law (λ j. differs v w j || differs v′ w j)
+        few-unambiguous s law (λ j. differs v w j || differs v′ w j)
         (omega (arith, count-or (wordLength s) (differs v w) (differs v′ w), x .changed, y .changed, x .few, y .few)) .one v v′ (x .codeword) (y .codeword)
         (λ j l h. let (a, b) = or-no (differs v w j) (differs v′ w j) h in eqb-true _ _ (not-false _ a) ∙ sym (eqb-true _ _ (not-false _ b)))

@@ -6,4 +6,5 @@ pub mod Differences
 pub mod Distance
 pub mod Attained
 pub mod Sharp
+pub mod Near
 pub mod Examples

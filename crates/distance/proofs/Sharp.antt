@@ -19,7 +19,7 @@ use Rattle.gtb.specs.Square.{lineOf}
 use Rattle.gtb.proofs.Bounds.{bounds, positive}
 use Rattle.gtb.proofs.Slopes.{slope-lt}
 use Rattle.gtb.proofs.Lines.{along, line-zero, line-suc, line-row, line-at, line-lt, check-size, same-row, share-slopes}
-use Rattle.distance.specs.Distance.{apart, Attained}
+use Rattle.distance.specs.Distance.{minimumDistance, Attained}
 use Rattle.distance.proofs.Even.{odd}
 use Rattle.parity.proofs.Polynomials.{sumOf}
 use Rattle.distance.proofs.Attained.{attained, often, Within, none, more, list-attained}
@@ -80,8 +80,8 @@ two-lines s law =
     let (x, lx, free) = left-out (s .n - 1) (s .q) (λ t. slopeOf s (suc t)) (omega (arith, bounds s law .n2, bounds s law .nq)) in
     both-attained s law x lx free
 
-pub sharp-full : (s : Shape) → Lawful s → s .n ≡ s .q → Attained s (apart (s .n))
-unfolding apart
+pub sharp-full : (s : Shape) → Lawful s → s .n ≡ s .q → Attained s (minimumDistance (s .n))
+unfolding minimumDistance
 sharp-full s law full = subst (Attained s) (omega arith) (two-lines s law)
 
 -- ---- four directions with the slopes 0, 1, 2: eight places, two in each of the first four rows
@@ -178,7 +178,7 @@ module _ (s : Shape) (law : Lawful s) (four : s .n ≡ 4) (q5 : 5 ≤ s .q) (e�
   eight-attained = list-attained s law eight eight-within eight-even (omega arith) (place 0 0) (inside 0 0 (omega arith) (omega arith)) first
 
 -- the order is odd, so from 5 on
-pub sharp-shipped : (s : Shape) → Lawful s → s .n ≡ 4 → slopeOf s 1 ≡ 0 → slopeOf s 2 ≡ 1 → slopeOf s 3 ≡ 2 → Attained s (apart (s .n))
-unfolding apart
+pub sharp-shipped : (s : Shape) → Lawful s → s .n ≡ 4 → slopeOf s 1 ≡ 0 → slopeOf s 2 ≡ 1 → slopeOf s 3 ≡ 2 → Attained s (minimumDistance (s .n))
+unfolding minimumDistance
 sharp-shipped s law four e₁ e₂ e₃ =
     subst (Attained s) (omega arith) (eight-attained s law four (omega (arith, bounds s law .nq, bounds s law .order .odd)) e₁ e₂ e₃)

@@ -14,12 +14,12 @@ unfoldable pub differences : Shape → List ℕ → List ℕ → ℕ
 differences s v w = count (wordLength s) (λ j. not (eqb (at v j) (at w j)))
 
 -- so far apart are different codewords at least: twice the number of directions
-unfoldable pub apart : ℕ → ℕ
-apart n = 2 * n
+unfoldable pub minimumDistance : ℕ → ℕ
+minimumDistance n = 2 * n
 
 -- different codewords of a shape are that far apart
 pub record Distance (s : Shape) : Type 0 where
-  pub least : (v w : List ℕ) → Codeword s v → Codeword s w → (v ≡ w → ⊥) → apart (s .n) ≤ differences s v w
+  pub least : (v w : List ℕ) → Codeword s v → Codeword s w → (v ≡ w → ⊥) → minimumDistance (s .n) ≤ differences s v w
 
 -- two codewords of the shape that differ at exactly k places
 pub record Attained (s : Shape) (k : ℕ) : Type 0 where
@@ -30,7 +30,7 @@ pub record Attained (s : Shape) (k : ℕ) : Type 0 where
   pub differ : differences s one other ≡ k
 
 -- the places of a list leave no choice: two codewords that are the same off the marked places are the same
-pub record Sure (s : Shape) (marked : ℕ → Bool) : Type 0 where
+pub record Unambiguous (s : Shape) (marked : ℕ → Bool) : Type 0 where
   pub one : (v w : List ℕ) → Codeword s v → Codeword s w → ((j : ℕ) → j < wordLength s → marked j ≡ false → at v j ≡ at w j) → v ≡ w
 
 -- the word that came has N symbols below 2^b, and the codeword v is at k positions another, at most `limit` (the damage may be masked)

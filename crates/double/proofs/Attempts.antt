@@ -18,14 +18,17 @@ use Rattle.gtb.specs.declared.Shape.{Shape}
 use Rattle.gtb.specs.Shape.{Lawful, wordLength}
 use Rattle.gtb.specs.Square.{lineOf, at, syndrome, silentTest, Syndromes}
 use Rattle.gtb.proofs.Lines.{line-lt}
+use Rattle.gtb.proofs.Rows.{silent-hidden}
+use Rattle.gtb.proofs.Words.{silent-test, test-cong}
 use Rattle.distance.specs.Distance.{differences, Near}
 use Rattle.distance.proofs.Differences.{differs}
 use Rattle.correction.specs.Error.{mended}
 use Rattle.correction.proofs.Errors.{mended-at}
+use Rattle.correction.proofs.Near.{errorOf}
 use Rattle.double.specs.declared.Pair.{Pair}
 use Rattle.double.specs.Steps.{pairOf, FirstLine, LastLine, Tried, Parts}
 use Rattle.double.proofs.Pairs.{when-here, when-there}
-use Rattle.double.proofs.Near.{errorOf, test-of, lone-check, error-shows, lone}
+use Rattle.double.proofs.Lone.{lone, lone-check}
 
 -- the word differs from v at p and at r, which may be one position, and nowhere else
 pub record Holds (s : Shape) (w v : List ℕ) (p r : ℕ) : Type 0 where
@@ -95,7 +98,7 @@ support s w v k near =
 module _ (s : Shape) (law : Lawful s) (w v syn : List ℕ) (k : ℕ) (y : Syndromes s w syn) (near : Near s 2 w v k) where
   -- the table shows the difference alone
   shows : (t L : ℕ) → t < s .n → L < s .q → at syn (t * s .q + L) ≡ syndrome s (errorOf w v) t L
-  shows t L lt lL = y .entry t L lt lL ∙ error-shows s (at w) (at v) (near .codeword .checks) t L lt lL
+  shows t L lt lL = y .entry t L lt lL ∙ silent-hidden s (at w) (at v) (near .codeword .checks) t L lt lL
 
   -- where nothing differs
   pub shows-none : ((j : ℕ) → j < wordLength s → at w j ≡ at v j) → (t L : ℕ) → t < s .n → L < s .q → at syn (t * s .q + L) ≡ 0
@@ -202,8 +205,9 @@ module _ (s : Shape) (law : Lawful s) (w v syn : List ℕ) (k : ℕ) (y : Syndro
   -- a pair that is the difference silences every check
   pair-silent : (a x b z : ℕ) → ((j : ℕ) → j < wordLength s → pairOf a x b z j ≡ errorOf w v j) → silentTest s (at (mended s w (pairOf a x b z))) ≡ true
   pair-silent a x b z same =
-      test-of s (at (mended s w (pairOf a x b z))) (at v) (near .codeword .checks)
+      test-cong s (at (mended s w (pairOf a x b z))) (at v)
       (λ j l. mended-at s w (pairOf a x b z) j l ∙ ap (λ (m : ℕ). at w j ⊕ m) (same j l) ∙ twice (at w j) (at v j))
+      ∙ silent-test s (at v) (near .codeword .checks)
 
   pub tried-works : {a x b z : ℕ} {pair : Pair} → Tried s syn a x b z pair → ((j : ℕ) → j < wordLength s → pairOf a x b z j ≡ errorOf w v j) → pair .works ≡ true
   tried-works {a} {x} {b} {z} {pair} tried same =

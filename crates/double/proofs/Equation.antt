@@ -6,28 +6,29 @@ use mathlib.Core.Logic.{⊎-elim}
 use Prim.Native.Nat.{ℕ, _^_, _<_, _≤_}
 use native.Mathlib.Omega.{arith}
 use lib.Dec.{eqb}
-use borrow.Author.Tests.{le-leb, eqb-true, eqb-false, not-true, not-false}
+use borrow.Author.Tests.{eqb-true, eqb-false, not-true}
 use Rattle.parity.specs.Xor.{_⊕_}
 use Rattle.parity.specs.Count.{count}
 use Rattle.parity.proofs.Xors.{xors, zero-r, twice, eq-of-zero, lt-pow, when-lt}
 use Rattle.parity.proofs.Tests.{either, and-left, and-right, and-both, not-of-false, any-elim, any-intro}
 use Rattle.parity.proofs.First.{first-some, first-none}
-use Rattle.parity.proofs.Sums.{count-cong}
 use Rattle.parity.proofs.Pigeon.{count-others}
-use Rattle.parity.proofs.Lists.{is-tabulate}
 use Rattle.gtb.specs.declared.Shape.{Shape}
 use Rattle.gtb.specs.Shape.{Lawful, wordLength}
 use Rattle.gtb.specs.Square.{lineOf, at, silentTest}
 use Rattle.gtb.proofs.Lines.{line-lt}
-use Rattle.gtb.proofs.Rows.{syndrome-width}
-use Rattle.gtb.proofs.Crossing.{private-check, private-value}
+use Rattle.gtb.proofs.Rows.{silent-hidden, syndrome-width}
+use Rattle.gtb.proofs.Words.{silent-test, test-cong}
+use Rattle.gtb.proofs.Crossing.{private-check}
 use Rattle.distance.specs.Distance.{Near}
+use Rattle.distance.proofs.Near.{near-unique}
 use Rattle.correction.specs.Error.{onCheck, mended}
 use Rattle.correction.proofs.Errors.{mended-at}
-use Rattle.double.specs.Double.{off, single, twoAt, paired, changes, solvable}
+use Rattle.correction.proofs.Near.{errorOf, support, outside, error-size, near-shown, near-private, error-near}
+use Rattle.double.specs.Double.{off, single, twoAt, two}
 use Rattle.double.specs.Steps.{pairOf}
 use Rattle.double.proofs.Pairs.{when-here, when-there, pair-narrow, pair-few}
-use Rattle.double.proofs.Near.{near-unique, error-near, errorOf, test-of, test-cong, lone-check, error-shows, error-size, lone}
+use Rattle.double.proofs.Lone.{lone, lone-check}
 
 -- ---- the value of a symbol, with x taken off at i
 off-here : (f : ℕ → ℕ) (i x : ℕ) → off f i x i ≡ f i ⊕ x
@@ -51,15 +52,7 @@ off-narrow k f i x j lf lx = lt-pow k _ _ lf (when-lt k (eqb j i) x lx)
 abbrev passes : Shape → (ℕ → ℕ) → ℕ → ℕ → Bool
 passes s f j t = not (eqb (onCheck s f j t) 0) && single s (off f j (onCheck s f j t))
 
--- where the word differs
-abbrev support : List ℕ → List ℕ → ℕ → Bool
-support w v j = not (eqb (errorOf w v j) 0)
-
-module _ (s : Shape) (law : Lawful s) (n3 : 3 ≤ s .n) (w v : List ℕ) (k : ℕ) (near : Near s 2 w v k) where
-  -- a check shows the difference alone
-  shown : (j t : ℕ) → j < wordLength s → t < s .n → onCheck s (at w) j t ≡ onCheck s (errorOf w v) j t
-  shown j t lj lt = error-shows s (at w) (at v) (near .codeword .checks) t (lineOf s t j) lt (line-lt s law t j lt lj)
-
+module _ (s : Shape) (law : Lawful s) (n3 : 3 ≤ s .n) (w v : List ℕ) (k : ℕ) (near : Near s (two .bound s) w v k) where
   value-narrow : (j t : ℕ) → onCheck s (at w) j t < 2 ^ s .b
   value-narrow j t = syndrome-width s (at w) (s .b) t (lineOf s t j) (λ i l. near .word .width i)
 
@@ -68,27 +61,25 @@ module _ (s : Shape) (law : Lawful s) (n3 : 3 ≤ s .n) (w v : List ℕ) (k : �
   unfolding single
   single-right g i li same =
       any-intro (wordLength s) (λ i. silentTest s (off g i (onCheck s g i 0))) i li
-      (test-of s (off g i (onCheck s g i 0)) (at v) (near .codeword .checks)
+      (test-cong s (off g i (onCheck s g i 0)) (at v)
       (λ j lj.
       ⊎-elim
       (λ (t : eqb j i ≡ true).
       let e = eqb-true j i t in
       ap (off g i (onCheck s g i 0)) e ∙ off-here g i (onCheck s g i 0) ∙ ap (λ (x : ℕ). g i ⊕ x) value ∙ twice (g i) (at v i) ∙ ap (at v) (sym e))
       (λ (f : eqb j i ≡ false). let ne = eqb-false j i f in off-there g i (onCheck s g i 0) j ne ∙ same j lj ne)
-      (either (eqb j i))))
+      (either (eqb j i)))
+      ∙ silent-test s (at v) (near .codeword .checks))
     where
       zero-lt : 0 < s .n
       zero-lt = omega arith
 
       value : onCheck s g i 0 ≡ g i ⊕ at v i
       value =
-          error-shows s g (at v) (near .codeword .checks) 0 (lineOf s 0 i) zero-lt (line-lt s law 0 i zero-lt li)
+          silent-hidden s g (at v) (near .codeword .checks) 0 (lineOf s 0 i) zero-lt (line-lt s law 0 i zero-lt li)
           ∙ lone-check s (λ j. g j ⊕ at v j) i 0 li (λ j lj ne l. ap (λ (x : ℕ). x ⊕ at v j) (same j lj ne) ∙ simp xors)
 
   -- where the word differs, some check passes
-  outside : (j : ℕ) → support w v j ≡ false → errorOf w v j ≡ 0
-  outside j h = eqb-true (errorOf w v j) 0 (not-false (eqb (errorOf w v j) 0) h)
-
   support-size : count (wordLength s) (support w v) ≤ 2
   support-size = omega (arith, error-size s w v, near .changed, near .few)
 
@@ -96,7 +87,7 @@ module _ (s : Shape) (law : Lawful s) (n3 : 3 ≤ s .n) (w v : List ℕ) (k : �
   pass-exists j lj h =
       let one = count-others (wordLength s) (support w v) j lj h in
       let (t, lt, free) = private-check s law (support w v) j lj (omega (arith, support-size)) in
-      let value : onCheck s (at w) j t ≡ errorOf w v j = shown j t lj lt ∙ private-value s (support w v) (errorOf w v) j t lj (λ i l z. outside i z) free in
+      let value : onCheck s (at w) j t ≡ errorOf w v j = near-private law near j t lj lt free in
       let (i, li, alone) = lone (wordLength s) (λ m. support w v m && not (eqb m j)) (omega arith) (omega (arith, support-size)) in (
         t,
         lt,
@@ -109,7 +100,7 @@ module _ (s : Shape) (law : Lawful s) (n3 : 3 ≤ s .n) (w v : List ℕ) (k : �
             (λ (e : eqb m j ≡ false).
             off-there (at w) j (errorOf w v j) m (eqb-false m j e)
             ∙ eq-of-zero (at w m) (at v m)
-            (⊎-elim (λ (d : support w v m ≡ true). absurd (ne (alone m lm (and-both d (not-of-false e))))) (λ (d : support w v m ≡ false). outside m d) (either (support w v m))))
+            (⊎-elim (λ (d : support w v m ≡ true). absurd (ne (alone m lm (and-both d (not-of-false e))))) (λ (d : support w v m ≡ false). outside w v m d) (either (support w v m))))
             (either (eqb m j))))),
       )
 
@@ -122,14 +113,14 @@ module _ (s : Shape) (law : Lawful s) (n3 : 3 ≤ s .n) (w v : List ℕ) (k : �
       let y = onCheck s (off (at w) j x) i 0 in
       let ly : y < 2 ^ s .b = syndrome-width s (off (at w) j x) (s .b) 0 (lineOf s 0 i) (λ m l. off-narrow (s .b) (at w) j x m (near .word .width m) (value-narrow j t)) in
       let found =
-      error-near s w (pairOf j x i y) (near .word) (λ m l. pair-narrow (s .b) j x i y (value-narrow j t) ly m) (pair-few (wordLength s) j x i y lj li)
+      error-near s w (pairOf j x i y) (two .bound s) (near .word) (λ m l. pair-narrow (s .b) j x i y (value-narrow j t) ly m) (pair-few (wordLength s) j x i y lj li)
       (test-cong s (at (mended s w (pairOf j x i y))) (off (off (at w) j x) i y) (λ m l. mended-at s w (pairOf j x i y) m l ∙ sym (off-pair (at w) j x i y m)) ∙ quiet) in
       let same : (m : ℕ) → m < wordLength s → off (off (at w) j x) i y m ≡ at v m =
-      λ m l. off-pair (at w) j x i y m ∙ sym (mended-at s w (pairOf j x i y) m l) ∙ ap (λ (u : List ℕ). at u m) (near-unique s law n3 w _ v _ k found near .0) in
+      λ m l. off-pair (at w) j x i y m ∙ sym (mended-at s w (pairOf j x i y) m l) ∙ ap (λ (u : List ℕ). at u m) (near-unique s law (two .bound s) n3 w _ v _ k found near .0) in
       ⊎-elim
       (λ (e : eqb j i ≡ true).
       let ji = eqb-true j i e in
-      shown j t lj lt
+      near-shown law near j t lj lt
       ∙ lone-check s (errorOf w v) j t lj
       (λ m lm ne l. ap (λ (z : ℕ). z ⊕ at v m) (sym (off-there (at w) j x m ne) ∙ sym (off-there (off (at w) j x) i y m (λ mi. ne (mi ∙ sym ji))) ∙ same m lm) ∙ simp xors))
       (λ (e : eqb j i ≡ false).
@@ -151,24 +142,7 @@ module _ (s : Shape) (law : Lawful s) (n3 : 3 ≤ s .n) (w v : List ℕ) (k : �
       (λ u lu.
       ⊎-elim
       (λ (h : passes s (at w) j u ≡ true).
-      absurd (eqb-false _ 0 (not-true _ (and-left _ (single s (off (at w) j (onCheck s (at w) j u))) h)) (pass-exact j u lj lu h ∙ outside j d)))
+      absurd (eqb-false _ 0 (not-true _ (and-left _ (single s (off (at w) j (onCheck s (at w) j u))) h)) (pass-exact j u lj lu h ∙ outside w v j d)))
       (λ h. h) (either (passes s (at w) j u)))
-      ∙ sym (outside j d))
+      ∙ sym (outside w v j d))
       (either (support w v j))
-
-  pub paired-right : paired s w ≡ v
-  unfolding paired mended
-  paired-right =
-      sym
-      (is-tabulate (wordLength s) (λ j. at w j ⊕ twoAt s (at w) j) v (near .codeword .word .size)
-      (λ j l. sym (ap (λ (x : ℕ). at w j ⊕ x) (two-right j l) ∙ twice (at w j) (at v j))))
-
-  pub changes-right : changes s w ≡ k
-  unfolding changes
-  changes-right = count-cong (wordLength s) _ _ (λ j l. ap (λ (x : ℕ). not (eqb x 0)) (two-right j l)) ∙ error-size s w v ∙ near .changed
-
-  pub near-solvable : solvable s w ≡ true
-  unfolding solvable
-  near-solvable =
-      and-both (le-leb (changes s w) 2 (rw changes-right (near .few)))
-      (test-of s (at (paired s w)) (at v) (near .codeword .checks) (λ j l. ap (λ (u : List ℕ). at u j) paired-right))

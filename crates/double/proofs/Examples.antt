@@ -9,7 +9,8 @@ use Rattle.gtb.specs.Shape.{standard, orders, isOrder, lawful, regular, sloped,
 use Rattle.gtb.specs.Square.{lineOf, narrow, syndrome, silentTest}
 use Rattle.correction.specs.declared.Decoded.the-variants.{Corrected}
 use Rattle.correction.specs.Error.{mended}
-use Rattle.double.specs.Double.{off, single, twoAt, paired, changes, solvable, threefold, doubleOf}
+use Rattle.correction.specs.Reading.{changesBy, restoredBy, acceptedBy, readOf}
+use Rattle.double.specs.Double.{off, single, twoAt, twoOf, twoRestored}
 
 abbrev pub stored : List ℕ
 stored = 3 ∷ 6 ∷ 5 ∷ 5 ∷ 3 ∷ 6 ∷ 6 ∷ 5 ∷ 3 ∷ []
@@ -18,6 +19,6 @@ stored = 3 ∷ 6 ∷ 5 ∷ 5 ∷ 3 ∷ 6 ∷ 6 ∷ 5 ∷ 3 ∷ []
 abbrev pub received : List ℕ
 received = 3 ∷ 6 ∷ 5 ∷ (5 ⊕ 7) ∷ (3 ⊕ 7) ∷ 6 ∷ 6 ∷ 5 ∷ 3 ∷ []
 
-pub masked-pair : (doubleOf (standard 3 3 3) received ≡ Corrected 2) × (paired (standard 3 3 3) received ≡ stored)
-unfolding doubleOf paired solvable changes twoAt single off threefold mended tabulate lawful regular sloped fitsSlope isOrder orders narrow silentTest syndrome firstValue all any bit sum count xorSum when lineOf slopeOf _⊕_
+pub masked-pair : (twoOf (standard 3 3 3) received ≡ Corrected 2) × (twoRestored (standard 3 3 3) received ≡ stored)
+unfolding readOf restoredBy acceptedBy changesBy twoAt single off mended tabulate lawful regular sloped fitsSlope isOrder orders narrow silentTest syndrome firstValue all any bit sum count xorSum when lineOf slopeOf _⊕_
 masked-pair = (refl, refl)

@@ -1,13 +1,10 @@
 pub mod Pairs
-pub mod Near
+pub mod Lone
 pub mod Equation
 pub mod Meaning
 pub mod Crossings
 pub mod Attempts
 pub mod Finding
 pub mod Trials
-pub mod Answers
-pub mod Agreement
 pub mod Alikes
-pub mod Refusals
 pub mod Examples

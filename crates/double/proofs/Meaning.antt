@@ -4,54 +4,30 @@ use mathlib.Core.Bool.{Bool, true, false, not, _&&_}
 use mathlib.Core.List.{List}
 use mathlib.Core.Logic.{⊎-elim}
 use Prim.Native.Nat.{ℕ, _^_, _<_, _≤_}
-use native.Mathlib.Omega.{arith}
-use lib.Dec.{eqb, leb}
-use lib.ListN.{length}
+use lib.Dec.{eqb}
 use lib.Pow.{pow-pos}
-use borrow.Author.Tests.{leb-true, le-leb, eq-eqb, eqb-true}
-use Rattle.parity.specs.Count.{count, any}
-use Rattle.parity.proofs.Tests.{either, and-left, and-right, any-elim, any-no}
+use borrow.Author.Tests.{leb-true, le-leb, lt-leb}
+use Rattle.parity.specs.Count.{any}
+use Rattle.parity.proofs.Tests.{either, any-elim, any-no}
 use Rattle.parity.proofs.First.{first-some, first-none}
 use Rattle.gtb.specs.declared.Shape.{Shape}
 use Rattle.gtb.specs.declared.Refusal.{Refusal}
-use Rattle.gtb.specs.Shape.{lawful, shapeRefusal, Lawful, wordLength}
-use Rattle.gtb.specs.Square.{lineOf, at, narrow, Word}
-use Rattle.gtb.proofs.Answers.{unless-passed, shape-refusal-both}
+use Rattle.gtb.specs.Shape.{Lawful}
+use Rattle.gtb.specs.Square.{lineOf, at, Word, Codeword}
 use Rattle.gtb.proofs.Rows.{syndrome-width}
-use Rattle.gtb.proofs.Words.{word-narrow, narrow-word}
 use Rattle.distance.specs.Distance.{Near}
+use Rattle.distance.proofs.Near.{near-within}
 use Rattle.correction.specs.declared.Decoded.the-variants.{Corrected, Refused}
-use Rattle.correction.specs.Error.{onCheck}
+use Rattle.correction.specs.Error.{weight, damaged, onCheck}
 use Rattle.correction.specs.Answer.{decodedWord}
-use Rattle.decoder.proofs.Meaning.{corrected-not}
-use Rattle.double.specs.Double.{off, single, twoAt, paired, changes, solvable, threefold, doubleOf, Pairing}
-use Rattle.double.proofs.Near.{error-near}
-use Rattle.double.proofs.Equation.{paired-right, changes-right, near-solvable}
+use Rattle.correction.specs.Reading.{readOf}
+use Rattle.correction.proofs.Near.{damaged-near, near-meant}
+use Rattle.correction.proofs.Readings.{read-accepted, Meant, means-read, read-means, meets}
+use Rattle.decoder.specs.Decode.{clean, decodeOf, restored}
+use Rattle.decoder.proofs.Meaning.{explains-near, clean-meant}
+use Rattle.double.specs.Double.{off, single, twoAt, two, twoOf, twoRestored, ReadingTwo}
+use Rattle.double.proofs.Equation.{two-right}
 
-pub three : (s : Shape) → 3 ≤ s .n → threefold s ≡ true
-unfolding threefold
-three s n3 = le-leb 3 (s .n) n3
-
-pub three-at-least : (s : Shape) → threefold s ≡ true → 3 ≤ s .n
-unfolding threefold
-three-at-least s h = leb-true 3 (s .n) h
-
--- a word with a codeword near it is accepted, with that codeword and that number
-pub near-double : (s : Shape) → Lawful s → 3 ≤ s .n → (w v : List ℕ) (k : ℕ) → Near s 2 w v k → (doubleOf s w ≡ Corrected k) × (paired s w ≡ v)
-unfolding doubleOf
-near-double s law n3 w v k near = (
-  rw (
-    law,
-    three s n3,
-    eq-eqb (length w) (wordLength s) (near .word .size),
-    word-narrow s w (near .word),
-    near-solvable s law n3 w v k near,
-    changes-right s law n3 w v k near,
-  ),
-  paired-right s law n3 w v k near,
-)
-
--- ---- what the equation accepts is near
 -- the change at a position is a check's value, or 0
 two-narrow : (s : Shape) (w : List ℕ) → Word s w → (j : ℕ) → twoAt s (at w) j < 2 ^ s .b
 unfolding twoAt
@@ -65,46 +41,30 @@ two-narrow s w hw j =
     (λ (none : any (s .n) p ≡ false). rw (first-none (s .n) p (onCheck s (at w) j) (any-no (s .n) p none)) (pow-pos (s .b)))
     (either (any (s .n) p))
 
-pub solvable-near : (s : Shape) (w : List ℕ) → Word s w → solvable s w ≡ true → Near s 2 w (paired s w) (changes s w)
-unfolding solvable paired changes
-solvable-near s w hw ok =
-    error-near s w (twoAt s (at w)) hw (λ j l. two-narrow s w hw j) (leb-true _ 2 (and-left _ _ ok))
-    (and-right (leb (count (wordLength s) (λ j. not (eqb (twoAt s (at w) j) 0))) 2) _ ok)
+pub two-meant : Meant two (λ s. Near s (two .bound s))
+two-meant = near-meant two refl (λ s f j. refl) (λ s w hw j l. two-narrow s w hw j) (λ s law fits. two-right s law (leb-true 3 (s .n) fits))
 
--- ---- the tests
-accepted-near : (s : Shape) (w : List ℕ) (k : ℕ) → doubleOf s w ≡ Corrected k → Near s 2 w (paired s w) k
-unfolding doubleOf
-accepted-near s w k h =
-    let (law, h2) = unless-passed (lawful s) _ _ (corrected-not (shapeRefusal s) k) h in
-    let (many, h3) = unless-passed (threefold s) _ _ (corrected-not Refusal.Directions k) h2 in
-    let (size, h4) = unless-passed (eqb (length w) (wordLength s)) _ _ (corrected-not Refusal.Length k) h3 in
-    let (slim, h5) = unless-passed (narrow (s .b) w) _ _ (corrected-not Refusal.Width k) h4 in
-    let (ok, last) = unless-passed (solvable s w) _ _ (corrected-not Refusal.NoPair k) h5 in
-    let e : changes s w ≡ k = cc in
-    rw e at (solvable-near s w (narrow-word s w (eqb-true (length w) (wordLength s) size) slim) ok)
-
--- the answer is 17: the tests of the shape were passed
-far-shape : (s : Shape) (w : List ℕ) → doubleOf s w ≡ Refused Refusal.NoPair → Lawful s × (3 ≤ s .n)
-unfolding doubleOf
-far-shape s w h =
-    let (law, h2) =
-    unless-passed (lawful s) _ _
-    (shape-refusal-both (λ e. Refused e ≡ Refused Refusal.NoPair → ⊥) (λ r. let z : _≡_ {A = ℕ} 0 1 = cc in omega arith)
-    (λ r. let z : _≡_ {A = ℕ} 0 1 = cc in omega arith) s)
-    h in
-    let (many, h3) = unless-passed (threefold s) _ _ (λ r. let z : _≡_ {A = ℕ} 0 1 = cc in omega arith) h2 in
-    (law, three-at-least s many)
+-- a word with a codeword near it is accepted, with that codeword and that number
+pub near-two : (s : Shape) → Lawful s → 3 ≤ s .n → (w v : List ℕ) (k : ℕ) → Near s 2 w v k → (twoOf s w ≡ Corrected k) × (twoRestored s w ≡ v)
+near-two s law n3 = means-read two-meant s law (le-leb 3 (s .n) n3)
 
 -- for every shape and word: the answer by equation, and what it means
-pub double-meets : (s : Shape) (w : List ℕ) → Pairing s w (decodedWord w (paired s w) (doubleOf s w)) (doubleOf s w)
-double-meets s w = record {
-  answer = refl;
-  number = refl;
-  word = refl;
-  accepted = λ k h. rw h (accepted-near s w k h);
-  far = λ h v k near.
-      let (law, n3) = far-shape s w h in
-      let a = near-double s law n3 w v k near .0 in
-      let z : _≡_ {A = ℕ} 0 1 = cc in
-      omega arith;
-}
+pub two-meets : (s : Shape) (w : List ℕ) → ReadingTwo s w (decodedWord w (twoRestored s w) (twoOf s w)) (twoOf s w)
+two-meets = meets two-meant
+
+-- any damage to at most two symbols of a codeword is undone
+pub double-right : (s : Shape) → Lawful s → 3 ≤ s .n → (v e : List ℕ) → Codeword s v → Word s e → weight s (at e) ≤ 2
+    → (twoOf s (damaged v e) ≡ Corrected (weight s (at e))) × (twoRestored s (damaged v e) ≡ v)
+double-right s law n3 v e hv he few = near-two s law n3 (damaged v e) v (weight s (at e)) (damaged-near s 2 v e hv he few)
+
+-- where clean reading changes no more than two symbols, the two agree
+pub clean-agrees : (s : Shape) → 3 ≤ s .n → (w : List ℕ) (k : ℕ) → decodeOf s w ≡ Corrected k → k ≤ 2
+    → (twoOf s w ≡ Corrected k) × (twoRestored s w ≡ restored s w)
+clean-agrees s n3 w k h few =
+    near-two s (read-accepted clean s w k h .lawful) n3 w (restored s w) k
+    (near-within (explains-near s w (restored s w) k (read-means clean-meant s w k h)) few)
+
+-- with two directions every word gets 16, whatever its length and width
+pub two-directions : (s : Shape) → Lawful s → s .n < 3 → (w : List ℕ) → twoOf s w ≡ Refused Refusal.Directions
+unfolding readOf
+two-directions s law few w = rw (law, lt-leb 3 (s .n) few)

@@ -1,21 +1,19 @@
 -- A pair as a list of two corrections: tried on the table, and taken off the word.
-use mathlib.Core.Path.{_≡_, refl, sym, _∙_}
-use mathlib.Core.Bool.{Bool}
+use mathlib.Core.Path.{_≡_, refl}
+use mathlib.Core.Bool.{Bool, true}
 use mathlib.Core.List.{List}
-use Prim.Native.Nat.{ℕ, zero, suc, _*_, _<_}
+use Prim.Native.Nat.{ℕ, zero, suc, _<_}
 use native.Mathlib.Omega.{arith}
-use lib.Dec.{eqb}
-use lib.ListN.{length}
-use Rattle.parity.specs.Count.{all}
 use Rattle.gtb.specs.declared.Shape.{Shape}
-use Rattle.gtb.specs.Shape.{Lawful, wordLength}
-use Rattle.gtb.specs.Square.{at}
+use Rattle.gtb.specs.Shape.{wordLength}
+use Rattle.gtb.specs.Square.{at, Word, Syndromes}
+use Rattle.distance.specs.Distance.{Near}
 use Rattle.correction.specs.Error.{mended}
-use Rattle.correction.specs.Steps.{Within, Toggled, Cancelled}
-use Rattle.correction.proofs.Tables.{silent-by, mends}
+use Rattle.correction.specs.Steps.{Within, Silences, Mends}
+use Rattle.correction.proofs.Near.{error-near}
 use Rattle.double.specs.declared.Pair.{Pair}
-use Rattle.double.specs.Steps.{pairOf, Tried}
-use Rattle.double.proofs.Pairs.{pair-lists}
+use Rattle.double.specs.Steps.{pairOf, without, Tried, Proposed, pairChanges}
+use Rattle.double.proofs.Pairs.{pair-lists, pair-narrow, pair-few}
 
 -- two places with their values
 abbrev asPair : Bool → List ℕ → List ℕ → Pair
@@ -30,17 +28,23 @@ module _ (s : Shape) (places errors : List ℕ) (la : at places 0 < wordLength s
       below (suc zero) l = lb
       below (suc (suc x)) l = absurd (omega arith)
 
-  pub pair-tried : {syn left : List ℕ} {works : Bool} → Lawful s → Cancelled s 2 places errors syn left
-      → works ≡ all (s .n * s .q) (λ e. eqb (at left e) 0)
+  pub pair-tried : {syn : List ℕ} {works : Bool} → Silences s 2 places errors syn works
       → Tried s syn (at places 0) (at errors 0) (at places 1) (at errors 1) (asPair works places errors)
-  pair-tried law c test = record {
+  pair-tried t = record {
     place-a = refl;
     value-x = refl;
     place-b = refl;
     value-y = refl;
-    works = λ w y. test ∙ sym (silent-by (pair-lists s places errors la lb) y c law);
+    works = t .silent _ (pair-lists s places errors la lb);
   }
 
-  pub pair-taken : {w w′ : List ℕ} → length w ≡ wordLength s → Toggled 2 (at places) (at errors) w w′
-      → w′ ≡ mended s w (pairOf (at places 0) (at errors 0) (at places 1) (at errors 1))
-  pair-taken size toggled = mends (pair-lists s places errors la lb) size toggled
+  pub pair-taken : {w w′ : List ℕ} → Mends s 2 places errors w w′ → w′ ≡ mended s w (pairOf (at places 0) (at errors 0) (at places 1) (at errors 1))
+  pair-taken m = m .mends _ (pair-lists s places errors la lb)
+
+-- one that works leaves a codeword near
+pub pair-near : {s : Shape} {syn w : List ℕ} {p : Pair} → Proposed s syn p → Word s w → Syndromes s w syn → p .works ≡ true → Near s 2 w (without s w p) (pairChanges s p)
+unfolding pairChanges
+pair-near {s} {syn} {w} {p} h hw y yes-works =
+    let (lx, ly) = h .width w hw y in
+    error-near s w (pairOf (p .a) (p .x) (p .b) (p .y)) 2 hw (λ j l. pair-narrow (s .b) (p .a) (p .x) (p .b) (p .y) lx ly j)
+    (pair-few (wordLength s) (p .a) (p .x) (p .b) (p .y) (h .below-a) (h .below-b)) (h .works w y yes-works)

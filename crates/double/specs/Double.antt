@@ -1,22 +1,18 @@
 -- Two wrong symbols, masked or not (RULES 3.3; request N6).
-use mathlib.Core.Path.{_≡_}
 use mathlib.Core.Bool.{Bool, not, _&&_}
 use mathlib.Core.List.{List}
 use Prim.Native.Nat.{ℕ}
 use lib.Dec.{eqb, leb}
-use lib.ListN.{length}
 use Rattle.parity.specs.Xor.{_⊕_, when}
-use Rattle.parity.specs.Count.{count, any, firstValue}
+use Rattle.parity.specs.Count.{any, firstValue}
 use Rattle.gtb.specs.declared.Shape.{Shape}
 use Rattle.gtb.specs.declared.Refusal.{Refusal}
-use Rattle.gtb.specs.Shape.{lawful, shapeRefusal, wordLength}
-use Rattle.gtb.specs.Square.{at, narrow, silentTest}
-use Rattle.gtb.specs.Answer.{unless}
+use Rattle.gtb.specs.Shape.{wordLength}
+use Rattle.gtb.specs.Square.{silentTest}
 use Rattle.distance.specs.Distance.{Near}
 use Rattle.correction.specs.declared.Decoded.{Decoded}
-use Rattle.correction.specs.declared.Decoded.the-variants.{Corrected, Refused}
-use Rattle.correction.specs.Error.{onCheck, mended}
-use Rattle.correction.specs.Answer.{decodedNumber, decodedWord}
+use Rattle.correction.specs.Error.{onCheck}
+use Rattle.correction.specs.Reading.{Reader, restoredBy, readOf, Reads}
 
 -- the symbols f with x XORed onto position i
 unfoldable pub off : (ℕ → ℕ) → ℕ → ℕ → ℕ → ℕ
@@ -30,35 +26,26 @@ single s f = any (wordLength s) (λ i. silentTest s (off f i (onCheck s f i 0)))
 unfoldable pub twoAt : Shape → (ℕ → ℕ) → ℕ → ℕ
 twoAt s f j = firstValue (s .n) (λ t. not (eqb (onCheck s f j t) 0) && single s (off f j (onCheck s f j t))) (onCheck s f j)
 
--- the word with these changes
-unfoldable pub paired : Shape → List ℕ → List ℕ
-paired s w = mended s w (twoAt s (at w))
-
--- how many positions change
-unfoldable pub changes : Shape → List ℕ → ℕ
-changes s w = count (wordLength s) (λ j. not (eqb (twoAt s (at w) j) 0))
-
--- at most two change, and the word with these changes has every syndrome zero
-unfoldable pub solvable : Shape → List ℕ → Bool
-solvable s w = leb (changes s w) 2 && silentTest s (at (paired s w))
-
 -- test 16: three directions or more
-unfoldable pub threefold : Shape → Bool
-threefold s = leb 3 (s .n)
+abbrev pub threeDirections : Shape → Bool
+threeDirections s = leb 3 (s .n)
 
--- tests 1, 18, 16, 2, 3, 17
-unfoldable pub doubleOf : Shape → List ℕ → Decoded
-doubleOf s w =
-    unless (lawful s) (Refused (shapeRefusal s))
-    (unless (threefold s) (Refused Refusal.Directions)
-    (unless (eqb (length w) (wordLength s)) (Refused Refusal.Length)
-    (unless (narrow (s .b) w) (Refused Refusal.Width)
-    (unless (solvable s w) (Refused Refusal.NoPair) (Corrected (changes s w))))))
+-- at most two positions change, and the changes silence every check; otherwise 17
+abbrev pub two : Reader
+two = record {
+  found = λ s f j. not (eqb (twoAt s f j) 0);
+  change = twoAt;
+  bound = λ s. 2;
+  refusal = Refusal.BeyondTwo;
+  suits = threeDirections;
+}
 
--- reading two wrong symbols: the answer and the word by equation, and what they mean
-pub record Pairing (s : Shape) (w w′ : List ℕ) (r : Decoded) : Type 0 where
-  pub answer : r ≡ doubleOf s w
-  pub number : decodedNumber r ≡ decodedNumber (doubleOf s w)
-  pub word : w′ ≡ decodedWord w (paired s w) r
-  pub accepted : (k : ℕ) → r ≡ Corrected k → Near s 2 w w′ k
-  pub far : r ≡ Refused Refusal.NoPair → (v : List ℕ) (k : ℕ) → Near s 2 w v k → ⊥
+abbrev pub twoOf : Shape → List ℕ → Decoded
+twoOf = readOf two
+
+abbrev pub twoRestored : Shape → List ℕ → List ℕ
+twoRestored = restoredBy two
+
+-- reading two wrong symbols: a codeword differs from the word that came in at most two
+abbrev pub ReadingTwo : Shape → List ℕ → List ℕ → Decoded → Type 0
+ReadingTwo = Reads two (λ s. Near s 2)

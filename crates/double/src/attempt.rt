@@ -3,8 +3,7 @@ use crate::Pair;
 use crate::lines::cross;
 use crate::lines::first_line;
 use crate::lines::last_line;
-use correction::cancel::cancel;
-use correction::cancel::is_silent;
+use correction::cancel::silences;
 use gtb::Shape;
 ghost use mathlib.Core.Path.{_≡_};
 ghost use mathlib.Core.Bool.{cond};
@@ -20,13 +19,10 @@ fn test_pair(shape: Shape, syn: &[u32; 248], a: usize, x: u32, b: usize, y: u32)
     requires { ⌜ Lawful shape × (length (now syn) ≡ 248) × (a < wordLength shape) × (b < wordLength shape) ⌝ }
     ensures { λ r. ⌜ Tried shape (now (syn .entry)) a x b y r ⌝ }
 {
-    let q = shape.q as usize;
-    let n = shape.n as usize;
     let places = [a, b, 0, 0, 0, 0, 0, 0];
     let errors = [x, y, 0, 0, 0, 0, 0, 0];
     let mut left = *syn;
-    cancel(shape, &mut left, &places, &errors, 2);
-    let works = is_silent(&left, n * q);
+    let works = silences(shape, &mut left, &places, &errors, 2);
     Pair {
         works: works,
         a: a,

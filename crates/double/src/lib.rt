@@ -4,9 +4,10 @@ mod lines;
 mod restore;
 
 use correction::Decoded;
-use gtb::Refusal;
+use correction::test;
 use gtb::Shape;
-ghost use Rattle.double.specs.Double.{Pairing};
+use gtb::Status;
+ghost use Rattle.double.specs.Double.{ReadingTwo};
 
 // Two corrections, x at position a and y at position b, and whether they silence every check.
 struct Pair {
@@ -19,20 +20,11 @@ struct Pair {
 
 // Reading two wrong symbols: tests 1, 18, 16, 2, 3, then the work.
 pub fn decode_two(shape: Shape, word: &mut [u32]) -> Decoded
-    ensures { λ r. ⌜ Pairing shape (now (word .entry)) (now (word .exit)) r ⌝ }
+    ensures { λ r. ⌜ ReadingTwo shape (now (word .entry)) (now (word .exit)) r ⌝ }
 {
-    if !gtb::is_lawful(shape) {
-        return Decoded::Refused(gtb::shape_refusal(shape));
+    let tested = test(shape, 3 <= shape.n, word);
+    match tested {
+        Status::Refused(e) => Decoded::Refused(e),
+        Status::Done => restore::restore(shape, word),
     }
-    if shape.n < 3 {
-        return Decoded::Refused(Refusal::Directions);
-    }
-    let q = shape.q as usize;
-    if word.len() != q * q {
-        return Decoded::Refused(Refusal::Length);
-    }
-    if !gtb::is_narrow(word, shape.b) {
-        return Decoded::Refused(Refusal::Width);
-    }
-    restore::restore(shape, word)
 }

@@ -15,7 +15,8 @@ ghost use lib.ListN.{length};
 ghost use Rattle.parity.specs.Count.{bit};
 ghost use Rattle.gtb.specs.Shape.{Lawful, wordLength};
 ghost use Rattle.gtb.specs.Square.{Word};
-ghost use Rattle.double.specs.Double.{Pairing};
+ghost use Rattle.correction.specs.Steps.{Corrects};
+ghost use Rattle.double.specs.Double.{two};
 ghost use Rattle.double.specs.Steps.{without, pairChanges};
 
 // 1, or 0 for no change.
@@ -46,23 +47,21 @@ fn take_off(shape: Shape, word: &mut [u32], pair: Pair)
 {
     let places = [pair.a, pair.b, 0, 0, 0, 0, 0, 0];
     let errors = [pair.x, pair.y, 0, 0, 0, 0, 0, 0];
-    apply(word, &places, &errors, 2);
+    apply(shape, word, &places, &errors, 2);
 }
 
 // Test 17: the word is restored, or left as it came.
 pub fn restore(shape: Shape, word: &mut [u32]) -> Decoded
     requires { ⌜ Lawful shape × (2 < shape .n) × Word shape (now word) ⌝ }
-    ensures { λ r. ⌜ Pairing shape (now (word .entry)) (now (word .exit)) r ⌝ }
+    ensures { λ r. ⌜ Corrects two shape (now (word .entry)) (now (word .exit)) r ⌝ }
 {
-    let q = shape.q as usize;
-    let n = shape.n as usize;
     let syn = syndromes(shape, word);
-    if is_silent(&syn, n * q) {
+    if is_silent(shape, &syn) {
         return Decoded::Corrected(0);
     }
     let pair = find(shape, &syn);
     if !pair.works {
-        return Decoded::Refused(Refusal::NoPair);
+        return Decoded::Refused(Refusal::BeyondTwo);
     }
     let count = changed(shape, pair);
     take_off(shape, word, pair);

@@ -18,7 +18,7 @@ use Rattle.parity.specs.Lists.{at}
 use Rattle.parity.proofs.Xors.{zero-r}
 use Rattle.parity.proofs.Tests.{either, and-no-left}
 use Rattle.elimination.specs.Packed.{bitAt, cellOf}
-use Rattle.elimination.specs.Steps.{Row, Added}
+use Rattle.elimination.specs.Steps.{Row, RunAdded}
 use Rattle.elimination.proofs.Systems.{xor-none}
 
 -- one bit of each
@@ -40,13 +40,13 @@ bit-xor a b k =
     ∙ low-bits (a / 2 ^ k % 2) (b / 2 ^ k % 2) (mod-lt (a / 2 ^ k) (zero-lt-suc 1)) (mod-lt (b / 2 ^ k) (zero-lt-suc 1))
 
 -- a run of values, one after the other: none yet
-pub added-none : (to from first : ℕ) (xs : List ℕ) → Added to from first first xs xs
+pub added-none : (to from first : ℕ) (xs : List ℕ) → RunAdded to from first first xs xs
 added-none to from first xs = record { size = refl; inside = λ w l m. absurd (omega arith); outside = λ e l. refl }
 
 -- one more
-pub added-more : {to from first w : ℕ} {old new : List ℕ} (last : ℕ) → Added to from first w old new → first ≤ w → w < last
+pub added-more : {to from first w : ℕ} {old new : List ℕ} (last : ℕ) → RunAdded to from first w old new → first ≤ w → w < last
     → to + last ≤ length old → (from + last ≤ to) ⊎ (to + last ≤ from)
-    → Added to from first (w + 1) old (set new (to + w) (at new (to + w) ⊕ at new (from + w)))
+    → RunAdded to from first (w + 1) old (set new (to + w) (at new (to + w) ⊕ at new (from + w)))
 added-more {to} {from} {first} {w} {old} {new} last h lf lw room apart = record {
   size = length-set new (to + w) v ∙ h .size;
   inside = λ x lf′ lx.
@@ -84,7 +84,7 @@ rows-apart S p s i l ne =
     ]
 
 module _ {S p s i k : ℕ} {old new values : List ℕ} (from : Row S p s old values) (row : Row S p i old values) (lk : k < p)
-    (zeros : (j : ℕ) → j < k → cellOf S old s j ≡ false) (h : Added (i * S) (s * S) (k / 32) ((p + 31) / 32) old new) where
+    (zeros : (j : ℕ) → j < k → cellOf S old s j ≡ false) (h : RunAdded (i * S) (s * S) (k / 32) ((p + 31) / 32) old new) where
   -- row i itself
   same-row : (j : ℕ) → j < p → cellOf S new i j ≡ xor (cellOf S old i j) (cellOf S old s j)
   unfolding cellOf

@@ -15,15 +15,15 @@ use Rattle.parity.specs.Lists.{at}
 use Rattle.parity.proofs.Tests.{either, and-no-left, and-no-right, not-of-true}
 use Rattle.elimination.specs.Packed.{cellOf}
 use Rattle.elimination.specs.Outcome.{Room}
-use Rattle.elimination.specs.Steps.{lifted, cleared, Reduced, First, Row, Added, Joined, Progress}
+use Rattle.elimination.specs.Steps.{lifted, cleared, Reduced, First, Row, RunAdded, RowsCombined, Progress}
 use Rattle.elimination.proofs.Systems.{xor-none, when-off, combined-same, combined-more, combined-kept, kept-none, kept-trans}
 use Rattle.elimination.proofs.Reductions.{reduced-none, reduced-free, reduced-lift, lift-pivot, reduced-pivot}
 use Rattle.elimination.proofs.Cells.{row-before, added-cell, added-value}
 
 -- one row
 pub joined-one : {S p s i k : ℕ} {old new values : List ℕ} → Row S p s old values → Row S p i old values → k < p
-    → ((j : ℕ) → j < k → cellOf S old s j ≡ false) → Added (i * S) (s * S) (k / 32) ((p + 31) / 32) old new
-    → Joined S p s (λ t. eqb t i) old values new (set values i (at values i ⊕ at values s))
+    → ((j : ℕ) → j < k → cellOf S old s j ≡ false) → RunAdded (i * S) (s * S) (k / 32) ((p + 31) / 32) old new
+    → RowsCombined S p s (λ t. eqb t i) old values new (set values i (at values i ⊕ at values s))
 joined-one {s = s} {i} {values = values} from to lk zeros h = record {
   size = h .size;
   sizes = length-set values i (at values i ⊕ at values s) ∙ to .sizes;
@@ -34,7 +34,7 @@ joined-one {s = s} {i} {values = values} from to lk zeros h = record {
 }
 
 -- no row
-pub joined-none : {S p s : ℕ} (e : ℕ → Bool) {xs values : List ℕ} → length values ≡ 248 → ((t : ℕ) → e t ≡ false) → Joined S p s e xs values xs values
+pub joined-none : {S p s : ℕ} (e : ℕ → Bool) {xs values : List ℕ} → length values ≡ 248 → ((t : ℕ) → e t ≡ false) → RowsCombined S p s e xs values xs values
 joined-none {S} {s = s} e {xs} {values} size none = record {
   size = refl;
   sizes = size;
@@ -45,8 +45,8 @@ joined-none {S} {s = s} e {xs} {values} size none = record {
 }
 
 -- the same rows, told otherwise
-pub joined-as : {S p s : ℕ} {e : ℕ → Bool} (e′ : ℕ → Bool) {old values new left : List ℕ} → Joined S p s e old values new left
-    → ((t : ℕ) → e′ t ≡ e t) → Joined S p s e′ old values new left
+pub joined-as : {S p s : ℕ} {e : ℕ → Bool} (e′ : ℕ → Bool) {old values new left : List ℕ} → RowsCombined S p s e old values new left
+    → ((t : ℕ) → e′ t ≡ e t) → RowsCombined S p s e′ old values new left
 joined-as {S} {s = s} e′ {old} {values} h same = record {
   size = h .size;
   sizes = h .sizes;
@@ -99,7 +99,7 @@ rows-more f t i =
     xor-false false = refl
 
 -- clearing: row after row
-pub cleared-none : {S p u : ℕ} (k : ℕ) {xs values : List ℕ} → length values ≡ 248 → Joined S p u (cleared (u + 1) (cellOf S xs) k u) xs values xs values
+pub cleared-none : {S p u : ℕ} (k : ℕ) {xs values : List ℕ} → length values ≡ 248 → RowsCombined S p u (cleared (u + 1) (cellOf S xs) k u) xs values xs values
 cleared-none {S} {u = u} k {xs} size = joined-none (cleared (u + 1) (cellOf S xs) k u) size none
   where
     none : (t : ℕ) → cleared (u + 1) (cellOf S xs) k u t ≡ false
@@ -116,9 +116,9 @@ cleared-above i m k u t l = and-no-right (ltb t i) (and-no-left (m t k) (le-ltb 
 pub cleared-own : (i : ℕ) (m : ℕ → ℕ → Bool) (k u : ℕ) → cleared i m k u u ≡ false
 cleared-own i m k u = cleared-above i m k u u (omega arith)
 
-pub cleared-more : {S p u k : ℕ} (i : ℕ) {old values mid left new last : List ℕ} → k < p → u < i → Joined S p u (cleared i (cellOf S old) k u) old values mid left
-    → Joined S p u (λ t. eqb t i && cellOf S mid t k) mid left new last
-    → Joined S p u (cleared (i + 1) (cellOf S old) k u) old values new last
+pub cleared-more : {S p u k : ℕ} (i : ℕ) {old values mid left new last : List ℕ} → k < p → u < i → RowsCombined S p u (cleared i (cellOf S old) k u) old values mid left
+    → RowsCombined S p u (λ t. eqb t i && cellOf S mid t k) mid left new last
+    → RowsCombined S p u (cleared (i + 1) (cellOf S old) k u) old values new last
 cleared-more {S} {u = u} {k} i {old} {mid = mid} lk lu a b =
     let m : ℕ → ℕ → Bool = cellOf S old in
     let f : ℕ → Bool = λ t. ltb u t && m t k in
@@ -166,7 +166,7 @@ row-of {r} {S} room i l = record {
 }
 
 -- a row that is left out keeps its zeros
-pub zeros-joined : {S p s k : ℕ} {e : ℕ → Bool} {old values new left : List ℕ} → Joined S p s e old values new left → (i : ℕ) → e i ≡ false → k < p
+pub zeros-joined : {S p s k : ℕ} {e : ℕ → Bool} {old values new left : List ℕ} → RowsCombined S p s e old values new left → (i : ℕ) → e i ≡ false → k < p
     → ((j : ℕ) → j < k → cellOf S old i j ≡ false) → (j : ℕ) → j < k → cellOf S new i j ≡ false
 zeros-joined h i f lk zeros j l = combined-same (h .rows) i j f (omega arith) ∙ zeros j l
 
@@ -182,8 +182,8 @@ column-free {r} {S} {p} {scratch = scratch} {values} size h first e = record {
 
 -- row i is the first
 pub column-pivot : {r S p k u i : ℕ} {old values mid left new last : List ℕ} → k < p → Reduced p r k u (cellOf S old)
-    → First u r (λ t. cellOf S old t k) i → i < r → Joined S p i (lifted u i) old values mid left
-    → Joined S p u (cleared r (cellOf S mid) k u) mid left new last → Progress r S p (k + 1) (u + 1) old values new last
+    → First u r (λ t. cellOf S old t k) i → i < r → RowsCombined S p i (lifted u i) old values mid left
+    → RowsCombined S p u (cleared r (cellOf S mid) k u) mid left new last → Progress r S p (k + 1) (u + 1) old values new last
 column-pivot {r} {S} {k = k} {u} {i} {mid = mid} lk h first li a b =
     let m : ℕ → ℕ → Bool = cellOf S mid in
     let lu : u < r = omega (arith, first .least) in

@@ -72,13 +72,13 @@ pub record Row (S p i : ℕ) (scratch values : List ℕ) : Type 0 where
   pub sizes : length values ≡ 248
 
 -- the values from + w are XORed onto the values to + w, for w from `first` on and below `last`
-pub record Added (to from first last : ℕ) (old new : List ℕ) : Type 0 where
+pub record RunAdded (to from first last : ℕ) (old new : List ℕ) : Type 0 where
   pub size : length new ≡ length old
   pub inside : (w : ℕ) → first ≤ w → w < last → at new (to + w) ≡ at old (to + w) ⊕ at old (from + w)
   pub outside : (e : ℕ) → (e < to + first) ⊎ (to + last ≤ e) → at new e ≡ at old e
 
 -- Combined, of the rows in the scratch
-pub record Joined (S p s : ℕ) (e : ℕ → Bool) (old values new left : List ℕ) : Type 0 where
+pub record RowsCombined (S p s : ℕ) (e : ℕ → Bool) (old values new left : List ℕ) : Type 0 where
   pub size : length new ≡ length old
   pub sizes : length left ≡ 248
   pub rows : Combined p s e (cellOf S old) (at values) (cellOf S new) (at left)

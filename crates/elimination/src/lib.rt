@@ -10,7 +10,7 @@ ghost use Rattle.parity.specs.Xor.{when};
 ghost use Rattle.parity.specs.Lists.{at};
 ghost use Rattle.elimination.specs.Packed.{bitAt, cellOf};
 ghost use Rattle.elimination.specs.Outcome.{Room, Eliminated};
-ghost use Rattle.elimination.specs.Steps.{lifted, cleared, Reduced, First, Row, Added, Joined, Progress, TakenOff, Substituted};
+ghost use Rattle.elimination.specs.Steps.{lifted, cleared, Reduced, First, Row, RunAdded, RowsCombined, Progress, TakenOff, Substituted};
 
 // How many solutions there are.
 pub enum Outcome {
@@ -56,7 +56,7 @@ fn find_value(values: &[u32; 248], from: usize, to: usize) -> usize
 // The values from + w are XORed onto the values to + w.
 fn add_run(scratch: &mut [u32], to: usize, from: usize, first: usize, last: usize)
     requires { ⌜ (first ≤ last) × (to + last ≤ length (now scratch)) × (from + last ≤ length (now scratch)) × ((from + last ≤ to) ⊎ (to + last ≤ from)) ⌝ }
-    ensures { λ _. ⌜ Added to from first last (now (scratch .entry)) (now (scratch .exit)) ⌝ }
+    ensures { λ _. ⌜ RunAdded to from first last (now (scratch .entry)) (now (scratch .exit)) ⌝ }
 {
     for w in first..last {
         scratch[to + w] ^= scratch[from + w];
@@ -75,7 +75,7 @@ fn add_row(
 )
     requires { ⌜ Row width columns s (now scratch) (now values) × Row width columns i (now scratch) (now values)
         × (k < columns) × (i ≡ s → ⊥) × ((j : ℕ) → j < k → cellOf width (now scratch) s j ≡ false) ⌝ }
-    ensures { λ _. ⌜ Joined width columns s (λ t. eqb t i) (now (scratch .entry)) (now (values .entry)) (now (scratch .exit)) (now (values .exit)) ⌝ }
+    ensures { λ _. ⌜ RowsCombined width columns s (λ t. eqb t i) (now (scratch .entry)) (now (values .entry)) (now (scratch .exit)) (now (values .exit)) ⌝ }
 {
     let used = (columns + 31) / 32;
     add_run(scratch, i * width, s * width, k / 32, used);
@@ -95,7 +95,7 @@ fn clear_row(
     requires { ⌜ Row width columns u (now scratch) (now values) × Row width columns i (now scratch) (now values)
         × (k < columns) × (u < i) × ((j : ℕ) → j < k → cellOf width (now scratch) u j ≡ false) ⌝ }
     ensures { λ _.
-        ⌜ Joined width columns u (λ t. eqb t i && cellOf width (now (scratch .entry)) t k)
+        ⌜ RowsCombined width columns u (λ t. eqb t i && cellOf width (now (scratch .entry)) t k)
         (now (scratch .entry)) (now (values .entry)) (now (scratch .exit)) (now (values .exit)) ⌝ }
 {
     if !has(scratch[i * width + k / 32], k) {
@@ -117,7 +117,7 @@ fn clear(
     requires { ⌜ Room rows width columns (now scratch) (now values)
         × (k < columns) × (u < rows) × ((j : ℕ) → j < k → cellOf width (now scratch) u j ≡ false) ⌝ }
     ensures { λ _.
-        ⌜ Joined width columns u (cleared rows (cellOf width (now (scratch .entry))) k u)
+        ⌜ RowsCombined width columns u (cleared rows (cellOf width (now (scratch .entry))) k u)
         (now (scratch .entry)) (now (values .entry)) (now (scratch .exit)) (now (values .exit)) ⌝ }
 {
     let first = u + 1;
@@ -126,7 +126,7 @@ fn clear(
     }
 }
 
-// Row u gains column k from row i, the first from u on that has it.
+// Row u gains column k from row `from`, the first from u on that has it.
 fn lift(
     width: usize,
     columns: usize,
@@ -134,17 +134,17 @@ fn lift(
     values: &mut [u32; 248],
     k: usize,
     u: usize,
-    i: usize,
+    from: usize,
 )
-    requires { ⌜ Row width columns u (now scratch) (now values) × Row width columns i (now scratch) (now values)
-        × (k < columns) × ((j : ℕ) → j < k → cellOf width (now scratch) i j ≡ false) ⌝ }
+    requires { ⌜ Row width columns u (now scratch) (now values) × Row width columns from (now scratch) (now values)
+        × (k < columns) × ((j : ℕ) → j < k → cellOf width (now scratch) from j ≡ false) ⌝ }
     ensures { λ _.
-        ⌜ Joined width columns i (lifted u i) (now (scratch .entry)) (now (values .entry)) (now (scratch .exit)) (now (values .exit)) ⌝ }
+        ⌜ RowsCombined width columns from (lifted u from) (now (scratch .entry)) (now (values .entry)) (now (scratch .exit)) (now (values .exit)) ⌝ }
 {
-    if i == u {
+    if from == u {
         return;
     }
-    add_row(width, columns, scratch, values, k, i, u);
+    add_row(width, columns, scratch, values, k, from, u);
 }
 
 // Column k, after u pivots: the number of pivots with it.

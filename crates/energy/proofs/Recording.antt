@@ -15,7 +15,7 @@ use Rattle.gtb.specs.Shape.{lawful}
 use Rattle.gtb.specs.Answer.{unless}
 use Rattle.session.specs.declared.Session.{Session}
 use Rattle.session.specs.declared.Outcome.{Outcome}
-use Rattle.session.specs.Session.{freshOf}
+use Rattle.session.specs.Session.{freshOf, sessionStatus}
 use Rattle.session.specs.Arrival.{Ways, theWays}
 use Rattle.session.specs.Recording.{Sheet, Recording, tally, Arrival, Fits}
 use Rattle.session.specs.Claim.{Run, Demand3}
@@ -37,7 +37,7 @@ pub recording-bill : {ways : Ways} {s : Shape} {pages : List Sheet} {arrivals : 
     → Recording s pages → Demand3 ways s pages arrivals answers end → (prices : List ℕ) → length prices ≡ 256
     → billOf end prices
     ≡ unless (ltb (millis (tally pages (λ p. true)) prices) (2 ^ 64)) (Refused Refusal.Bill) (Picojoules (roundedUp (millis (tally pages (λ p. true)) prices)))
-unfolding billOf due
+unfolding billOf sessionStatus due
 recording-bill {pages = pages} {end = end} recording d prices size =
     rw (ap lawful (d .every .shape) ∙ recording .lawful, d .every .consistent, eq-eqb (length prices) 256 size)
     (ap due (same-millis (callsOf end) (tally pages (λ p. true)) (d .whole) prices))

@@ -11,11 +11,13 @@ use borrow.Author.Tests.{lt-ltb, le-ltb, ltb-true}
 use Rattle.parity.specs.Count.{sum}
 use Rattle.parity.proofs.Sums.{sum-zero, sum-suc, sum-split}
 use Rattle.gtb.specs.declared.Refusal.{Refusal}
-use Rattle.gtb.specs.Shape.{lawful, shapeRefusal}
+use Rattle.gtb.specs.declared.Status.{Status}
+use Rattle.gtb.specs.declared.Status.the-variants.{Done}
+use Rattle.gtb.specs.declared.Status.the-variants as status
 use Rattle.gtb.specs.Answer.{unless}
 use Rattle.gtb.proofs.Answers.{unless-passed}
 use Rattle.session.specs.declared.Session.{Session}
-use Rattle.session.specs.Session.{consistent}
+use Rattle.session.specs.Session.{sessionStatus, past}
 use Rattle.energy.specs.declared.Billed.{Billed}
 use Rattle.energy.specs.declared.Billed.the-variants.{Picojoules, Refused}
 use Rattle.energy.specs.Energy.{callsOf, millis, roundedUp, due, billOf}
@@ -62,6 +64,10 @@ module _ (calls : ℕ → ℕ) (prices : List ℕ) where
 passed : (t : Bool) (e : Refusal) (next : Billed) (p : ℕ) → unless t (Refused e) next ≡ Picojoules p → (t ≡ true) × (next ≡ Picojoules p)
 passed t e next p = unless-passed t (Refused e) next (λ h. let z : _≡_ {A = ℕ} 0 1 = cc in omega arith)
 
+past-billed : (t : Status) (next : Billed) (p : ℕ) → past t Refused next ≡ Picojoules p → next ≡ Picojoules p
+past-billed Done next p h = h
+past-billed (status.Refused e) next p h = let z : _≡_ {A = ℕ} 0 1 = cc in absurd (omega arith)
+
 due-small : (m p : ℕ) → due m ≡ Picojoules p → p < 2 ^ 63
 unfolding due
 due-small m p h =
@@ -73,6 +79,4 @@ pub bill-small : (σ : Session) (prices : List ℕ) (p : ℕ) → billOf σ pric
 unfolding billOf
 bill-small σ prices p h =
     due-small (millis (callsOf σ) prices) p
-    (passed (eqb (length prices) 256) Refusal.Length _ p
-    (passed (consistent σ) Refusal.Figures _ p
-    (passed (lawful (σ .shape)) (shapeRefusal (σ .shape)) _ p h .1) .1) .1)
+    (passed (eqb (length prices) 256) Refusal.Length _ p (past-billed (sessionStatus σ) _ p h) .1)

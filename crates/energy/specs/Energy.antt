@@ -5,10 +5,9 @@ use lib.Dec.{eqb, ltb}
 use lib.ListN.{length, getD}
 use Rattle.parity.specs.Count.{sum}
 use Rattle.gtb.specs.declared.Refusal.{Refusal}
-use Rattle.gtb.specs.Shape.{lawful, shapeRefusal}
 use Rattle.gtb.specs.Answer.{refusalNumber, unless}
 use Rattle.session.specs.declared.Session.{Session}
-use Rattle.session.specs.Session.{consistent}
+use Rattle.session.specs.Session.{sessionStatus, past}
 use Rattle.energy.specs.declared.Billed.{Billed}
 use Rattle.energy.specs.declared.Billed.the-variants.{Picojoules, Refused}
 
@@ -31,10 +30,9 @@ due m = unless (ltb m (2 ^ 64)) (Refused Refusal.Bill) (Picojoules (roundedUp m)
 -- a bill tests 1, 18, 11, 2, 19
 unfoldable pub billOf : Session → List ℕ → Billed
 billOf σ prices =
-    unless (lawful (σ .shape)) (Refused (shapeRefusal (σ .shape)))
-    (unless (consistent σ) (Refused Refusal.Figures)
+    past (sessionStatus σ) Refused
     (unless (eqb (length prices) 256) (Refused Refusal.Length)
-    (due (millis (callsOf σ) prices))))
+    (due (millis (callsOf σ) prices)))
 
 -- as one number, a refusal above all bills
 abbrev pub billedNumber : Billed → ℕ

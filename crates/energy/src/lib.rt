@@ -2,6 +2,7 @@
 pub mod number;
 
 use gtb::Refusal;
+use gtb::Status;
 use session::Session;
 ghost use mathlib.Core.Path.{_≡_};
 ghost use Prim.Native.Nat.{_*_};
@@ -19,12 +20,8 @@ pub enum Billed {
 pub fn bill(session: Session, prices: &[u32]) -> Billed
     ensures { λ r. ⌜ Answered billedNumber (billOf session (now (prices .entry))) r ⌝ }
 {
-    let shape = session.shape;
-    if !gtb::is_lawful(shape) {
-        return Billed::Refused(gtb::shape_refusal(shape));
-    }
-    if !session.is_consistent() {
-        return Billed::Refused(Refusal::Figures);
+    if let Status::Refused(e) = session.status() {
+        return Billed::Refused(e);
     }
     if prices.len() != Session::FUNCTIONS {
         return Billed::Refused(Refusal::Length);

@@ -3,7 +3,7 @@ use mathlib.Core.Path.{_≡_, refl, sym, ap, ap₂, _∙_}
 use mathlib.Core.Bool.{Bool, true, false, not, _&&_, _||_, and-true}
 use mathlib.Core.List.{List}
 use mathlib.Core.Logic.{inl, inr, ⊎-elim}
-use Prim.Native.Nat.{ℕ, _+_, _%_, _^_, _<_, _≤_}
+use Prim.Native.Nat.{ℕ, _+_, _%_, _^_, _<_}
 use native.Mathlib.Nat.{lt-of-le-of-lt, lt-of-lt-of-le, mul-le-mul-right}
 use native.Mathlib.Omega.{arith}
 use lib.Dec.{eqb, lit<}
@@ -28,13 +28,13 @@ use Rattle.gtb.specs.Square.{lineOf, at, syndrome, Word, Codeword}
 use Rattle.gtb.proofs.Bounds.{bounds}
 use Rattle.gtb.proofs.Words.{tabulate-word, word-narrow}
 use Rattle.gtb.proofs.Lines.{line-lt, share-one}
-use Rattle.distance.specs.Distance.{differences, apart}
+use Rattle.distance.specs.Distance.{differences, minimumDistance}
 use Rattle.distance.proofs.Even.{bit-inside}
 use Rattle.distance.proofs.Twice.{twice}
 use Rattle.correction.specs.declared.Decoded.{Decoded}
 use Rattle.correction.specs.declared.Decoded.the-variants.{Refused}
 use Rattle.erasure.specs.Fill.{isListed, rising, fillStatus, Agrees, Spoiled}
-use Rattle.erasure.specs.Steps.{Places, Decision}
+use Rattle.erasure.specs.Steps.{Decision}
 use Rattle.erasure.proofs.Lists.{rising-places, listed-count}
 
 -- ---- zeros with a 1 at position j
@@ -138,11 +138,11 @@ none-refused none (inr (inr a)) = absurd (none (a .one) (a .agrees))
 abbrev joined : List ℕ → ℕ → ℕ → Bool
 joined places j i = isListed places i || eqb i j
 
-module _ (s : Shape) (law : Lawful s) (places : List ℕ) (up : rising (wordLength s) places ≡ true) (few : length places < apart (s .n)) where
+module _ (s : Shape) (law : Lawful s) (places : List ℕ) (up : rising (wordLength s) places ≡ true) (few : length places < minimumDistance (s .n)) where
   -- a codeword that agrees is zero off these; one bit of it is an even set with j, so it is all of them, and these are even on every line
   none-agrees : (j t L : ℕ) → j < wordLength s → isListed places j ≡ false → t < s .n → L < s .q
       → count (wordLength s) (λ i. eqb (lineOf s t i) L && joined places j i) % 2 ≡ 1 → (v : List ℕ) → Agrees s (oneAt s j) places v → ⊥
-  unfolding apart bit
+  unfolding minimumDistance bit
   none-agrees j t L lj free lt lL odd v a =
       let symbol = at-tabulate (wordLength s) (λ i. bit (eqb i j)) in
       let one : at v j ≡ 1 = a .same j lj free ∙ symbol j lj ∙ bit-true (eq-eqb j j refl) in
@@ -208,8 +208,8 @@ parted s law i j li lj ne =
     (either (eqb (lineOf s 0 i) (lineOf s 0 j)))
 
 -- there are two such positions, since the places are fewer than two rows
-pub spoiled : (s : Shape) → Lawful s → (places : List ℕ) → rising (wordLength s) places ≡ true → length places < apart (s .n) → Spoiled s places
-unfolding apart bit
+pub spoiled : (s : Shape) → Lawful s → (places : List ℕ) → rising (wordLength s) places ≡ true → length places < minimumDistance (s .n) → Spoiled s places
+unfolding minimumDistance bit
 spoiled s law places up few =
     let size = listed-count (rising-places up) in
     let b = bounds s law in

@@ -19,8 +19,8 @@ use Rattle.gtb.specs.declared.Status.the-variants as status
 use Rattle.gtb.specs.Shape.{lawful, Lawful, wordLength, scratchLength}
 use Rattle.gtb.specs.Square.{at, narrow, Codeword}
 use Rattle.gtb.proofs.Answers.{same-refusal, never-refused, unless-never, unless-done, other-refusal, Foreign, late-foreign}
-use Rattle.distance.specs.Distance.{differences, apart}
-use Rattle.distance.proofs.Distance.{few-sure}
+use Rattle.distance.specs.Distance.{differences, minimumDistance}
+use Rattle.distance.proofs.Distance.{few-unambiguous}
 use Rattle.correction.specs.declared.Decoded.{Decoded}
 use Rattle.correction.specs.declared.Decoded.the-variants.{Corrected, Refused}
 use Rattle.correction.specs.Answer.{decodedNumber}
@@ -110,17 +110,17 @@ never-both k e r a b = let z : _≡_ {A = ℕ} 0 1 = cc in omega arith
 refused-same : (e e′ : Refusal) (r : Decoded) → r ≡ Refused e → r ≡ Refused e′ → e ≡ e′
 refused-same e e′ r a b = cc
 
-no-choice : {s : Shape} {word places word′ : List ℕ} {r : Decoded} → Lawful s → length places < apart (s .n) → Places (wordLength s) places
+no-choice : {s : Shape} {word places word′ : List ℕ} {r : Decoded} → Lawful s → length places < minimumDistance (s .n) → Places (wordLength s) places
     → Decision s word places word′ r → r ≡ Refused Refusal.Ambiguous → ⊥
 no-choice {r = r} law few h (inl a) e = never-both _ _ r (a .answer) e
 no-choice {r = r} law few h (inr (inl a)) e = other-refusal Refusal.Unfillable Refusal.Ambiguous refl (refused-same _ _ r (a .answer) e)
 no-choice {s} {places = places} law few h (inr (inr a)) e =
     a .different
-    (few-sure s law (isListed places) (omega (arith, listed-count h)) .one (a .one) (a .another) (a .agrees .codeword) (a .agreesToo .codeword)
+    (few-unambiguous s law (isListed places) (omega (arith, listed-count h)) .one (a .one) (a .another) (a .agrees .codeword) (a .agreesToo .codeword)
     (λ j l n. a .agrees .same j l n ∙ sym (a .agreesToo .same j l n)))
 
 -- with fewer places than codewords are apart the answer is never 14: up to 2 n - 1 places
-pub never-several : {s : Shape} {word places scratch word′ scratch′ : List ℕ} {r : Decoded} → Lawful s → length places < apart (s .n)
+pub never-several : {s : Shape} {word places scratch word′ scratch′ : List ℕ} {r : Decoded} → Lawful s → length places < minimumDistance (s .n)
     → Filling s word places scratch word′ scratch′ r → r ≡ Refused Refusal.Ambiguous → ⊥
 never-several {s} {word} {places} {scratch} {r = r} law few f e =
     ⊎-elim
@@ -131,12 +131,12 @@ never-several {s} {word} {places} {scratch} {r = r} law few f e =
     (status-cases (fillStatus s word places scratch))
 
 -- that takes in N2's limit: n places are always few
-pub n-few : (n : ℕ) → 2 ≤ n → n < apart n
-unfolding apart
+pub n-few : (n : ℕ) → 2 ≤ n → n < minimumDistance n
+unfolding minimumDistance
 n-few n h = omega arith
 
 -- ---- damage on few listed places alone is undone
-decision-right : {s : Shape} {word places word′ v : List ℕ} {r : Decoded} → Lawful s → length places < apart (s .n) → Places (wordLength s) places
+decision-right : {s : Shape} {word places word′ v : List ℕ} {r : Decoded} → Lawful s → length places < minimumDistance (s .n) → Places (wordLength s) places
     → Agrees s word places v → Decision s word places word′ r
     → (r ≡ Corrected (differences s v word)) × (word′ ≡ v) × (decodedNumber r ≡ differences s v word)
 decision-right {v = v} law few h stored (inl a) = rw (a .only v stored) (a .answer, refl, a .number)
@@ -145,7 +145,7 @@ decision-right law few h stored (inr (inr a)) = absurd (no-choice law few h (inr
 
 -- the word that agrees off the list comes back, with how many symbols changed
 pub fill-right : {s : Shape} {word places scratch word′ scratch′ v : List ℕ} {r : Decoded} → fillStatus s word places scratch ≡ status.Done
-    → length places < apart (s .n) → Agrees s word places v → Filling s word places scratch word′ scratch′ r
+    → length places < minimumDistance (s .n) → Agrees s word places v → Filling s word places scratch word′ scratch′ r
     → (r ≡ Corrected (differences s v word)) × (word′ ≡ v) × (decodedNumber r ≡ differences s v word)
 fill-right {s} {word} {places} {scratch} tests few stored f =
     let p = passed s word places scratch tests in

@@ -61,7 +61,7 @@ refusal-small Refusal.Unfillable = lit≤ tt
 refusal-small Refusal.Ambiguous = lit≤ tt
 refusal-small Refusal.NoMajority = lit≤ tt
 refusal-small Refusal.Directions = lit≤ tt
-refusal-small Refusal.NoPair = lit≤ tt
+refusal-small Refusal.BeyondTwo = lit≤ tt
 refusal-small Refusal.Slope = lit≤ tt
 refusal-small Refusal.Bill = lit≤ tt
 
@@ -79,10 +79,20 @@ unfolding shapeRefusal
 shape-refusal-both P shape slope s =
     ⊎-elim (λ (good : regular s ≡ true). rw good slope) (λ (bad : regular s ≡ false). rw bad shape) (either (regular s))
 
+-- before the scratch is touched
+pub shape-early : (s : Shape) → isEarly (shapeRefusal s) ≡ true
+shape-early = shape-refusal-both (λ e. isEarly e ≡ true) refl refl
+
 -- either leaves the scratch as it was
 pub shape-scratch : (s : Shape) (scratch : List ℕ) → scratch ≡ scratchAfter (shapeRefusal s) scratch
 unfolding scratchAfter
 shape-scratch s scratch = shape-refusal-both (λ e. scratch ≡ scratchAfter e scratch) refl refl s
+
+-- a test that refuses late, and what follows it
+pub late-next : {A : Type 0} (refused : Refusal → A) → ((e e′ : Refusal) → refused e ≡ refused e′ → e ≡ e′) → (t : Bool) (e : Refusal) (next : A)
+    → isEarly e ≡ false → ((e′ : Refusal) → next ≡ refused e′ → isEarly e′ ≡ false) → (e′ : Refusal) → unless t (refused e) next ≡ refused e′ → isEarly e′ ≡ false
+late-next refused same true e next l h e′ r = h e′ r
+late-next refused same false e next l h e′ r = rw (same e e′ r) at l
 
 -- refusals with different numbers are different
 pub other-refusal : (e e′ : Refusal) → eqb (refusalNumber e) (refusalNumber e′) ≡ false → e ≡ e′ → ⊥

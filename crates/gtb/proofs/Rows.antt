@@ -1,14 +1,14 @@
 -- Syndromes by the rows of the square.
-use mathlib.Core.Path.{_≡_, ap, _∙_}
+use mathlib.Core.Path.{_≡_, sym, ap, _∙_}
 use Prim.Native.Nat.{ℕ, suc, _+_, _*_, _%_, _^_, _<_}
 use lib.Dec.{eqb}
 use Rattle.parity.specs.Xor.{_⊕_, xorSum, when}
-use Rattle.parity.proofs.Xors.{when-xor, when-lt}
+use Rattle.parity.proofs.Xors.{zero-r, when-xor, when-lt}
 use Rattle.parity.proofs.XorSums.{cong, linear, exchange, rows, bound}
 use Rattle.parity.proofs.Only.{only-sum}
 use Rattle.gtb.specs.declared.Shape.{Shape}
 use Rattle.gtb.specs.Shape.{Lawful, wordLength}
-use Rattle.gtb.specs.Square.{lineOf, syndrome}
+use Rattle.gtb.specs.Square.{lineOf, syndrome, Silent}
 use Rattle.gtb.specs.Rows.{shiftOf}
 use Rattle.gtb.proofs.Lines.{column-only, row-only}
 
@@ -21,6 +21,10 @@ syndrome-cong s f g t L h = cong _ _ _ (λ j l. ap (when (eqb (lineOf s t j) L))
 pub syndrome-linear : (s : Shape) (f g : ℕ → ℕ) (t L : ℕ) → syndrome s (λ j. f j ⊕ g j) t L ≡ syndrome s f t L ⊕ syndrome s g t L
 unfolding syndrome
 syndrome-linear s f g t L = cong _ _ _ (λ j l. when-xor (eqb (lineOf s t j) L) (f j) (g j)) ∙ linear _ _ _
+
+-- a silent word's symbols do not show
+pub silent-hidden : (s : Shape) (f g : ℕ → ℕ) → Silent s g → (t L : ℕ) → t < s .n → L < s .q → syndrome s f t L ≡ syndrome s (λ j. f j ⊕ g j) t L
+silent-hidden s f g quiet t L lt lL = sym (syndrome-linear s f g t L ∙ ap (λ (x : ℕ). syndrome s f t L ⊕ x) (quiet .silent t L lt lL) ∙ zero-r (syndrome s f t L))
 
 -- a syndrome is no wider than the symbols
 pub syndrome-width : (s : Shape) (f : ℕ → ℕ) (k t L : ℕ) → ((j : ℕ) → j < wordLength s → f j < 2 ^ k) → syndrome s f t L < 2 ^ k

@@ -25,7 +25,7 @@ refusalNumber Refusal.Unfillable = 13
 refusalNumber Refusal.Ambiguous = 14
 refusalNumber Refusal.NoMajority = 15
 refusalNumber Refusal.Directions = 16
-refusalNumber Refusal.NoPair = 17
+refusalNumber Refusal.BeyondTwo = 17
 refusalNumber Refusal.Slope = 18
 refusalNumber Refusal.Bill = 19
 
@@ -62,7 +62,7 @@ isEarly Refusal.Unfillable = false
 isEarly Refusal.Ambiguous = false
 isEarly Refusal.NoMajority = false
 isEarly Refusal.Directions = true
-isEarly Refusal.NoPair = false
+isEarly Refusal.BeyondTwo = false
 isEarly Refusal.Slope = true
 isEarly Refusal.Bill = false
 

@@ -4,4 +4,5 @@ pub mod Square
 pub mod Positions
 pub mod Kept
 pub mod Answer
+pub mod Lent
 pub mod Rows

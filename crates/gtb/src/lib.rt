@@ -1,4 +1,5 @@
 // The code of the trace square: its shape, and the answers that every entry gives.
+pub mod lent;
 pub mod number;
 pub mod size;
 
@@ -39,7 +40,7 @@ pub enum Refusal {
     Ambiguous, // several
     NoMajority, // vote
     Directions, // directions
-    NoPair, // pair
+    BeyondTwo, // pair
     Slope, // slope
     Bill, // bill
 }

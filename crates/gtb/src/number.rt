@@ -25,7 +25,7 @@ pub fn refusal(refusal: Refusal) -> u32
         Refusal::Ambiguous => 14,
         Refusal::NoMajority => 15,
         Refusal::Directions => 16,
-        Refusal::NoPair => 17,
+        Refusal::BeyondTwo => 17,
         Refusal::Slope => 18,
         Refusal::Bill => 19,
     }

@@ -21,7 +21,7 @@ ghost use Rattle.decoder.specs.Looking.{Looking};
 ghost use Rattle.majority.specs.Majority.{Voting};
 ghost use Rattle.correction.specs.Answer.{decodedNumber};
 ghost use Rattle.erasure.specs.Fill.{Filling};
-ghost use Rattle.double.specs.Double.{Pairing};
+ghost use Rattle.double.specs.Double.{ReadingTwo};
 ghost use Rattle.page.specs.Page.{Writing};
 ghost use Rattle.session.specs.Session.{countedNumber};
 ghost use Rattle.energy.specs.Energy.{billedNumber};
@@ -92,7 +92,7 @@ pub extern "C" fn harness_decode_majority(shape: &[u32], word: &mut [u32]) -> u3
 
 #[no_mangle]
 pub extern "C" fn harness_decode_two(shape: &[u32], word: &mut [u32]) -> u32
-    ensures { λ r. ⌜ Shaped (now (shape .entry)) (λ s. Crosses decodedNumber (Pairing s (now (word .entry)) (now (word .exit))) r) (now (word .exit) ≡ now (word .entry)) r ⌝ }
+    ensures { λ r. ⌜ Shaped (now (shape .entry)) (λ s. Crosses decodedNumber (ReadingTwo s (now (word .entry)) (now (word .exit))) r) (now (word .exit) ≡ now (word .entry)) r ⌝ }
 {
     if shape.len() != SHAPE {
         return gtb::number::refused(Refusal::Length);

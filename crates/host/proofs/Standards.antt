@@ -9,7 +9,7 @@ use Rattle.gtb.specs.Shape.{standard, lawful, shapeRefusal, wordLength, infoLen
 use Rattle.gtb.proofs.Answers.{unless-never}
 use Rattle.gtb.proofs.Standard.{slope-foreign}
 use Rattle.correction.specs.declared.Decoded.the-variants.{Refused}
-use Rattle.decoder.proofs.Refusals.{decode-never}
+use Rattle.decoder.proofs.Meaning.{decode-never}
 use Rattle.page.specs.declared.PageRead.the-variants as page
 use Rattle.page.proofs.Refusals.{page-never}
 use Rattle.host.specs.Bytes.{symbolsOf}

@@ -3,25 +3,23 @@ use mathlib.Core.Path.{_≡_, refl, sym, ap, ap₂, _∙_}
 use mathlib.Core.Bool.{Bool, true, false, not, _&&_}
 use mathlib.Core.List.{List}
 use Prim.Native.Nat.{ℕ, zero, suc, _+_, _*_, _/_, _%_, _<_, _≤_}
-use native.Mathlib.Nat.{zero-add, ne-of-lt}
+use native.Mathlib.Nat.{zero-add}
 use native.Mathlib.Omega.{arith}
 use lib.Arith.{digits-div}
 use lib.Dec.{eqb, ltb}
-use lib.ListN.{length, set, replicate, length-set}
-use lib.Seq.{getD-set-same, getD-set-other}
 use borrow.Author.Count.{below-none, below-more}
 use borrow.Author.Tests.{eq-eqb, ne-eqb}
-use Rattle.parity.specs.Count.{bit, count}
+use Rattle.parity.specs.Count.{bit}
 use Rattle.parity.proofs.Tests.{and-no-left}
 use Rattle.parity.proofs.Sums.{count-zero, count-more, count-bound}
 use Rattle.parity.proofs.First.{first-at, first-none}
 use Rattle.gtb.specs.declared.Shape.{Shape}
 use Rattle.gtb.specs.Square.{at}
-use Rattle.correction.specs.Steps.{Shifts}
+use Rattle.correction.specs.Steps.{Gathered, Shifts}
 use Rattle.correction.proofs.Listing.{count-grows}
 use Rattle.correction.proofs.Rows.{own-check, shift-check}
 use Rattle.majority.specs.Majority.{shows, majority}
-use Rattle.majority.specs.Steps.{checkIn, prevailing, votedIn, changes, passedOver, foundIn, Gathered, Measured}
+use Rattle.majority.specs.Steps.{checkIn, prevailing, votedIn, changes, passedOver, foundIn}
 use Rattle.majority.proofs.Votes.{shows-cong, majority-quiet, majority-cong}
 
 -- ---- counting
@@ -41,22 +39,10 @@ shows-grows : (t n : ℕ) (v : ℕ → ℕ) (x : ℕ) → t ≤ n → shows t v 
 unfolding shows
 shows-grows t n v x l = count-grows (λ t. eqb (v t) x) l
 
--- ---- the values of the checks
-pub gathered-none : (s : Shape) (syn : List ℕ) (j : ℕ) → Gathered s syn j 0 (replicate 8 0)
-gathered-none s syn j = record { size = refl; value = below-none (λ t. at (replicate 8 0) t ≡ checkIn s syn j t) }
-
-pub gathered-more : {s : Shape} {syn : List ℕ} {j t : ℕ} {values : List ℕ} (v : ℕ)
-    → t < 8 → v ≡ checkIn s syn j t → Gathered s syn j t values → Gathered s syn j (t + 1) (set values t v)
-gathered-more {s} {syn} {j} {t} {values} v l e h = record {
-  size = length-set values t v ∙ h .size;
-  value = below-more (λ u. at (set values t v) u ≡ checkIn s syn j u) t
-      (λ u lu. getD-set-other values t u v 0 (ne-of-lt lu) ∙ h .value u lu)
-      (getD-set-same values t v 0 (rw (h .size) l) ∙ e);
-}
-
-pub gathered-vote : {s : Shape} {syn : List ℕ} {j : ℕ} {values : List ℕ} → Gathered s syn j (s .n) values → majority (s .n) (at values) ≡ votedIn s syn j
+-- the values of the checks
+pub gathered-vote : (s : Shape) (syn : List ℕ) (j : ℕ) {values : List ℕ} → Gathered 8 (checkIn s syn j) (s .n) values → majority (s .n) (at values) ≡ votedIn s syn j
 unfolding votedIn
-gathered-vote {s} {syn} {j} {values} h = majority-cong (s .n) (at values) (checkIn s syn j) (h .value)
+gathered-vote s syn j {values} h = majority-cong (s .n) (at values) (checkIn s syn j) (h .value)
 
 -- ---- the value that prevails
 pub no-zero : (n : ℕ) (v : ℕ → ℕ) (x : ℕ) → x ≡ 0 → false ≡ prevailing n v x
@@ -148,16 +134,3 @@ module _ (s : Shape) (syn : List ℕ) (loud : Bool) (row c : ℕ) (lc : c < s .q
   pub all-found : passedOver loud (at syn row) ≡ false → foundIn s syn loud (row * s .q + c) ≡ changes s syn (row * s .q + c)
   unfolding foundIn
   all-found h = ap (λ (b : Bool). not b && changes s syn (row * s .q + c)) (row-of ∙ h)
-
--- ---- the list of the errors
-pub measured-none : (s : Shape) (syn places errors : List ℕ) → length errors ≡ 8 → Measured s syn places 0 errors
-measured-none s syn places errors e = record { size = e; error = below-none (λ x. at errors x ≡ votedIn s syn (at places x)) }
-
-pub measured-more : {s : Shape} {syn places : List ℕ} {x : ℕ} {errors : List ℕ} (v : ℕ)
-    → x < 8 → v ≡ votedIn s syn (at places x) → Measured s syn places x errors → Measured s syn places (x + 1) (set errors x v)
-measured-more {s} {syn} {places} {x} {errors} v l e h = record {
-  size = length-set errors x v ∙ h .size;
-  error = below-more (λ y. at (set errors x v) y ≡ votedIn s syn (at places y)) x
-      (λ y ly. getD-set-other errors x y v 0 (ne-of-lt ly) ∙ h .error y ly)
-      (getD-set-same errors x v 0 (rw (h .size) l) ∙ e);
-}

@@ -1,12 +1,12 @@
 -- How many of n values are one and the same, and the value that more than half of them are.
-use mathlib.Core.Path.{_≡_, refl, sym, ap, ap₂, _∙_}
-use mathlib.Core.Bool.{Bool, true, false, not, _&&_}
+use mathlib.Core.Path.{_≡_, sym, ap, _∙_}
+use mathlib.Core.Bool.{true, false, not, _&&_}
 use mathlib.Core.Logic.{_⊎_, inl, inr, ⊎-elim}
 use Prim.Native.Nat.{ℕ, _+_, _*_, _<_, _≤_}
 use native.Mathlib.Omega.{arith}
 use lib.Dec.{eqb, ltb}
-use borrow.Author.Tests.{eq-eqb, ne-eqb, eqb-true, eqb-false, ltb-true, lt-ltb, le-ltb}
-use Rattle.parity.specs.Count.{count, any, firstValue}
+use borrow.Author.Tests.{ne-eqb, eqb-true, eqb-false, ltb-true, lt-ltb, le-ltb}
+use Rattle.parity.specs.Count.{any}
 use Rattle.parity.proofs.Tests.{either, and-right, and-both, and-no-left, and-no-right, not-of-true, not-of-false, any-elim, any-no}
 use Rattle.parity.proofs.Sums.{count-cong, count-le, count-not, count-none}
 use Rattle.parity.proofs.First.{first-some, first-none, first-cong}

@@ -3,21 +3,29 @@ use crate::locate::locate;
 use crate::vote::vote;
 use correction::Decoded;
 use correction::apply;
-use correction::cancel::cancel;
 use correction::cancel::is_silent;
+use correction::cancel::silences;
 use gtb::Refusal;
 use gtb::Shape;
 ghost use mathlib.Core.Path.{_≡_};
+ghost use mathlib.Core.Bool.{not};
 ghost use lib.ListN.{length};
-ghost use Rattle.gtb.specs.Shape.{Lawful, wordLength};
-ghost use Rattle.gtb.specs.Square.{Syndromes};
-ghost use Rattle.correction.specs.Steps.{Within};
-ghost use Rattle.majority.specs.Steps.{Measured, Elects, Found, Corrects};
+ghost use Rattle.gtb.specs.Shape.{Lawful};
+ghost use Rattle.gtb.specs.Square.{at, Word, Syndromes};
+ghost use Rattle.correction.specs.Steps.{Within, Gathered, Found, Corrects};
+ghost use Rattle.majority.specs.Majority as rule;
+ghost use Rattle.majority.specs.Steps.{votedIn, tooMany};
 
 // The changes at the first `count` places.
-fn measure(shape: Shape, syn: &[u32; 248], places: &[usize; 8], count: usize, errors: &mut [u32; 8])
+fn evaluate(
+    shape: Shape,
+    syn: &[u32; 248],
+    places: &[usize; 8],
+    count: usize,
+    errors: &mut [u32; 8],
+)
     requires { ⌜ Lawful shape × (length (now errors) ≡ 8) × Within shape count (now places) ⌝ }
-    ensures { λ _. ⌜ Measured shape (now (syn .entry)) (now (places .entry)) count (now (errors .exit)) ⌝ }
+    ensures { λ _. ⌜ Gathered 8 (λ x. votedIn shape (now (syn .entry)) (at (now (places .entry)) x)) count (now (errors .exit)) ⌝ }
 {
     for x in 0..count {
         errors[x] = vote(shape, syn, places[x]);
@@ -33,35 +41,25 @@ fn find(
     errors: &mut [u32; 8],
 ) -> usize
     requires { ⌜ Lawful shape × (length (now syn) ≡ 248) × (length (now places) ≡ 8) × (length (now errors) ≡ 8) ⌝ }
-    ensures { λ r. ⌜ Found shape (now (syn .entry)) loud (now (places .exit)) (now (errors .exit)) r ⌝ }
+    ensures { λ r. ⌜ Found rule.vote shape (tooMany shape) (not loud) (now (syn .entry)) (now (places .exit)) (now (errors .exit)) r ⌝ }
 {
-    let q = shape.q as usize;
     let n = shape.n as usize;
     let limit = n / 2 + 1;
     let count = locate(shape, syn, loud, places);
     if limit <= count {
         return limit;
     }
-    measure(shape, syn, places, count, errors);
-    cancel(shape, syn, places, errors, count);
-    if is_silent(syn, n * q) {
+    evaluate(shape, syn, places, count, errors);
+    if silences(shape, syn, places, errors, count) {
         return count;
     }
     limit
 }
 
-// The errors are taken off the word.
-fn restore(shape: Shape, word: &mut [u32], places: &[usize; 8], errors: &[u32; 8], count: usize)
-    requires { ⌜ (length (now word) ≡ wordLength shape) × Within shape count (now places) ⌝ }
-    ensures { λ _. ⌜ Elects shape (now (word .entry)) (now (places .entry)) (now (errors .entry)) count (now (word .exit)) ⌝ }
-{
-    apply(word, places, errors, count);
-}
-
 // Test 15, with every row looked at: the word is corrected, or left as it came.
 fn correct_all(shape: Shape, word: &mut [u32], syn: &mut [u32; 248]) -> Decoded
-    requires { ⌜ Lawful shape × (length (now word) ≡ wordLength shape) × Syndromes shape (now word) (now syn) ⌝ }
-    ensures { λ r. ⌜ Corrects shape (now (word .entry)) (now (word .exit)) r ⌝ }
+    requires { ⌜ Lawful shape × Word shape (now word) × Syndromes shape (now word) (now syn) ⌝ }
+    ensures { λ r. ⌜ Corrects rule.vote shape (now (word .entry)) (now (word .exit)) r ⌝ }
 {
     let mut places = [0usize; 8];
     let mut errors = [0u32; 8];
@@ -71,7 +69,7 @@ fn correct_all(shape: Shape, word: &mut [u32], syn: &mut [u32; 248]) -> Decoded
     if most < count {
         return Decoded::Refused(Refusal::NoMajority);
     }
-    restore(shape, word, &places, &errors, count);
+    apply(shape, word, &places, &errors, count);
     let changed = count as u32;
     Decoded::Corrected(changed)
 }
@@ -79,24 +77,23 @@ fn correct_all(shape: Shape, word: &mut [u32], syn: &mut [u32; 248]) -> Decoded
 // Test 15. Where every check is silent nothing is looked for. Mostly the damage is in rows that show it; what is found there is the
 // answer if it silences every check. Else damage hides in other rows, or there is too much of it, and every row is looked at.
 pub fn correct(shape: Shape, word: &mut [u32]) -> Decoded
-    requires { ⌜ Lawful shape × (length (now word) ≡ wordLength shape) ⌝ }
-    ensures { λ r. ⌜ Corrects shape (now (word .entry)) (now (word .exit)) r ⌝ }
+    requires { ⌜ Lawful shape × Word shape (now word) ⌝ }
+    ensures { λ r. ⌜ Corrects rule.vote shape (now (word .entry)) (now (word .exit)) r ⌝ }
 {
     let mut syn = syndrome::syndromes(shape, word);
-    let q = shape.q as usize;
-    let n = shape.n as usize;
-    if is_silent(&syn, n * q) {
+    if is_silent(shape, &syn) {
         return Decoded::Corrected(0);
     }
     let mut tried = syn;
     let mut places = [0usize; 8];
     let mut errors = [0u32; 8];
+    let n = shape.n as usize;
     let half = n / 2;
     let few = find(shape, &mut tried, true, &mut places, &mut errors);
     if half < few {
         return correct_all(shape, word, &mut syn);
     }
-    restore(shape, word, &places, &errors, few);
+    apply(shape, word, &places, &errors, few);
     let restored = few as u32;
     Decoded::Corrected(restored)
 }

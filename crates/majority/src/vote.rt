@@ -2,14 +2,14 @@
 use correction::checks::check_number;
 use gtb::Shape;
 ghost use mathlib.Core.Path.{_≡_};
-ghost use mathlib.Core.Bool.{not, _&&_};
 ghost use Prim.Native.Nat.{_*_, _<_, _≤_};
-ghost use lib.Dec.{eqb, ltb};
+ghost use lib.Dec.{eqb};
 ghost use Rattle.parity.specs.Count.{bit};
 ghost use Rattle.gtb.specs.Shape.{Lawful, wordLength};
 ghost use Rattle.gtb.specs.Square.{at};
+ghost use Rattle.correction.specs.Steps.{Gathered};
 ghost use Rattle.majority.specs.Majority.{shows, majority};
-ghost use Rattle.majority.specs.Steps.{prevailing, votedIn, Gathered};
+ghost use Rattle.majority.specs.Steps.{checkIn, prevailing, votedIn};
 
 // 1 if the two values are the same, else 0.
 pub fn hit(value: u32, x: u32) -> usize
@@ -24,7 +24,7 @@ pub fn hit(value: u32, x: u32) -> usize
 // What the n checks on position j show.
 fn gather(shape: Shape, syn: &[u32; 248], j: usize) -> [u32; 8]
     requires { ⌜ Lawful shape × (j < wordLength shape) ⌝ }
-    ensures { λ r. ⌜ Gathered shape (now (syn .entry)) j (shape .n) r ⌝ }
+    ensures { λ r. ⌜ Gathered 8 (checkIn shape (now (syn .entry)) j) (shape .n) r ⌝ }
 {
     let n = shape.n as usize;
     let mut values = [0u32; 8];

@@ -24,8 +24,8 @@ use Rattle.session.specs.declared.Outcome.{Outcome}
 use Rattle.session.specs.declared.Outcome.the-variants.{Taken, Again, Refused}
 use Rattle.session.specs.declared.Arrived.{Arrived}
 use Rattle.session.specs.declared.Counted.the-variants as counted
-use Rattle.session.specs.Session.{consistent, freshOf, freshStatus, countedOf, recorded}
-use Rattle.session.specs.Arrival.{isWay, wayOf, theWays, Opened, Page, Bad, openPage, openWord, opened, presented, outcomeOf, outcomeValues, sessionBy, sessionAfter, wordAfter, Arriving}
+use Rattle.session.specs.Session.{consistent, freshOf, freshStatus, sessionStatus, past, countedOf, recorded}
+use Rattle.session.specs.Arrival.{isWay, wayOf, theWays, Opened, Page, Bad, openPage, openWord, opened, arrivalStatus, presented, outcomeOf, outcomeValues, sessionBy, sessionAfter, wordAfter, Arriving}
 use Rattle.session.specs.Recording.{Arrival}
 use Rattle.session.specs.Claim.{Run, stop, step}
 use Rattle.session.proofs.Ways.{all-read}
@@ -66,13 +66,21 @@ figures-alike : (σ : Session) (slopes : List ℕ) → consistent (resloped σ s
 unfolding consistent
 figures-alike σ slopes = refl
 
+session-status-alike : (σ : Session) (slopes : List ℕ) → Alike (σ .shape) slopes → sessionStatus (resloped σ slopes) ≡ sessionStatus σ
+unfolding sessionStatus
+session-status-alike σ slopes alike = λ i.
+    unless (lawful-alike (σ .shape) slopes alike i) (status.Refused (refusal-alike (σ .shape) slopes alike i))
+    (unless (figures-alike σ slopes i) (status.Refused Refusal.Figures) status.Done)
+
 presented-alike : (σ : Session) (slopes : List ℕ) → Alike (σ .shape) slopes → (way : ℕ) (word scratch : List ℕ)
     → presented theWays (resloped σ slopes) way word scratch ≡ presented theWays σ way word scratch
-unfolding presented
+unfolding presented arrivalStatus
 presented-alike σ slopes alike way word scratch = λ i.
-    unless (isWay way) (Bad Refusal.Shape)
-    (unless (lawful-alike (σ .shape) slopes alike i) (Bad (refusal-alike (σ .shape) slopes alike i))
-    (unless (figures-alike σ slopes i) (Bad Refusal.Figures) (opened-alike (σ .shape) slopes alike way word scratch i)))
+    past
+    (unless (isWay way) (status.Refused Refusal.Shape)
+    (past (session-status-alike σ slopes alike i) status.Refused
+    (unless (all-read way .sameSuits (σ .shape) slopes alike i) (status.Refused Refusal.Directions) status.Done)))
+    Bad (opened-alike (σ .shape) slopes alike way word scratch i)
 
 module _ (σ : Session) (slopes : List ℕ) where
   -- what decides is beside the shape
@@ -140,6 +148,5 @@ status-alike s slopes alike = λ i. unless (lawful-alike s slopes alike i) (stat
 pub count-alike : (σ : Session) (slopes : List ℕ) → Alike (σ .shape) slopes → (f : ℕ) → countedOf (resloped σ slopes) f ≡ countedOf σ f
 unfolding countedOf
 count-alike σ slopes alike f = λ i.
-    unless (lawful-alike (σ .shape) slopes alike i) (counted.Refused (refusal-alike (σ .shape) slopes alike i))
-    (unless (figures-alike σ slopes i) (counted.Refused Refusal.Figures)
-    (unless (ltb f 256) (counted.Refused Refusal.Function) (counted.Calls (getD (σ .calls) f 0))))
+    past (session-status-alike σ slopes alike i) counted.Refused
+    (unless (ltb f 256) (counted.Refused Refusal.Function) (counted.Calls (getD (σ .calls) f 0)))

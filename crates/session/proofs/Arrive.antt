@@ -2,33 +2,31 @@
 use mathlib.Core.Path.{_≡_, refl, sym, ap, _∙_, subst}
 use mathlib.Core.Bool.{Bool, true, false, cond}
 use mathlib.Core.List.{List, _++_, append-nil}
-use mathlib.Core.Logic.{⊎-elim}
-use Prim.Native.Nat.{ℕ, _+_, _-_, _<_, _≤_}
+use Prim.Native.Nat.{ℕ}
 use native.Mathlib.Omega.{arith}
-use lib.ListN.{length, getD, take, drop, replicate, drop-of-length-le}
+use lib.ListN.{length, getD, drop, replicate, drop-of-length-le}
 use borrow.Author.Tests.{eq-eqb, ne-eqb}
-use Rattle.parity.proofs.Tests.{either}
 use Rattle.parity.proofs.Lists.{length-tabulate}
 use Rattle.gtb.specs.declared.Shape.{Shape}
 use Rattle.gtb.specs.declared.Refusal.{Refusal}
-use Rattle.gtb.specs.Shape.{lawful, shapeRefusal, Lawful, wordLength, infoLength, scratchLength}
-use Rattle.gtb.specs.Square.{at, narrow}
+use Rattle.gtb.specs.declared.Status.{Status}
+use Rattle.gtb.specs.declared.Status.the-variants as status
+use Rattle.gtb.specs.Shape.{lawful, Lawful, wordLength, infoLength, scratchLength}
+use Rattle.gtb.specs.Square.{at}
 use Rattle.gtb.specs.Positions.{infoPosition, extractOf}
 use Rattle.gtb.specs.Answer as answer
+use Rattle.gtb.proofs.Answers.{shape-scratch, unless-done, never-done}
 use Rattle.correction.specs.declared.Decoded.{Decoded}
 use Rattle.correction.specs.declared.Decoded.the-variants as decoded
-use Rattle.correction.specs.Answer.{decodedWord}
 use Rattle.page.specs.declared.PageRead.{PageRead}
 use Rattle.page.specs.declared.PageRead.the-variants as page
 use Rattle.page.specs.Page.{pageOf, marksOf}
-use Rattle.page.proofs.Pages.{marks-of, page-facts, marks-within}
-use Rattle.page.proofs.Parts.{marks-part}
 use Rattle.session.specs.declared.Session.{Session}
 use Rattle.session.specs.declared.Outcome.the-variants.{Taken, Again, Refused}
 use Rattle.session.specs.declared.Arrived.{Arrived}
-use Rattle.session.specs.Session.{consistent, Consistent, overflows}
-use Rattle.session.specs.Arrival.{Ways, isWay, wayOf, theWays, Opened, Page, Bad, openPage, openWord, opened, presented, outcomeOf, sessionAfter, isAccepted, outcomeValues, outcomeScratch, Answering, Arriving, Stepping}
-use Rattle.session.specs.Steps.{Lent, Reading, Restored, Deciding, Settling, Functions}
+use Rattle.session.specs.Session.{consistent, Consistent, sessionStatus, past, overflows}
+use Rattle.session.specs.Arrival.{Ways, isWay, wayOf, theWays, Opened, Page, Bad, openPage, openWord, opened, arrivalStatus, presented, outcomeOf, sessionAfter, outcomeValues, outcomeScratch, Answering, Arriving, Stepping}
+use Rattle.session.specs.Steps.{Admitted, openedBy, Deciding}
 use Rattle.session.proofs.Late.{late-zeros, page-zeros}
 use Rattle.session.proofs.Ways.{all-read}
 
@@ -36,40 +34,7 @@ use Rattle.session.proofs.Ways.{all-read}
 pub whole-copy : (from to : List ℕ) → length from ≡ length to → from ++ drop (length from) to ≡ from
 whole-copy from to size = rw (drop-of-length-le to {i = length from} (omega arith)) (append-nil from)
 
--- ---- what is opened
-module _ (ways : Ways) (s : Shape) (way : ℕ) (word scratch : List ℕ) where
-  pub opened-way : ways .known way ≡ false → opened ways s way word scratch ≡ Bad Refusal.Shape
-  unfolding opened
-  opened-way h = rw h
-
-  module _ (known : ways .known way ≡ true) where
-    pub opened-shape : lawful s ≡ false → opened ways s way word scratch ≡ Bad (shapeRefusal s)
-    unfolding opened
-    opened-shape h = rw (known, h)
-
-    pub opened-directions : Lawful s → ways .named way .suits s ≡ false → opened ways s way word scratch ≡ Bad Refusal.Directions
-    unfolding opened
-    opened-directions law h = rw (known, law, h)
-
-    module _ (suits : ways .named way .suits s ≡ true) where
-      pub opened-word : Lawful s → (length word ≡ wordLength s → ⊥) → opened ways s way word scratch ≡ Bad Refusal.Length
-      unfolding opened
-      opened-word law h = rw (known, law, suits, ne-eqb (length word) (wordLength s) h)
-
-      pub opened-scratch : Lawful s → length word ≡ wordLength s → (length scratch ≡ scratchLength s → ⊥)
-          → opened ways s way word scratch ≡ Bad Refusal.Length
-      unfolding opened
-      opened-scratch law e h = rw (known, law, suits, eq-eqb (length word) (wordLength s) e, ne-eqb (length scratch) (scratchLength s) h)
-
-      -- past tests 1, 18, 16 and 2 the word is read
-      opened-read : {copied symbols : List ℕ} → Lent s word scratch copied symbols
-          → opened ways s way word scratch ≡ openWord s (ways .named way .word s word) (ways .named way .answer s word)
-      unfolding opened
-      opened-read lent =
-          rw
-          (known, lent .lawful, suits, eq-eqb (length word) (wordLength s) (lent .wordSize), eq-eqb (length scratch) (scratchLength s) (lent .scratchSize))
-
--- ---- a refusal by tests 1, 16 and 2 leaves the scratch as it was
+-- ---- refusals that come before the scratch is touched leave it as it was
 pub length-scratch : {x : List ℕ} → x ≡ answer.scratchAfter Refusal.Length x
 unfolding answer.scratchAfter
 length-scratch = refl
@@ -78,42 +43,6 @@ pub directions-scratch : {x : List ℕ} → x ≡ answer.scratchAfter Refusal.Di
 unfolding answer.scratchAfter
 directions-scratch = refl
 
--- ---- the answers
-
--- the scratch after a page was read, whatever the answer
-pub page-scratch : (scratch : List ℕ) (number k : ℕ) (a b : Bool)
-    → outcomeScratch scratch (cond a (Again number k) (cond b (Refused Refusal.Overflow) (Taken number k))) ≡ replicate (length scratch) 0
-unfolding answer.scratchAfter
-page-scratch scratch number k true b = refl
-page-scratch scratch number k false true = refl
-page-scratch scratch number k false false = refl
-
--- ---- what is presented: test 11 comes before what is opened
-module _ (ways : Ways) (σ : Session) (way : ℕ) (word scratch : List ℕ) where
-  pub presented-way : ways .known way ≡ false → presented ways σ way word scratch ≡ Bad Refusal.Shape
-  unfolding presented
-  presented-way h = rw h
-
-  pub presented-shape : ways .known way ≡ true → lawful (σ .shape) ≡ false → presented ways σ way word scratch ≡ Bad (shapeRefusal (σ .shape))
-  unfolding presented
-  presented-shape known h = rw (known, h)
-
-  pub presented-figures : ways .known way ≡ true → Lawful (σ .shape) → consistent σ ≡ false
-      → presented ways σ way word scratch ≡ Bad Refusal.Figures
-  unfolding presented
-  presented-figures known law h = rw (known, law, h)
-
-  -- right figures have no bearing
-  pub presented-opened : Consistent σ → presented ways σ way word scratch ≡ opened ways (σ .shape) way word scratch
-  unfolding presented opened
-  presented-opened h =
-      ⊎-elim
-      (λ (known : ways .known way ≡ true).
-      ⊎-elim (λ (law : lawful (σ .shape) ≡ true). rw (known, h, law)) (λ (no : lawful (σ .shape) ≡ false). rw (known, no)) (either (lawful (σ .shape))))
-      (λ (none : ways .known way ≡ false). rw none)
-      (either (ways .known way))
-
--- 1 and 11 leave the scratch as it was
 pub way-scratch : {x : List ℕ} → x ≡ answer.scratchAfter Refusal.Shape x
 unfolding answer.scratchAfter
 way-scratch = refl
@@ -122,31 +51,107 @@ pub figures-scratch : {x : List ℕ} → x ≡ answer.scratchAfter Refusal.Figur
 unfolding answer.scratchAfter
 figures-scratch = refl
 
-module _ {ways : Ways} {σ : Session} {way : ℕ} {word scratch scratch′ : List ℕ} {r : Arrived} where
-  -- turned down
-  pub arriving-bad : {o : Opened} {e : Refusal} → o ≡ Bad e → scratch′ ≡ answer.scratchAfter e scratch
-      → (r .session ≡ σ) × (r .outcome ≡ Refused e) → Answering ways σ way o word scratch word scratch′ r
-  unfolding outcomeOf sessionAfter
-  arriving-bad o x h = record {
-    outcome = h .1 ∙ rw o;
-    values = ap outcomeValues (h .1) ∙ rw o;
-    session = h .0 ∙ rw o;
-    wordLeft = rw (h .1);
-    scratchLeft = rw (h .1) x;
-  }
+-- ---- the tests of a session that is handed in
+pub status-passed : (σ : Session) → sessionStatus σ ≡ status.Done → Lawful (σ .shape) × Consistent σ
+unfolding sessionStatus
+status-passed σ h =
+    let (law, h₁) = unless-done (lawful (σ .shape)) _ _ h in
+    (law, unless-done (consistent σ) _ _ h₁ .0)
 
-  -- a page was read
-  arriving-page : {number k : ℕ} {marks word′ : List ℕ} → opened ways (σ .shape) way word scratch ≡ Page number marks k
-      → Settling σ (Page number marks k) r → word′ ≡ cond (isAccepted (r .outcome)) (ways .named way .word (σ .shape) word) word
-      → scratch′ ≡ replicate (length scratch) 0 → Stepping ways σ way word scratch word′ scratch′ r
-  unfolding outcomeOf
-  arriving-page {number} {k} {marks} o settled w x = record {
-    outcome = settled .outcome ∙ ap (outcomeOf σ) (sym o);
-    values = ap outcomeValues (settled .outcome ∙ ap (outcomeOf σ) (sym o));
-    session = settled .session ∙ ap (sessionAfter σ) (sym o);
-    wordLeft = w;
-    scratchLeft = x ∙ sym (ap (outcomeScratch scratch) (settled .outcome) ∙ page-scratch scratch number k (getD (σ .taken) number false) (overflows (σ .calls) marks));
-  }
+pub status-right : (σ : Session) → Lawful (σ .shape) → Consistent σ → sessionStatus σ ≡ status.Done
+unfolding sessionStatus
+status-right σ law right = rw (law, right)
+
+-- tests that are passed
+pub past-done : (t next : Status) → past t status.Refused next ≡ status.Done → (t ≡ status.Done) × (next ≡ status.Done)
+past-done status.Done next h = (refl, h)
+past-done (status.Refused e) next h = absurd (never-done e h)
+
+pub admitted : (σ : Session) (way : ℕ) → arrivalStatus theWays σ way ≡ status.Done → Admitted σ way
+unfolding arrivalStatus
+admitted σ way h =
+    let (known, h₁) = unless-done (isWay way) _ _ h in
+    let (session, h₂) = past-done (sessionStatus σ) _ h₁ in
+    let (law, right) = status-passed σ session in
+    record { known = known; lawful = law; consistent = right; suits = unless-done (wayOf way .suits (σ .shape)) _ _ h₂ .0 }
+
+-- a refusal by these tests comes before the scratch is touched
+abbrev Keeps : List ℕ → Status → Type 0
+Keeps x status.Done = Unit {0}
+Keeps x (status.Refused e) = x ≡ answer.scratchAfter e x
+
+module _ (x : List ℕ) where
+  keeps-unless : (t : Bool) (e : Refusal) (next : Status) → x ≡ answer.scratchAfter e x → Keeps x next → Keeps x (answer.unless t (status.Refused e) next)
+  keeps-unless true e next early h = h
+  keeps-unless false e next early h = early
+
+  keeps-past : (t next : Status) → Keeps x t → Keeps x next → Keeps x (past t status.Refused next)
+  keeps-past status.Done next early h = h
+  keeps-past (status.Refused e) next early h = early
+
+  status-keeps : (ways : Ways) (σ : Session) (way : ℕ) → Keeps x (arrivalStatus ways σ way)
+  unfolding arrivalStatus sessionStatus
+  status-keeps ways σ way =
+      keeps-unless (ways .known way) Refusal.Shape _ way-scratch
+      (keeps-past (sessionStatus σ) _ (keeps-unless (lawful (σ .shape)) _ _ (shape-scratch (σ .shape) x) (keeps-unless (consistent σ) Refusal.Figures _ figures-scratch tt))
+      (keeps-unless (ways .named way .suits (σ .shape)) Refusal.Directions _ directions-scratch tt))
+
+-- ---- what is presented: test 11 comes before what is opened
+-- the other tests are made twice
+tests-twice : (known law suits : Bool) (e : Refusal) (next : Opened)
+    → past (answer.unless known (status.Refused Refusal.Shape) (past (answer.unless law (status.Refused e) status.Done) status.Refused (answer.unless suits (status.Refused Refusal.Directions) status.Done))) Bad
+    (answer.unless known (Bad Refusal.Shape) (answer.unless law (Bad e) (answer.unless suits (Bad Refusal.Directions) next)))
+    ≡ answer.unless known (Bad Refusal.Shape) (answer.unless law (Bad e) (answer.unless suits (Bad Refusal.Directions) next))
+tests-twice true true true e next = refl
+tests-twice true true false e next = refl
+tests-twice true false suits e next = refl
+tests-twice false law suits e next = refl
+
+module _ (ways : Ways) (σ : Session) (way : ℕ) (word scratch : List ℕ) where
+  pub presented-way : ways .known way ≡ false → presented ways σ way word scratch ≡ Bad Refusal.Shape
+  unfolding presented arrivalStatus
+  presented-way h = rw h
+
+  pub presented-figures : ways .known way ≡ true → Lawful (σ .shape) → consistent σ ≡ false
+      → presented ways σ way word scratch ≡ Bad Refusal.Figures
+  unfolding presented arrivalStatus sessionStatus
+  presented-figures known law h = rw (known, law, h)
+
+  presented-refused : {e : Refusal} → arrivalStatus ways σ way ≡ status.Refused e → presented ways σ way word scratch ≡ Bad e
+  unfolding presented
+  presented-refused h = rw h
+
+  -- right figures have no bearing
+  pub presented-opened : Consistent σ → presented ways σ way word scratch ≡ opened ways (σ .shape) way word scratch
+  unfolding presented arrivalStatus sessionStatus opened
+  presented-opened h = rw h (tests-twice (ways .known way) (lawful (σ .shape)) (ways .named way .suits (σ .shape)) _ _)
+
+-- ---- what is opened
+module _ (ways : Ways) (s : Shape) (way : ℕ) (word scratch : List ℕ) where
+  pub opened-way : ways .known way ≡ false → opened ways s way word scratch ≡ Bad Refusal.Shape
+  unfolding opened
+  opened-way h = rw h
+
+  pub opened-directions : ways .known way ≡ true → Lawful s → ways .named way .suits s ≡ false → opened ways s way word scratch ≡ Bad Refusal.Directions
+  unfolding opened
+  opened-directions known law h = rw (known, law, h)
+
+-- turned down
+pub arriving-bad : {ways : Ways} {σ : Session} {way : ℕ} {word scratch scratch′ : List ℕ} {r : Arrived} {o : Opened} {e : Refusal} → o ≡ Bad e → scratch′ ≡ answer.scratchAfter e scratch
+    → (r .session ≡ σ) × (r .outcome ≡ Refused e) → Answering ways σ way o word scratch word scratch′ r
+unfolding outcomeOf sessionAfter
+arriving-bad o x h = record {
+  outcome = h .1 ∙ rw o;
+  values = ap outcomeValues (h .1) ∙ rw o;
+  session = h .0 ∙ rw o;
+  wordLeft = rw (h .1);
+  scratchLeft = rw (h .1) x;
+}
+
+pub arriving-refused : (ways : Ways) (σ : Session) (way : ℕ) {word scratch : List ℕ} {r : Arrived} {e : Refusal} → arrivalStatus ways σ way ≡ status.Refused e
+    → (r .session ≡ σ) × (r .outcome ≡ Refused e) → Arriving ways σ way word scratch word scratch r
+arriving-refused ways σ way {word} {scratch} h =
+    arriving-bad (presented-refused ways σ way word scratch h) (rw h at (status-keeps scratch ways σ way))
 
 -- the step is an arrival where the figures are right
 pub step-arrives : (ways : Ways) (σ : Session) (way : ℕ) {word scratch word′ scratch′ : List ℕ} {r : Arrived} → Consistent σ
@@ -154,90 +159,57 @@ pub step-arrives : (ways : Ways) (σ : Session) (way : ℕ) {word scratch word�
 step-arrives ways σ way {word} {scratch} {word′} {scratch′} {r} right h =
     subst (λ (o : Opened). Answering ways σ way o word scratch word′ scratch′ r) (sym (presented-opened ways σ way word scratch right)) h
 
--- ---- after reading: the page in the gathered symbols
+-- ---- past tests 1, 18, 11 and 16
+module _ {σ : Session} {way : ℕ} (a : Admitted σ way) (word scratch : List ℕ) where
+  pub settled-word : (length word ≡ wordLength (σ .shape) → ⊥) → opened theWays (σ .shape) way word scratch ≡ Bad Refusal.Length
+  unfolding opened
+  settled-word h = rw (a .known, a .lawful, a .suits, ne-eqb (length word) (wordLength (σ .shape)) h)
 
--- the word's symbols were gathered, the scratch cleared, and the page looked for
-pub record Looked (σ : Session) (word scratch copied symbols scratch′ symbols′ : List ℕ) (found : PageRead) : Type 0 where
-  pub lent : Lent (σ .shape) word scratch copied symbols
-  pub cleared : scratch′ ≡ replicate (length scratch) 0
-  pub gathered : symbols′ ≡ extractOf (σ .shape) copied
-  pub page : found ≡ pageOf (σ .shape) symbols′
+  module _ (size : length word ≡ wordLength (σ .shape)) where
+    pub settled-scratch : (length scratch ≡ scratchLength (σ .shape) → ⊥) → opened theWays (σ .shape) way word scratch ≡ Bad Refusal.Length
+    unfolding opened
+    settled-scratch h =
+        rw (a .known, a .lawful, a .suits, eq-eqb (length word) (wordLength (σ .shape)) size, ne-eqb (length scratch) (scratchLength (σ .shape)) h)
 
-module _ {σ : Session} {word scratch copied symbols scratch′ symbols′ : List ℕ} {found : PageRead} (looked : Looked σ word scratch copied symbols scratch′ symbols′ found) where
-  gathered-size : length symbols′ ≡ infoLength (σ .shape)
-  unfolding extractOf
-  gathered-size = ap length (looked .gathered) ∙ length-tabulate (infoLength (σ .shape)) (λ j. at copied (infoPosition (σ .shape) j))
+    module _ (room : length scratch ≡ scratchLength (σ .shape)) where
+      -- past test 2 the word is read
+      settled-read : opened theWays (σ .shape) way word scratch ≡ openedBy (wayOf way) (σ .shape) word
+      unfolding opened
+      settled-read =
+          rw (a .known, a .lawful, a .suits, eq-eqb (length word) (wordLength (σ .shape)) size, eq-eqb (length scratch) (scratchLength (σ .shape)) room)
 
-  -- what is opened is the page found
-  opened-found : (way k : ℕ) → isWay way ≡ true → Restored (wayOf way) (σ .shape) word copied k
-      → opened theWays (σ .shape) way word scratch ≡ openPage (σ .shape) symbols′ k found
-  opened-found way k known restored =
-      opened-read theWays (σ .shape) way word scratch known (restored .suits) (looked .lent)
-      ∙ rw (restored .answer, ← restored .copied, ← looked .gathered, ← looked .page)
+      -- and the scratch ends as zeros, whatever the answer
+      page-scratch : (number k : ℕ) (again over : Bool)
+          → outcomeScratch scratch (cond again (Again number k) (cond over (Refused Refusal.Overflow) (Taken number k))) ≡ replicate (length scratch) 0
+      unfolding answer.scratchAfter
+      page-scratch number k true over = refl
+      page-scratch number k false true = refl
+      page-scratch number k false false = refl
 
-  pub open-bad : {k : ℕ} {e : Refusal} {r : Arrived} → found ≡ page.Refused e → (r .session ≡ σ) × (r .outcome ≡ Refused e)
-      → Deciding σ word scratch copied k word scratch′ r
-  open-bad {k} {e} h answered = record {
-    steps = λ way known restored.
-        arriving-bad (opened-found way k known restored ∙ ap (openPage (σ .shape) symbols′ k) h)
-        (looked .cleared ∙ sym (page-zeros (σ .shape) symbols′ (looked .lent .lawful) gathered-size e (sym (looked .page) ∙ h) scratch)) answered;
-  }
+      page-cleared : (symbols : List ℕ) → length symbols ≡ infoLength (σ .shape) → (k : ℕ) (found : PageRead) → pageOf (σ .shape) symbols ≡ found
+          → outcomeScratch scratch (outcomeOf σ (openPage (σ .shape) symbols k found)) ≡ replicate (length scratch) 0
+      unfolding outcomeOf
+      page-cleared symbols len k (page.Page number c) h = page-scratch number k (getD (σ .taken) number _) (overflows (σ .calls) (marksOf (σ .shape) symbols))
+      page-cleared symbols len k (page.Refused e) h = page-zeros (σ .shape) symbols (a .lawful) len e h scratch
 
-  module _ {number c : ℕ} (h : found ≡ page.Page number c) where
-    -- the marks, as the part of the symbols that the code lends
-    the-marks : marksOf (σ .shape) symbols′ ≡ take (2 + c - 2) (drop 2 symbols′)
-    the-marks = marks-of (σ .shape) symbols′ number c (sym (looked .page) ∙ h) ∙ sym (marks-part c symbols′)
+      read-cleared : (v : List ℕ) (found : Decoded) → wayOf way .answer (σ .shape) word ≡ found
+          → outcomeScratch scratch (outcomeOf σ (openWord (σ .shape) v found)) ≡ replicate (length scratch) 0
+      unfolding outcomeOf extractOf
+      read-cleared v (decoded.Corrected k) h =
+          page-cleared (extractOf (σ .shape) v) (length-tabulate (infoLength (σ .shape)) (λ j. at v (infoPosition (σ .shape) j))) k (pageOf (σ .shape) (extractOf (σ .shape) v)) refl
+      read-cleared v (decoded.Refused e) h = late-zeros e (all-read way .late (σ .shape) word (a .lawful) (a .suits) size e h) scratch
 
-    pub open-asks : (number < 1024) × Functions (take (2 + c - 2) (drop 2 symbols′))
-    open-asks =
-        let f = page-facts (σ .shape) symbols′ number c (sym (looked .page) ∙ h) in
-        (f .page, rw (← the-marks) (record { below = λ i l. f .marks i (rw (f .length) at l) }))
+      pub word-cleared : outcomeScratch scratch (outcomeOf σ (opened theWays (σ .shape) way word scratch)) ≡ replicate (length scratch) 0
+      word-cleared = rw settled-read (read-cleared (wayOf way .word (σ .shape) word) (wayOf way .answer (σ .shape) word) refl)
 
-    pub open-room : 2 + c ≤ length symbols′
-    open-room = marks-within (σ .shape) symbols′ number c (sym (looked .page) ∙ h)
-
-    module _ {k : ℕ} {r : Arrived} (settled : Settling σ (Page number (take (2 + c - 2) (drop 2 symbols′)) k) r) where
-      open-page : {word′ : List ℕ} → word′ ≡ cond (isAccepted (r .outcome)) copied word → Deciding σ word scratch copied k word′ scratch′ r
-      open-page w = record {
-        steps = λ way known restored.
-            arriving-page (opened-found way k known restored ∙ ap (openPage (σ .shape) symbols′ k) h) (rw the-marks settled)
-            (w ∙ ap (λ (v : List ℕ). cond (isAccepted (r .outcome)) v word) (restored .copied)) (looked .cleared);
-      }
-
-      -- the copy is put back where the outcome accepts, and the word untouched where it does not
-      pub open-accepts : isAccepted (r .outcome) ≡ true → {word′ : List ℕ} → word′ ≡ copied ++ drop (length copied) word
-          → Deciding σ word scratch copied k word′ scratch′ r
-      open-accepts a w = open-page (rw a (w ∙ whole-copy copied word (looked .lent .copySize ∙ sym (looked .lent .wordSize))))
-
-      pub open-refuses : isAccepted (r .outcome) ≡ false → Deciding σ word scratch copied k word scratch′ r
-      open-refuses a = open-page (rw a)
-
--- ---- reading, on a copy of the word
-module _ (σ : Session) (way : ℕ) (known : isWay way ≡ true) (suits : wayOf way .suits (σ .shape) ≡ true) {word scratch copied symbols : List ℕ} (lent : Lent (σ .shape) word scratch copied symbols) {loaded : List ℕ} (load : loaded ≡ word ++ drop (length word) copied) {left : List ℕ} {found : Decoded} (read : Reading (wayOf way) (σ .shape) loaded left found) where
-  same-word : loaded ≡ word
-  same-word = load ∙ whole-copy word copied (lent .wordSize ∙ sym (lent .copySize))
-
-  the-answer : wayOf way .answer (σ .shape) word ≡ found
-  the-answer = ap (wayOf way .answer (σ .shape)) (sym same-word) ∙ sym (read .answer)
-
-  pub read-bad : {e : Refusal} {scratch′ : List ℕ} {r : Arrived} → found ≡ decoded.Refused e → scratch′ ≡ replicate (length scratch) 0
-      → (r .session ≡ σ) × (r .outcome ≡ Refused e) → Stepping theWays σ way word scratch word scratch′ r
-  read-bad {e} h x answered =
-      let late = all-read way .late (σ .shape) word (lent .lawful) suits (lent .wordSize) e (the-answer ∙ h) in
-      arriving-bad (opened-read theWays (σ .shape) way word scratch known suits lent ∙ ap (openWord (σ .shape) (wayOf way .word (σ .shape) word)) (the-answer ∙ h))
-      (x ∙ sym (late-zeros e late scratch)) answered
-
-  pub read-good : {k : ℕ} → found ≡ decoded.Corrected k
-      → Lent (σ .shape) word scratch left symbols × Restored (wayOf way) (σ .shape) word left k
-  read-good h =
-      let given : List ℕ → List ℕ = wayOf way .word (σ .shape) in
-      let is : left ≡ given word = read .word ∙ ap (decodedWord loaded (given loaded)) h ∙ ap given same-word in (
-        record {
-          lawful = lent .lawful;
-          wordSize = lent .wordSize;
-          scratchSize = lent .scratchSize;
-          copySize = ap length is ∙ all-read way .size (σ .shape) word;
-          symbolsSize = lent .symbolsSize;
-        },
-        record { suits = suits; answer = the-answer ∙ h; copied = is },
-      )
+      pub settled-both : {word′ scratch′ : List ℕ} {r : Arrived} → scratch′ ≡ replicate (length scratch) 0 → Deciding (wayOf way) σ word word′ r
+          → Stepping theWays σ way word scratch word′ scratch′ r
+      settled-both cleared d =
+          let answer = d .settled .outcome ∙ ap (outcomeOf σ) (sym settled-read) in
+          record {
+            outcome = answer;
+            values = ap outcomeValues answer;
+            session = d .settled .session ∙ ap (sessionAfter σ) (sym settled-read);
+            wordLeft = d .wordLeft;
+            scratchLeft = cleared ∙ sym (ap (outcomeScratch scratch) answer ∙ word-cleared);
+          }

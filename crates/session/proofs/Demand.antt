@@ -1,7 +1,7 @@
 -- Demand 3: what comes of a whole list of arrivals that fits a recording.
 use mathlib.Core.Path.{_≡_, refl, sym, ap, _∙_, subst}
 use mathlib.Core.Logic.{⊎-elim}
-use mathlib.Core.Bool.{Bool, true, false, cond, _||_}
+use mathlib.Core.Bool.{Bool, true, false, cond}
 use mathlib.Core.List.{List, [], _∷_}
 use Prim.Native.Nat.{ℕ, zero, suc, _+_, _<_, _≤_}
 use native.Mathlib.Nat.{add-zero, mul-one, le-refl, le-of-lt, le-trans}
@@ -9,7 +9,7 @@ use lib.ListN.{length, take}
 use lib.Seq.{take-length}
 use borrow.Author.Tests.{eq-eqb, eqb-true}
 use Rattle.parity.specs.Count.{bit, sum, count}
-use Rattle.parity.proofs.Tests.{clash, any-suc, any-zero, any-intro, any-elim}
+use Rattle.parity.proofs.Tests.{clash, any-intro, any-elim}
 use Rattle.parity.proofs.Sums.{sum-cong, sum-none, sum-const}
 use Rattle.gtb.specs.declared.Shape.{Shape}
 use Rattle.gtb.specs.declared.Refusal.{Refusal}

@@ -11,9 +11,10 @@ use Rattle.gtb.specs.Shape.{orders, isOrder, standard, regular, fitsSlope, slop
 use Rattle.gtb.specs.Square.{lineOf, narrow, syndrome, silentTest}
 use Rattle.gtb.specs.Positions.{infoPosition, extractOf}
 use Rattle.correction.specs.Error.{mended}
-use Rattle.decoder.specs.Decode.{located, alone, errorAt, restored, correctable, decodeOf}
-use Rattle.majority.specs.Majority.{shows, majority, votedAt, voted, votes, elected, majorityOf}
-use Rattle.double.specs.Double.{off, single, twoAt, paired, changes, solvable, threefold, doubleOf}
+use Rattle.correction.specs.Reading.{changesBy, restoredBy, acceptedBy, readOf}
+use Rattle.decoder.specs.Decode.{located, alone, errorAt}
+use Rattle.majority.specs.Majority.{shows, majority, votedAt}
+use Rattle.double.specs.Double.{off, single, twoAt}
 use Rattle.page.specs.Page.{functions, zeros, pageOf, marksOf}
 use Rattle.session.specs.Arrival.{isWay, wayOf, theWays, Opened, Page, Bad, opened}
 
@@ -26,13 +27,13 @@ abbrev by-way : ℕ → Opened
 by-way way = opened theWays (standard 3 3 3) way received (replicate 7 0)
 
 pub masked-clean : by-way 0 ≡ Bad Refusal.Uncorrectable
-unfolding _⊕_ xorSum when bit sum count any all firstValue tabulate orders isOrder regular fitsSlope sloped lawful slopeOf keptChecks scratchLength lineOf narrow syndrome silentTest mended located alone errorAt restored correctable decodeOf isWay wayOf opened
+unfolding _⊕_ xorSum when bit sum count any all firstValue tabulate orders isOrder regular fitsSlope sloped lawful slopeOf keptChecks scratchLength lineOf narrow syndrome silentTest mended located alone errorAt changesBy restoredBy acceptedBy readOf isWay wayOf opened
 masked-clean = refl
 
 pub masked-vote : by-way 1 ≡ Bad Refusal.NoMajority
-unfolding _⊕_ xorSum when bit sum count any all firstValue tabulate orders isOrder regular fitsSlope sloped lawful slopeOf keptChecks scratchLength lineOf narrow syndrome silentTest mended shows majority votedAt voted votes elected majorityOf isWay wayOf opened
+unfolding _⊕_ xorSum when bit sum count any all firstValue tabulate orders isOrder regular fitsSlope sloped lawful slopeOf keptChecks scratchLength lineOf narrow syndrome silentTest mended shows majority votedAt changesBy restoredBy acceptedBy readOf isWay wayOf opened
 masked-vote = refl
 
 pub masked-two : by-way 2 ≡ Page 5 [] 2
-unfolding _⊕_ xorSum when bit sum count any all firstValue tabulate orders isOrder regular fitsSlope sloped lawful slopeOf keptChecks scratchLength lineOf narrow syndrome silentTest mended off single twoAt paired changes solvable threefold doubleOf infoPosition extractOf functions zeros pageOf marksOf isWay wayOf opened
+unfolding _⊕_ xorSum when bit sum count any all firstValue tabulate orders isOrder regular fitsSlope sloped lawful slopeOf keptChecks scratchLength lineOf narrow syndrome silentTest mended off single twoAt changesBy restoredBy acceptedBy readOf infoPosition extractOf functions zeros pageOf marksOf isWay wayOf opened
 masked-two = refl

@@ -1,20 +1,19 @@
--- A refusal past tests 1, 18, 11 and 2 leaves zeros in the scratch, and reading and page reading have no other past these tests.
+-- A refusal past tests 1, 18, 11 and 2 leaves zeros in the scratch, and page reading has no other past these tests.
 use mathlib.Core.Path.{_≡_, refl}
-use mathlib.Core.Bool.{Bool, true, false}
+use mathlib.Core.Bool.{Bool, false}
 use mathlib.Core.List.{List}
 use Prim.Native.Nat.{ℕ, _+_}
 use native.Mathlib.Omega.{arith}
-use lib.Dec.{eqb, leb, ltb}
+use lib.Dec.{leb, ltb}
 use lib.ListN.{length, take, drop, replicate}
 use borrow.Author.Tests.{eq-eqb}
 use Rattle.gtb.specs.declared.Shape.{Shape}
 use Rattle.gtb.specs.declared.Refusal.{Refusal}
-use Rattle.gtb.specs.Shape.{lawful, shapeRefusal, Lawful, wordLength, infoLength}
+use Rattle.gtb.specs.Shape.{Lawful, infoLength}
 use Rattle.gtb.specs.Square.{at, narrow}
 use Rattle.gtb.specs.Answer.{isEarly, unless}
 use Rattle.gtb.specs.Answer as answer
-use Rattle.correction.specs.declared.Decoded.{Decoded}
-use Rattle.correction.specs.declared.Decoded.the-variants as decoded
+use Rattle.gtb.proofs.Answers.{late-next}
 use Rattle.page.specs.declared.PageRead.{PageRead}
 use Rattle.page.specs.declared.PageRead.the-variants as page
 use Rattle.page.specs.Page.{pageOf}
@@ -27,30 +26,10 @@ pub late-zeros : (e : Refusal) → Late e → (x : List ℕ) → answer.scratchA
 unfolding answer.scratchAfter
 late-zeros e l x = rw l
 
--- a test that refuses late, and what follows it
-late-next : {A : Type 0} (refused : Refusal → A) → ((e e′ : Refusal) → refused e ≡ refused e′ → e ≡ e′) → (t : Bool) (e : Refusal) (next : A)
-    → Late e → ((e′ : Refusal) → next ≡ refused e′ → Late e′) → (e′ : Refusal) → unless t (refused e) next ≡ refused e′ → Late e′
-late-next refused same true e next l h e′ r = h e′ r
-late-next refused same false e next l h e′ r = rw (same e e′ r) at l
-
-decode-late : (t : Bool) (e : Refusal) (next : Decoded) → Late e → ((e′ : Refusal) → next ≡ decoded.Refused e′ → Late e′)
-    → (e′ : Refusal) → unless t (decoded.Refused e) next ≡ decoded.Refused e′ → Late e′
-decode-late = late-next decoded.Refused (λ e e′ h. cc)
-
+-- a test of the page reader that refuses late, and what follows it
 page-late : (t : Bool) (e : Refusal) (next : PageRead) → Late e → ((e′ : Refusal) → next ≡ page.Refused e′ → Late e′)
     → (e′ : Refusal) → unless t (page.Refused e) next ≡ page.Refused e′ → Late e′
 page-late = late-next page.Refused (λ e e′ h. cc)
-
--- reading: past tests 1, 18 and 2 come test 3 and the way's own
-pub read-late : (s : Shape) (word : List ℕ) (t : Bool) (own : Refusal) (k : ℕ) → Late own → Lawful s → length word ≡ wordLength s → (e : Refusal)
-    → unless (lawful s) (decoded.Refused (shapeRefusal s))
-    (unless (eqb (length word) (wordLength s)) (decoded.Refused Refusal.Length)
-    (unless (narrow (s .b) word) (decoded.Refused Refusal.Width) (unless t (decoded.Refused own) (decoded.Corrected k))))
-    ≡ decoded.Refused e → Late e
-read-late s word t own k late law size e h =
-    decode-late (narrow (s .b) word) Refusal.Width _ refl
-    (decode-late t own _ late (λ e′ r. let z : _≡_ {A = ℕ} 0 1 = cc in absurd (omega arith)))
-    e (rw (law, eq-eqb (length word) (wordLength s) size) at h)
 
 fault-late : (s : Shape) (symbols : List ℕ) → Lawful s → length symbols ≡ infoLength s → (e : Refusal) → pageOf s symbols ≡ page.Refused e → Late e
 unfolding pageOf

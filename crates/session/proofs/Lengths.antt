@@ -1,6 +1,6 @@
 -- An arrival refuses the scratch of before N7, whatever its word and its way of reading, if that can be used with the shape.
 use mathlib.Core.Path.{_≡_, sym, _∙_}
-use mathlib.Core.Bool.{Bool, true}
+use mathlib.Core.Bool.{true}
 use mathlib.Core.List.{List}
 use Prim.Native.Nat.{ℕ, _+_, _*_, _/_}
 use lib.Dec.{eqb}

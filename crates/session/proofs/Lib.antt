@@ -6,12 +6,10 @@ pub mod Openings
 pub mod Late
 pub mod NoDamage
 pub mod Asked
-pub mod Clean
-pub mod Vote
-pub mod Two
 pub mod Ways
 pub mod Agreement
 pub mod Arrive
+pub mod Opens
 pub mod Machine
 pub mod Lengths
 pub mod Fed

@@ -1,5 +1,5 @@
 -- What an arrival can bring: a page with a number below 1024 and at most 898 marks, or a refusal that is neither 9 nor 11.
-use mathlib.Core.Path.{_≡_, refl, ap, _∙_}
+use mathlib.Core.Path.{_≡_, refl}
 use mathlib.Core.Bool.{Bool, true, false, _&&_}
 use mathlib.Core.List.{List}
 use mathlib.Core.Logic.{⊎-elim}
@@ -13,8 +13,7 @@ use Rattle.parity.proofs.Tests.{clash, or-cases}
 use Rattle.gtb.proofs.Answers.{unless-never, Foreign, late-foreign}
 use Rattle.page.proofs.Refusals.{page-never}
 use Rattle.decoder.specs.Decode.{decodeOf, restored}
-use Rattle.double.specs.Double.{threefold}
-use Rattle.decoder.proofs.Refusals.{decode-never}
+use Rattle.decoder.proofs.Meaning.{decode-never}
 use Rattle.gtb.specs.declared.Shape.{Shape}
 use Rattle.gtb.specs.declared.Refusal.{Refusal}
 use Rattle.gtb.specs.Shape.{lawful, Lawful, infoLength, wordLength, scratchLength, shapeRefusal}
@@ -66,7 +65,7 @@ unless-sane false e next l h = l refl
 
 -- with two directions way 2 is turned down by 16, whatever is lent
 pub two-directions : (s : Shape) (word scratch : List ℕ) → Lawful s → s .n < 3 → opened theWays s 2 word scratch ≡ Bad Refusal.Directions
-unfolding opened isWay wayOf threefold
+unfolding opened isWay wayOf
 two-directions s word scratch law few = rw (law, lt-leb 3 (s .n) few)
 
 pub opened-sane : (ways : Ways) (s : Shape) → AllSound ways s → (way : ℕ) (word scratch : List ℕ) → Sane (opened ways s way word scratch)

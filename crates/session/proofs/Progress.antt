@@ -8,11 +8,11 @@ use native.Mathlib.Nat.{eq-or-lt-of-le, le-of-suc-le-suc}
 use native.Mathlib.Numerals.{add-one}
 use native.Mathlib.Omega.{arith}
 use lib.Dec.{eqb}
-use lib.ListN.{length, getD, set, getD-replicate}
+use lib.ListN.{length, set, getD-replicate}
 use lib.Seq.{getD-set-same, getD-set-other}
 use borrow.Author.Tests.{eq-eqb, ne-eqb, eqb-true, eqb-false}
 use mir.Val.{boolByte}
-use Rattle.parity.specs.Count.{bit, count, lowestNot}
+use Rattle.parity.specs.Count.{bit, count}
 use Rattle.parity.proofs.Tests.{either, clash, and-both, and-left, and-right, and-no-left, and-no-right, not-of-true, not-of-false}
 use Rattle.parity.proofs.Sums.{sum-split, bit-le, count-zero, count-more, count-cong, count-bound, count-none, count-all}
 use Rattle.parity.proofs.Pigeon.{count-others}

@@ -7,17 +7,21 @@ use lib.Dec.{eqb, ltb}
 use lib.ListN.{length, getD, replicate}
 use Rattle.gtb.specs.declared.Shape.{Shape}
 use Rattle.gtb.specs.declared.Refusal.{Refusal}
+use Rattle.gtb.specs.declared.Status.{Status}
+use Rattle.gtb.specs.declared.Status.the-variants.{Done}
+use Rattle.gtb.specs.declared.Status.the-variants as status
 use Rattle.gtb.specs.Shape.{lawful, shapeRefusal, wordLength, scratchLength}
 use Rattle.gtb.specs.Square.{at, Word, Codeword}
 use Rattle.gtb.specs.Positions.{extractOf}
 use Rattle.gtb.specs.Answer.{refusalNumber, unless, scratchAfter}
 use Rattle.correction.specs.declared.Decoded.{Decoded}
 use Rattle.correction.specs.declared.Decoded.the-variants as decoded
-use Rattle.decoder.specs.Damage.{Unmasked}
 use Rattle.correction.specs.Error.{weight, damaged}
-use Rattle.decoder.specs.Decode.{decodeOf, restored}
-use Rattle.majority.specs.Majority.{majorityOf, voted}
-use Rattle.double.specs.Double.{threefold, paired, doubleOf}
+use Rattle.correction.specs.Reading.{Reader, restoredBy, readOf}
+use Rattle.decoder.specs.Damage.{Unmasked}
+use Rattle.decoder.specs.Decode as decoder
+use Rattle.majority.specs.Majority as majority
+use Rattle.double.specs.Double as double
 use Rattle.page.specs.declared.PageRead.{PageRead}
 use Rattle.page.specs.declared.PageRead.the-variants as page
 use Rattle.page.specs.Page.{pageOf, marksOf}
@@ -25,7 +29,7 @@ use Rattle.session.specs.declared.Session.{Session}
 use Rattle.session.specs.declared.Outcome.{Outcome}
 use Rattle.session.specs.declared.Outcome.the-variants.{Taken, Again, Refused}
 use Rattle.session.specs.declared.Arrived.{Arrived}
-use Rattle.session.specs.Session.{consistent, overflows, recorded}
+use Rattle.session.specs.Session.{sessionStatus, past, overflows, recorded}
 
 -- an answer's three values: 0 taken, 1 again, 2 refused; page or refusal number; digits changed
 abbrev pub outcomeValues : Outcome → List ℕ
@@ -50,17 +54,21 @@ pub record Sound (way : Way) (s : Shape) : Type 0 where
       → (way .answer s (damaged v e) ≡ decoded.Corrected (weight s (at e))) × (way .word s (damaged v e) ≡ v) × (way .suits s ≡ true)
   pub never : (w : List ℕ) (e : Refusal) → bySession e ≡ true → way .answer s w ≡ decoded.Refused e → ⊥
 
+-- a reader as a way, with the damage that it is to undo
+abbrev pub wayBy : Reader → (Shape → (ℕ → ℕ) → Type 0) → Way
+wayBy reader Allowed = record { answer = readOf reader; word = restoredBy reader; Allowed = Allowed; suits = reader .suits }
+
 -- reading clean damage to at most n - 1 digits (RULES 3)
 abbrev pub clean : Way
-clean = record { answer = decodeOf; word = restored; Allowed = λ s e. Unmasked s e × (weight s e ≤ s .n - 1); suits = λ s. true }
+clean = wayBy decoder.clean (λ s e. Unmasked s e × (weight s e ≤ s .n - 1))
 
 -- reading by vote any damage to at most n/2 digits, rounded down, clean or not (RULES 3.2)
 abbrev pub vote : Way
-vote = record { answer = majorityOf; word = voted; Allowed = λ s e. weight s e ≤ s .n / 2; suits = λ s. true }
+vote = wayBy majority.vote (λ s e. weight s e ≤ s .n / 2)
 
 -- reading two wrong digits, clean or not, with three directions or more (RULES 3.3); with two none is allowed, since every arrival is turned down
 abbrev pub two : Way
-two = record { answer = doubleOf; word = paired; Allowed = λ s e. (3 ≤ s .n) × (weight s e ≤ 2); suits = threefold }
+two = wayBy double.two (λ s e. (3 ≤ s .n) × (weight s e ≤ 2))
 
 -- the ways that an arrival may name, by number
 pub record Ways : Type 1 where
@@ -108,13 +116,16 @@ opened ways s k word scratch =
     (unless (eqb (length word) (wordLength s) && eqb (length scratch) (scratchLength s)) (Bad Refusal.Length)
     (openWord s (ways .named k .word s word) (ways .named k .answer s word)))))
 
--- with test 11, which comes directly after 1 and 18, so before 16
+-- the tests of the session and the way's number: test 11 comes directly after 1 and 18, so before 16
+unfoldable pub arrivalStatus : Ways → Session → ℕ → Status
+arrivalStatus ways σ k =
+    unless (ways .known k) (status.Refused Refusal.Shape)
+    (past (sessionStatus σ) status.Refused
+    (unless (ways .named k .suits (σ .shape)) (status.Refused Refusal.Directions) Done))
+
+-- what an arrival brings with test 11
 unfoldable pub presented : Ways → Session → ℕ → List ℕ → List ℕ → Opened
-presented ways σ k word scratch =
-    unless (ways .known k) (Bad Refusal.Shape)
-    (unless (lawful (σ .shape)) (Bad (shapeRefusal (σ .shape)))
-    (unless (consistent σ) (Bad Refusal.Figures)
-    (opened ways (σ .shape) k word scratch)))
+presented ways σ k word scratch = past (arrivalStatus ways σ k) Bad (opened ways (σ .shape) k word scratch)
 
 -- a marked page is again; then 9
 unfoldable pub outcomeOf : Session → Opened → Outcome

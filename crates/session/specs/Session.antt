@@ -77,12 +77,20 @@ figured s taken calls = record { shape = s; taken = taken; calls = calls; pages 
 unfoldable pub recorded : Session → ℕ → List ℕ → Session
 recorded σ number marks = figured (σ .shape) (set (σ .taken) number true) (added (σ .calls) marks)
 
+-- the tests of a session that is handed in: 1, 18, then 11
+unfoldable pub sessionStatus : Session → Status
+sessionStatus σ =
+    unless (lawful (σ .shape)) (status.Refused (shapeRefusal (σ .shape)))
+    (unless (consistent σ) (status.Refused Refusal.Figures) Done)
+
+-- past such tests: go on, or give their refusal
+abbrev pub past : {A : Type 0} → Status → (Refusal → A) → A → A
+past Done refused next = next
+past (status.Refused e) refused next = refused e
+
 -- a count query tests 1, 18, 11, then 7
 unfoldable pub countedOf : Session → ℕ → Counted
-countedOf σ f =
-    unless (lawful (σ .shape)) (Refused (shapeRefusal (σ .shape)))
-    (unless (consistent σ) (Refused Refusal.Figures)
-    (unless (ltb f 256) (Refused Refusal.Function) (Calls (getD (σ .calls) f 0))))
+countedOf σ f = past (sessionStatus σ) Refused (unless (ltb f 256) (Refused Refusal.Function) (Calls (getD (σ .calls) f 0)))
 
 -- as one number, a refusal above all counts
 abbrev pub countedNumber : Counted → ℕ

@@ -2,17 +2,18 @@
 use mathlib.Core.Path.{_≡_}
 use mathlib.Core.Bool.{Bool, true, not}
 use mathlib.Core.List.{List}
-use Prim.Native.Nat.{ℕ, _^_, _<_}
-use lib.ListN.{length, getD}
+use Prim.Native.Nat.{ℕ, _+_, _^_, _<_, _≤_}
+use lib.ListN.{length, getD, take, drop}
 use Rattle.gtb.specs.declared.Shape.{Shape}
-use Rattle.gtb.specs.Shape.{Lawful, wordLength, infoLength, scratchLength}
+use Rattle.gtb.specs.Shape.{Lawful}
 use Rattle.correction.specs.declared.Decoded.{Decoded}
-use Rattle.correction.specs.declared.Decoded.the-variants.{Corrected}
 use Rattle.correction.specs.Answer.{decodedWord}
 use Rattle.session.specs.declared.Session.{Session}
 use Rattle.session.specs.declared.Arrived.{Arrived}
-use Rattle.session.specs.Session.{added, overflows}
-use Rattle.session.specs.Arrival.{Way, isWay, wayOf, theWays, Opened, outcomeOf, sessionAfter, Stepping}
+use Rattle.session.specs.declared.Opening.{Opening}
+use Rattle.session.specs.declared.Opening.the-variants as opening
+use Rattle.session.specs.Session.{Consistent, added, overflows}
+use Rattle.session.specs.Arrival.{Way, isWay, wayOf, Opened, Page, Bad, openWord, outcomeOf, sessionAfter, wordAfter}
 
 -- marks added to the counts: all of them, or a count would pass its limit
 pub record Adding (calls marks calls′ : List ℕ) (r : Bool) : Type 0 where
@@ -33,25 +34,44 @@ pub record Settling (σ : Session) (o : Opened) (r : Arrived) : Type 0 where
   pub outcome : r .outcome ≡ outcomeOf σ o
   pub session : r .session ≡ sessionAfter σ o
 
--- what is lent has passed tests 1 and 2; the copy and the information symbols are the arrival's own memory
-pub record Lent (s : Shape) (word scratch copy symbols : List ℕ) : Type 0 where
-  pub lawful : Lawful s
-  pub wordSize : length word ≡ wordLength s
-  pub scratchSize : length scratch ≡ scratchLength s
-  pub copySize : length copy ≡ wordLength s
-  pub symbolsSize : length symbols ≡ infoLength s
+-- the session and the way have passed tests 1, 18, 11 and 16
+pub record Admitted (σ : Session) (k : ℕ) : Type 0 where
+  pub known : isWay k ≡ true
+  pub lawful : Lawful (σ .shape)
+  pub consistent : Consistent σ
+  pub suits : wayOf k .suits (σ .shape) ≡ true
 
 -- a word read some way: its answer, and the word that it gives
 pub record Reading (way : Way) (s : Shape) (w w′ : List ℕ) (r : Decoded) : Type 0 where
   pub answer : r ≡ way .answer s w
   pub word : w′ ≡ decodedWord w (way .word s w) r
 
--- the copy holds what reading gives, by a way that can be used with the shape
-pub record Restored (way : Way) (s : Shape) (word copy : List ℕ) (k : ℕ) : Type 0 where
-  pub suits : way .suits s ≡ true
-  pub answer : way .answer s word ≡ Corrected k
-  pub copied : copy ≡ way .word s word
+-- what a word brings, read some way
+abbrev pub openedBy : Way → Shape → List ℕ → Opened
+openedBy way s word = openWord s (way .word s word) (way .answer s word)
 
--- the page in the copy decides, whichever way gave the copy
-pub record Deciding (σ : Session) (word scratch copy : List ℕ) (k : ℕ) (word′ scratch′ : List ℕ) (r : Arrived) : Type 0 where
-  pub steps : (way : ℕ) → isWay way ≡ true → Restored (wayOf way) (σ .shape) word copy k → Stepping theWays σ way word scratch word′ scratch′ r
+-- what the answer of the first step tells: the marks are the symbols from place 2 on
+abbrev pub told : Opening → List ℕ → Opened
+told (opening.Page number c k) symbols = Page number (take c (drop 2 symbols)) k
+told (opening.Refused e) symbols = Bad e
+
+-- a page that the last step may be taken with: its number has a place, its marks stand among the symbols and are function numbers
+pub record Readable (number c : ℕ) (symbols : List ℕ) : Type 0 where
+  pub low : number < 1024
+  pub room : 2 + c ≤ length symbols
+  pub marks : Functions (take c (drop 2 symbols))
+
+-- it tells what is brought
+pub record Tells (o : Opened) (symbols : List ℕ) (r : Opening) : Type 0 where
+  pub brought : told r symbols ≡ o
+  pub readable : (number c k : ℕ) → r ≡ opening.Page number c k → Readable number c symbols
+
+-- the first step of an arrival: where it brings a page, the word stands restored
+pub record Opens (way : Way) (s : Shape) (word word′ symbols′ : List ℕ) (r : Opening) : Type 0 where
+  pub tells : Tells (openedBy way s word) symbols′ r
+  pub restored : (number c k : ℕ) → r ≡ opening.Page number c k → word′ ≡ way .word s word
+
+-- both steps: the word is written to where the answer is taken or again
+pub record Deciding (way : Way) (σ : Session) (word word′ : List ℕ) (r : Arrived) : Type 0 where
+  pub settled : Settling σ (openedBy way (σ .shape) word) r
+  pub wordLeft : word′ ≡ wordAfter word (way .word (σ .shape) word) (r .outcome)

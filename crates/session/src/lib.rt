@@ -1,24 +1,22 @@
 // The session: which pages have come, and how often each function was called.
 mod figures;
 pub mod number;
+pub mod open;
 pub mod way;
 
-use correction::Decoded;
+use crate::open::open;
 use gtb::Refusal;
 use gtb::Shape;
 use gtb::Status;
-use gtb::size::info_length;
 use gtb::size::scratch_length;
 use gtb::size::word_length;
-use page::PageRead;
 ghost use mathlib.Core.Path.{_≡_};
-ghost use mathlib.Core.Bool.{true};
 ghost use Prim.Native.Nat.{_<_};
-ghost use Rattle.gtb.specs.Shape.{Lawful};
+ghost use lib.ListN.{length};
 ghost use Rattle.gtb.specs.Answer.{Answered};
-ghost use Rattle.session.specs.Session.{consistent, Consistent, countedOf, countedNumber, Beginning};
-ghost use Rattle.session.specs.Arrival.{isWay, wayOf, theWays, Opened, Arriving, Stepping, isAccepted};
-ghost use Rattle.session.specs.Steps.{Adding, Counts, Functions, Settling, Lent, Deciding};
+ghost use Rattle.session.specs.Session.{Consistent, sessionStatus, countedOf, countedNumber, Beginning};
+ghost use Rattle.session.specs.Arrival.{wayOf, theWays, Opened, arrivalStatus, Arriving, Stepping, isAccepted};
+ghost use Rattle.session.specs.Steps.{Adding, Counts, Functions, Settling, Admitted, Deciding};
 
 // A session handed in from elsewhere may hold anything, a bad shape too.
 pub struct Session {
@@ -42,6 +40,12 @@ pub enum Outcome {
 pub struct Arrived {
     pub session: Session,
     pub outcome: Outcome,
+}
+
+// The answer of an arrival's first step: page number, number of marks and symbols changed, or a refusal.
+pub enum Opening {
+    Page(u32, u32, u32),
+    Refused(Refusal),
 }
 
 // A fresh session beside the answer. An enum holds no array, so one stands beside a refusal too; it is of no use there.
@@ -86,23 +90,42 @@ impl Session {
         }
     }
 
-    // Test 11.
-    pub fn is_consistent(self) -> bool
-        ensures { λ r. ⌜ r ≡ consistent self ⌝ }
+    // Tests 1, 18 and 11.
+    pub fn status(self) -> Status
+        ensures { λ r. ⌜ r ≡ sessionStatus self ⌝ }
     {
-        figures::agree(&self.taken, self.pages, self.lowest)
+        let shape = self.shape;
+        if !gtb::is_lawful(shape) {
+            return Status::Refused(gtb::shape_refusal(shape));
+        }
+        if !figures::agree(&self.taken, self.pages, self.lowest) {
+            return Status::Refused(Refusal::Figures);
+        }
+        Status::Done
+    }
+
+    // Tests 1, 18, 11 and 16, for arrivals that name this way.
+    pub fn arrival_status(self, way: u32) -> Status
+        ensures { λ r. ⌜ r ≡ arrivalStatus theWays self way ⌝ }
+    {
+        if !way::is_way(way) {
+            return Status::Refused(Refusal::Shape);
+        }
+        if let Status::Refused(e) = self.status() {
+            return Status::Refused(e);
+        }
+        if !way::suits(self.shape, way) {
+            return Status::Refused(Refusal::Directions);
+        }
+        Status::Done
     }
 
     // How often a function was called: tests 1, 18, 11, then 7.
     pub fn count(self, function: u32) -> Counted
         ensures { λ r. ⌜ Answered countedNumber (countedOf self function) r ⌝ }
     {
-        let shape = self.shape;
-        if !gtb::is_lawful(shape) {
-            return Counted::Refused(gtb::shape_refusal(shape));
-        }
-        if !self.is_consistent() {
-            return Counted::Refused(Refusal::Figures);
+        if let Status::Refused(e) = self.status() {
+            return Counted::Refused(e);
         }
         if function > 255 {
             return Counted::Refused(Refusal::Function);
@@ -112,64 +135,14 @@ impl Session {
         Counted::Calls(calls[at])
     }
 
-    // An arrival, read the way that it names: tests 1, 18 and 11, then the word.
+    // An arrival, read the way that it names.
     pub fn arrive(self, way: u32, word: &mut [u32], scratch: &mut [u32]) -> Arrived
         ensures { λ r. ⌜ Arriving theWays self way (now (word .entry)) (now (scratch .entry)) (now (word .exit)) (now (scratch .exit)) r ⌝ }
     {
-        if !way::is_way(way) {
-            return self.refused(Refusal::Shape);
-        }
-        let shape = self.shape;
-        if !gtb::is_lawful(shape) {
-            return self.refused(gtb::shape_refusal(shape));
-        }
-        if !self.is_consistent() {
-            return self.refused(Refusal::Figures);
+        if let Status::Refused(e) = self.arrival_status(way) {
+            return self.refused(e);
         }
         self.settle_word(way, word, scratch)
-    }
-
-    // An arrival at a session whose figures are known to be right: tests 1 and 18, then the word.
-    pub fn step(self, way: u32, word: &mut [u32], scratch: &mut [u32]) -> Arrived
-        requires { ⌜ Consistent self ⌝ }
-        ensures { λ r. ⌜ Stepping theWays self way (now (word .entry)) (now (scratch .entry)) (now (word .exit)) (now (scratch .exit)) r ⌝ }
-    {
-        if !way::is_way(way) {
-            return self.refused(Refusal::Shape);
-        }
-        let shape = self.shape;
-        if !gtb::is_lawful(shape) {
-            return self.refused(gtb::shape_refusal(shape));
-        }
-        self.settle_word(way, word, scratch)
-    }
-
-    // A word that arrives, past tests 1, 18 and 11: test 16, then 2. Past test 2 it works on a copy, so that a word refused later is still the word that came.
-    pub fn settle_word(self, way: u32, word: &mut [u32], scratch: &mut [u32]) -> Arrived
-        requires { ⌜ (isWay way ≡ true) × Lawful (self .shape) × Consistent self ⌝ }
-        ensures { λ r. ⌜ Stepping theWays self way (now (word .entry)) (now (scratch .entry)) (now (word .exit)) (now (scratch .exit)) r ⌝ }
-    {
-        let shape = self.shape;
-        if !way::suits(shape, way) {
-            return self.refused(Refusal::Directions);
-        }
-        let size = word_length(shape);
-        if word.len() != size {
-            return self.refused(Refusal::Length);
-        }
-        if scratch.len() != scratch_length(shape) {
-            return self.refused(Refusal::Length);
-        }
-        let count = info_length(shape);
-        let mut copied = [0u32; 961];
-        let mut symbols = [0u32; 900];
-        self.read(
-            way,
-            word,
-            scratch,
-            &mut copied[..size],
-            &mut symbols[..count],
-        )
     }
 
     // Turned down: the session is as it was.
@@ -182,49 +155,36 @@ impl Session {
         }
     }
 
-    // Test 3 and the way's own, on the copy. From here on every answer leaves the scratch cleared.
-    fn read(
-        self,
-        way: u32,
-        word: &mut [u32],
-        scratch: &mut [u32],
-        copied: &mut [u32],
-        symbols: &mut [u32],
-    ) -> Arrived
-        requires { ⌜ (isWay way ≡ true) × (wayOf way .suits (self .shape) ≡ true) × Consistent self × Lent (self .shape) (now word) (now scratch) (now copied) (now symbols) ⌝ }
+    // A word that arrives, past tests 1, 18, 11 and 16: test 2, then both steps. Past test 2 every answer leaves the scratch cleared.
+    pub fn settle_word(self, way: u32, word: &mut [u32], scratch: &mut [u32]) -> Arrived
+        requires { ⌜ Admitted self way ⌝ }
         ensures { λ r. ⌜ Stepping theWays self way (now (word .entry)) (now (scratch .entry)) (now (word .exit)) (now (scratch .exit)) r ⌝ }
     {
         let shape = self.shape;
-        gtb::copy(word, copied);
-        match way::read_word(shape, way, copied) {
-            Decoded::Refused(e) => {
-                gtb::clear(scratch);
-                self.refused(e)
-            }
-            Decoded::Corrected(k) => self.open(word, scratch, copied, symbols, k),
+        let size = word_length(shape);
+        if word.len() != size {
+            return self.refused(Refusal::Length);
         }
+        if scratch.len() != scratch_length(shape) {
+            return self.refused(Refusal::Length);
+        }
+        gtb::clear(scratch);
+        let mut copied = [0u32; 961];
+        self.settle_copy(way, word, &mut copied[..size])
     }
 
-    // Tests 5 to 8, then the last step. The word is written only once the answer is known to be taken or again.
-    fn open(
-        self,
-        word: &mut [u32],
-        scratch: &mut [u32],
-        copied: &[u32],
-        symbols: &mut [u32],
-        k: u32,
-    ) -> Arrived
-        requires { ⌜ Consistent self × Lent (self .shape) (now word) (now scratch) (now copied) (now symbols) ⌝ }
-        ensures { λ r. ⌜ Deciding self (now (word .entry)) (now (scratch .entry)) (now (copied .entry)) k (now (word .exit)) (now (scratch .exit)) r ⌝ }
+    // Both steps, on a copy: the word is written only once the answer is known to be taken or again.
+    fn settle_copy(self, way: u32, word: &mut [u32], copied: &mut [u32]) -> Arrived
+        requires { ⌜ Admitted self way × (length (now copied) ≡ length (now word)) ⌝ }
+        ensures { λ r. ⌜ Deciding (wayOf way) self (now (word .entry)) (now (word .exit)) r ⌝ }
     {
-        let shape = self.shape;
-        gtb::clear(scratch);
-        gtb::gather(shape, copied, symbols);
-        match page::read_page(shape, symbols) {
-            PageRead::Refused(e) => self.refused(e),
-            PageRead::Page(number, count) => {
+        let mut symbols = [0u32; 900];
+        gtb::copy(word, copied);
+        match open(self.shape, way, copied, &mut symbols) {
+            Opening::Refused(e) => self.refused(e),
+            Opening::Page(number, count, corrected) => {
                 let end = 2 + count as usize;
-                let arrived = self.settled(number, k, &symbols[2..end]);
+                let arrived = self.settled(number, corrected, &symbols[2..end]);
                 let outcome = arrived.outcome;
                 if accepts(outcome) {
                     gtb::copy(copied, word);
@@ -235,7 +195,7 @@ impl Session {
     }
 
     // The last step, for a page whose every mark is known good: a marked one is again; else its marks are counted in a copy, which is kept only if no count passes its limit.
-    fn settled(self, number: u32, corrected: u32, marks: &[u32]) -> Arrived
+    pub fn settled(self, number: u32, corrected: u32, marks: &[u32]) -> Arrived
         requires { ⌜ Consistent self × (number < 1024) × Functions (now marks) ⌝ }
         ensures { λ r. ⌜ Settling self (Opened.Page number (now (marks .entry)) corrected) r ⌝ }
     {

@@ -16,13 +16,6 @@ fn buffer() -> [u8; 16384]
     [0; 16384]
 }
 
-// Room for the longest scratch.
-fn scratch_buffer() -> [u32; 7471]
-    ensures { λ r. ⌜ length r ≡ 7471 ⌝ }
-{
-    [0; 7471]
-}
-
 // Room for the output of a block.
 fn output_buffer() -> [u8; 491584]
     ensures { λ r. ⌜ length r ≡ 491584 ⌝ }
@@ -79,7 +72,6 @@ fn read_block(fd: i32, block: &mut [u8], left: usize, stop: bool) -> Got
 fn run(fd: i32) -> bool {
     let mut block = buffer();
     let mut line = buffer();
-    let mut scratch = scratch_buffer();
     let mut out = output_buffer();
     let mut left = capture::limit();
     let mut got = read_block(fd, &mut block, left, false);
@@ -93,7 +85,7 @@ fn run(fd: i32) -> bool {
     while written && got.count > 0 {
         let count = got.count;
         left -= count;
-        reader = capture::take_block(reader, &block[..count], &mut line, &mut scratch, &mut out);
+        reader = capture::take_block(reader, &block[..count], &mut line, &mut out);
         let at = reader.at;
         written = io::write_all(STDOUT_FILENO, &out[..at]);
         let pages = reader.tally.session.pages;

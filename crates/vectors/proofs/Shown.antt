@@ -15,7 +15,8 @@ use Rattle.gtb.specs.Positions.{infoPosition, extractOf, Encodes, isInformation
 use Rattle.gtb.proofs.Positions.{information-positions}
 use Rattle.gtb.proofs.Words.{narrow-word, test-silent}
 use Rattle.correction.specs.Error.{damaged, mended}
-use Rattle.decoder.specs.Decode.{located, alone, errorAt, restored, correctable, decodeOf}
+use Rattle.correction.specs.Reading.{changesBy, restoredBy, acceptedBy, readOf}
+use Rattle.decoder.specs.Decode.{located, alone, errorAt}
 use Rattle.page.specs.Page.{functions, zeros, pageOf, pageSymbols}
 use Rattle.vectors.specs.Bench.{among, Places, stored, Bench}
 
@@ -42,7 +43,7 @@ unfolding any all isInformation
 p2 b law = places (standard 3 3 b) law refl (7 ∷ 8 ∷ []) refl
 
 pub bench : Bench
-unfolding silentTest mended damaged tabulate decodeOf lawful regular sloped fitsSlope isOrder orders narrow correctable restored errorAt firstValue alone located all any bit sum count syndrome xorSum when lineOf slopeOf _⊕_ extractOf infoPosition pageOf pageSymbols functions zeros
+unfolding silentTest mended damaged tabulate readOf lawful regular sloped fitsSlope isOrder orders narrow acceptedBy changesBy restoredBy errorAt firstValue alone located all any bit sum count syndrome xorSum when lineOf slopeOf _⊕_ extractOf infoPosition pageOf pageSymbols functions zeros
 bench = record {
   p1 = p1;
   p2 = p2;

@@ -1,28 +1,25 @@
 -- The answers of checking, one for each way out.
 use mathlib.Core.Path.{_≡_, refl, sym, ap, _∙_, subst}
-use mathlib.Core.Bool.{Bool, true, false, _&&_}
+use mathlib.Core.Bool.{Bool, true, false, cond, _&&_}
 use mathlib.Core.List.{List}
 use Prim.Native.Nat.{ℕ, _-_}
 use lib.Dec.{eqb, leb}
 use lib.ListN.{length}
-use borrow.Author.Tests.{eqb-true}
-use Rattle.parity.proofs.Tests.{and-left, and-right, and-no-left}
+use borrow.Author.Tests.{eq-eqb, ne-eqb}
+use Rattle.parity.proofs.Tests.{and-no-left, and-no-right}
 use Rattle.gtb.specs.declared.Shape.{Shape}
 use Rattle.gtb.specs.declared.Refusal.{Refusal}
-use Rattle.gtb.specs.Shape.{lawful, shapeRefusal, wordLength}
+use Rattle.gtb.specs.declared.Status.{Status}
+use Rattle.gtb.specs.declared.Status.the-variants as status
+use Rattle.gtb.specs.Shape.{lawful, shapeRefusal, Lawful, wordLength}
 use Rattle.gtb.specs.Square.{at, narrow, silentTest}
+use Rattle.gtb.specs.Answer.{unless}
+use Rattle.gtb.specs.Lent.{wordStatus}
 use Rattle.correction.specs.Error.{weight}
 use Rattle.verify.specs.declared.Verdict.{Verdict}
 use Rattle.verify.specs.declared.Verdict.the-variants.{Yes, No, Refused}
 use Rattle.verify.specs.Verify.{difference, unmaskedTest, restores, verdictOf, Checking}
 use Rattle.verify.proofs.Meaning.{check-meets}
-
--- ---- a test over both words
-pub first-fails : {a : Bool} (b : Bool) → a ≡ false → false ≡ (a && b)
-first-fails b h = sym (and-no-left b h)
-
-pub first-passes : {a : Bool} (b : Bool) → a ≡ true → b ≡ (a && b)
-first-passes b h = sym (ap (λ (x : Bool). x && b) h)
 
 -- ---- past the tests
 and-assoc : (a b c : Bool) → (a && (b && c)) ≡ (a && b && c)
@@ -43,31 +40,37 @@ module _ (s : Shape) (w v : List ℕ) where
 checking : {s : Shape} {w v : List ℕ} {r : Verdict} → r ≡ verdictOf s w v → Checking s w v r
 checking {s} {w} {v} {r} answer = subst (λ (y : Verdict). Checking s w v y) (sym answer) (check-meets s w v)
 
--- the lengths that passed test 2
-pub sizes : (s : Shape) (w v : List ℕ) → (eqb (length w) (wordLength s) && eqb (length v) (wordLength s)) ≡ true → (length w ≡ wordLength s) × (length v ≡ wordLength s)
-sizes s w v h = (
-  eqb-true (length w) (wordLength s) (and-left _ (eqb (length v) (wordLength s)) h),
-  eqb-true (length v) (wordLength s) (and-right (eqb (length w) (wordLength s)) _ h),
-)
+pub refuses-shape : {s : Shape} {w v : List ℕ} {e : Refusal} → lawful s ≡ false → e ≡ shapeRefusal s → Checking s w v (Refused e)
+unfolding verdictOf
+refuses-shape h is = checking (rw h (ap Refused is))
 
-module _ {s : Shape} {w v : List ℕ} where
-  pub refuses-shape : {e : Refusal} → lawful s ≡ false → e ≡ shapeRefusal s → Checking s w v (Refused e)
+-- past the tests of the shape and the proposal's length: tests 2 and 3, word after word
+abbrev past : Status → Verdict → Verdict
+past status.Done r = r
+past (status.Refused e) r = Refused e
+
+by-words : (a b c : Bool) (r : Verdict) → unless (a && true) (Refused Refusal.Length) (unless (b && c) (Refused Refusal.Width) r)
+    ≡ past (unless a (status.Refused Refusal.Length) (unless b (status.Refused Refusal.Width) status.Done)) (past (unless c (status.Refused Refusal.Width) status.Done) r)
+by-words false b c r = refl
+by-words true false c r = refl
+by-words true true false r = refl
+by-words true true true r = refl
+
+module _ (s : Shape) (law : Lawful s) (w v : List ℕ) where
+  pub refuses-length : (length v ≡ wordLength s → ⊥) → Checking s w v (Refused Refusal.Length)
   unfolding verdictOf
-  refuses-shape h is = checking (rw h (ap Refused is))
+  refuses-length ne = checking (rw (law, and-no-right (eqb (length w) (wordLength s)) (ne-eqb (length v) (wordLength s) ne)))
 
-  pub refuses-length : lawful s ≡ true → (eqb (length w) (wordLength s) && eqb (length v) (wordLength s)) ≡ false → Checking s w v (Refused Refusal.Length)
-  unfolding verdictOf
-  refuses-length h e = checking (rw (h, e))
+  module _ (size : length v ≡ wordLength s) where
+    by-status : verdictOf s w v ≡ past (wordStatus s w) (past (wordStatus s v) (cond (restores s w v) Yes No))
+    unfolding verdictOf wordStatus
+    by-status = rw (law, eq-eqb (length v) (wordLength s) size) (by-words (eqb (length w) (wordLength s)) (narrow (s .b) w) (narrow (s .b) v) (cond (restores s w v) Yes No))
 
-  module _ (h : lawful s ≡ true) (e : (eqb (length w) (wordLength s) && eqb (length v) (wordLength s)) ≡ true) where
-    pub refuses-width : (narrow (s .b) w && narrow (s .b) v) ≡ false → Checking s w v (Refused Refusal.Width)
-    unfolding verdictOf
-    refuses-width n = checking (rw (h, e, n))
+    pub refuses-received : {e : Refusal} → wordStatus s w ≡ status.Refused e → Checking s w v (Refused e)
+    refuses-received h = checking (sym (by-status ∙ rw h))
 
-    pub says-yes : (narrow (s .b) w && narrow (s .b) v) ≡ true → restores s w v ≡ true → Checking s w v Yes
-    unfolding verdictOf
-    says-yes n t = checking (rw (h, e, n, t))
+    pub refuses-proposed : {e : Refusal} → wordStatus s w ≡ status.Done → wordStatus s v ≡ status.Refused e → Checking s w v (Refused e)
+    refuses-proposed h g = checking (sym (by-status ∙ rw (h, g)))
 
-    pub says-no : (narrow (s .b) w && narrow (s .b) v) ≡ true → restores s w v ≡ false → Checking s w v No
-    unfolding verdictOf
-    says-no n t = checking (rw (h, e, n, t))
+    pub decides : {b : Bool} → wordStatus s w ≡ status.Done → wordStatus s v ≡ status.Done → restores s w v ≡ b → Checking s w v (cond b Yes No)
+    decides h g t = checking (sym (by-status ∙ rw (h, g, t)))

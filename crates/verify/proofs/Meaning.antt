@@ -8,36 +8,26 @@ use native.Mathlib.Omega.{arith}
 use lib.Dec.{eqb, leb}
 use lib.ListN.{length}
 use borrow.Author.Tests.{leb-true, le-leb, eq-eqb, ne-eqb, eqb-true, eqb-false, not-true}
-use Rattle.parity.specs.Xor.{_⊕_}
 use Rattle.parity.specs.Count.{all}
-use Rattle.parity.proofs.Xors.{xors, lt-pow}
 use Rattle.parity.proofs.Tests.{either, and-left, and-right, and-both, not-of-false, all-elim, all-intro, or-cases}
-use Rattle.parity.proofs.Sums.{count-cong}
-use Rattle.parity.proofs.Lists.{is-tabulate}
 use Rattle.gtb.specs.declared.Shape.{Shape}
 use Rattle.gtb.specs.declared.Refusal.{Refusal}
 use Rattle.gtb.specs.Shape.{lawful, shapeRefusal, Lawful, wordLength}
-use Rattle.gtb.specs.Square.{lineOf, at, narrow, syndrome, Word, Silent, silentTest}
-use Rattle.gtb.proofs.Rows.{syndrome-cong}
-use Rattle.gtb.proofs.Words.{word-narrow, narrow-word, tabulate-word, test-silent}
+use Rattle.gtb.specs.Square.{lineOf, at, narrow, syndrome, Word, silentTest}
+use Rattle.gtb.proofs.Words.{word-narrow, narrow-word, test-silent, silent-test}
 use Rattle.gtb.proofs.Answers.{unless-passed}
 use Rattle.correction.specs.declared.Decoded.the-variants as decoded
-use Rattle.correction.specs.Error.{weight, damaged}
-use Rattle.correction.proofs.Errors.{damaged-at, damaged-word, errorWord, error-at}
+use Rattle.correction.specs.Error.{weight}
+use Rattle.correction.proofs.Near.{error-size}
+use Rattle.correction.proofs.Readings.{read-accepted, read-means}
 use Rattle.decoder.specs.Damage.{Unmasked, Explains}
-use Rattle.decoder.specs.Decode.{decodeOf, restored}
-use Rattle.decoder.proofs.Meaning.{explains-decode, decode-meets}
+use Rattle.decoder.specs.Decode.{clean, decodeOf, restored}
+use Rattle.decoder.proofs.Meaning.{explains-near, explains-unmasked, near-explains, clean-meant, explains-decode}
 use Rattle.verify.specs.declared.Verdict.{Verdict}
 use Rattle.verify.specs.declared.Verdict.the-variants.{Yes, No, Refused}
 use Rattle.verify.specs.Verify.{difference, unmaskedTest, restores, verdictOf, Checking}
 
--- ---- the tests and what they say
-silent-test : (s : Shape) (f : ℕ → ℕ) → Silent s f → silentTest s f ≡ true
-unfolding silentTest
-silent-test s f h =
-    all-intro (s .n) (λ t. all (s .q) (λ L. eqb (syndrome s f t L) 0))
-    (λ t lt. all-intro (s .q) (λ L. eqb (syndrome s f t L) 0) (λ L lL. eq-eqb (syndrome s f t L) 0 (h .silent t L lt lL)))
-
+-- ---- the test and what it says
 -- the symbol at j is 0, or its check of direction t sounds
 abbrev sounds : Shape → (ℕ → ℕ) → ℕ → ℕ → Bool
 sounds s e t j = eqb (e j) 0 || not (eqb (syndrome s e t (lineOf s t j)) 0)
@@ -65,67 +55,29 @@ unmasked-test s e u =
         rw z (not-of-false (ne-eqb (syndrome s e t (lineOf s t j)) 0 (u .unmasked t j lt lj (eqb-false (e j) 0 z)))))
         (either (eqb (e j) 0))
 
--- ---- two errors with the same symbols
-module _ (s : Shape) (e e′ : ℕ → ℕ) (same : (j : ℕ) → j < wordLength s → e j ≡ e′ j) where
-  unmasked-cong : Unmasked s e → Unmasked s e′
-  unmasked-cong u = record {
-    unmasked = λ t j lt lj some quiet. u .unmasked t j lt lj (λ z. some (sym (same j lj) ∙ z)) (syndrome-cong s e e′ t (lineOf s t j) same ∙ quiet);
-  }
-
-  weight-cong : weight s e ≡ weight s e′
-  unfolding weight
-  weight-cong = count-cong (wordLength s) _ _ (λ j l. ap (λ (x : ℕ). not (eqb x 0)) (same j l))
-
-back : (a b : ℕ) → a ⊕ b ⊕ a ≡ b
-back a b = simp xors
-
-forth : (a b : ℕ) → a ≡ b ⊕ (a ⊕ b)
-forth a b = simp xors
-
 -- ---- a proposal that restores explains
-module _ (s : Shape) (w v : List ℕ) (hw : Word s w) (hv : Word s v) where
-  -- the difference as a list
-  put-on : w ≡ damaged v (errorWord s (difference w v))
-  unfolding damaged
-  put-on =
-      is-tabulate (length v) (λ j. at v j ⊕ at (errorWord s (difference w v)) j) w (hw .size ∙ sym (hv .size))
-      (λ j l.
-      let lj : j < wordLength s = rw (hv .size) at l in
-      forth (at w j) (at v j) ∙ ap (λ (x : ℕ). at v j ⊕ x) (sym (error-at s w (difference w v) j lj)))
-
-  pub restores-explains : restores s w v ≡ true → Explains s w v (weight s (difference w v))
-  unfolding restores
-  restores-explains h =
+module _ (s : Shape) (w v : List ℕ) where
+  pub restores-explains : Word s w → Word s v → restores s w v ≡ true → Explains s w v (weight s (difference w v))
+  unfolding restores weight
+  restores-explains hw hv h =
       let first : (silentTest s (at v) && leb (weight s (difference w v)) (s .n - 1)) ≡ true = and-left _ (unmaskedTest s (difference w v)) h in
-      let same : (j : ℕ) → j < wordLength s → difference w v j ≡ at (errorWord s (difference w v)) j = λ j l. sym (error-at s w (difference w v) j l) in
-      record {
+      near-explains s w v (weight s (difference w v))
+      (record {
+        word = hw;
         codeword = record { word = hv; checks = test-silent s (at v) (and-left (silentTest s (at v)) _ first) };
-        error = errorWord s (difference w v);
-        word = tabulate-word s (difference w v) (λ j l. lt-pow (s .b) (at w j) (at v j) (hw .width j) (hv .width j));
-        unmasked = unmasked-cong s (difference w v) _ same (test-unmasked s (difference w v) (and-right (silentTest s (at v) && leb (weight s (difference w v)) (s .n - 1)) _ h));
-        changed = sym (weight-cong s (difference w v) _ same);
+        changed = sym (error-size s w v);
         few = leb-true (weight s (difference w v)) (s .n - 1) (and-right (silentTest s (at v)) _ first);
-        received = put-on;
-      }
+      })
+      (test-unmasked s (difference w v) (and-right (silentTest s (at v) && leb (weight s (difference w v)) (s .n - 1)) _ h))
 
--- ---- and one that explains restores
-module _ (s : Shape) (w v : List ℕ) (k : ℕ) (x : Explains s w v k) where
-  explained-word : Word s w
-  explained-word = rw (x .received) (damaged-word s v (x .error) (x .codeword .word) (x .word))
-
-  same-error : (j : ℕ) → j < wordLength s → at (x .error) j ≡ difference w v j
-  same-error j l =
-      sym
-      (ap (λ (y : ℕ). y ⊕ at v j) (ap (λ (u : List ℕ). at u j) (x .received) ∙ damaged-at s v (x .error) (x .codeword .word) (x .word) j l)
-      ∙ back (at v j) (at (x .error) j))
-
-  explains-restores : restores s w v ≡ true
-  unfolding restores
-  explains-restores =
+  -- and one that explains restores
+  explains-restores : (k : ℕ) → Explains s w v k → restores s w v ≡ true
+  unfolding restores weight
+  explains-restores k x =
+      let near = explains-near s w v k x in
       and-both
-      (and-both (silent-test s (at v) (x .codeword .checks))
-      (le-leb (weight s (difference w v)) (s .n - 1) (rw (sym (weight-cong s (at (x .error)) (difference w v) same-error) ∙ x .changed) (x .few))))
-      (unmasked-test s (difference w v) (unmasked-cong s (at (x .error)) (difference w v) same-error (x .unmasked)))
+      (and-both (silent-test s (at v) (x .codeword .checks)) (le-leb (weight s (difference w v)) (s .n - 1) (omega (arith, error-size s w v, near .changed, near .few))))
+      (unmasked-test s (difference w v) (explains-unmasked s w v k x))
 
 -- ---- the tests before
 abbrev isRefused : Verdict → Type 0
@@ -170,7 +122,7 @@ no-plain (e, h) = let z : _≡_ {A = ℕ} 0 1 = cc in omega arith
 -- a proposal that explains gets yes
 pub explains-yes : (s : Shape) → Lawful s → (w v : List ℕ) (k : ℕ) → Explains s w v k → verdictOf s w v ≡ Yes
 explains-yes s law w v k x =
-    verdict-by s w v law (explained-word s w v k x) (x .codeword .word) ∙ ap (λ (b : Bool). cond b Yes No) (explains-restores s w v k x)
+    verdict-by s w v law (explains-near s w v k x .word) (x .codeword .word) ∙ ap (λ (b : Bool). cond b Yes No) (explains-restores s w v k x)
 
 -- and one that gets yes explains
 pub record Accepted (s : Shape) (w v : List ℕ) : Type 0 where
@@ -193,15 +145,8 @@ yes-explains s w v h =
 pub yes-decodes : (s : Shape) (w v : List ℕ) → verdictOf s w v ≡ Yes → (k : ℕ) × ((decodeOf s w ≡ decoded.Corrected k) × (restored s w ≡ v))
 yes-decodes s w v h = let a = yes-explains s w v h in (a .changed, explains-decode s (a .law) w v (a .changed) (a .explains))
 
-corrected-lawful : (s : Shape) (w : List ℕ) (k : ℕ) → decodeOf s w ≡ decoded.Corrected k → Lawful s
-unfolding decodeOf
-corrected-lawful s w k h =
-    unless-passed (lawful s) (decoded.Refused (shapeRefusal s)) _ (λ e. let z : _≡_ {A = ℕ} 0 1 = cc in omega arith) h .0
-
 pub decodes-yes : (s : Shape) (w v : List ℕ) (k : ℕ) → decodeOf s w ≡ decoded.Corrected k → restored s w ≡ v → verdictOf s w v ≡ Yes
-decodes-yes s w v k h e =
-    let x : Explains s w (restored s w) k = rw h at (decode-meets s w .accepted k h) in
-    explains-yes s (corrected-lawful s w k h) w v k (rw e at x)
+decodes-yes s w v k h e = explains-yes s (read-accepted clean s w k h .lawful) w v k (rw e at (read-means clean-meant s w k h))
 
 -- ---- for every shape and two words: the answer by equation, and what it means
 pub check-meets : (s : Shape) (w v : List ℕ) → Checking s w v (verdictOf s w v)

@@ -11,29 +11,30 @@ use lib.ListN.{length, take, getD}
 use borrow.Author.Tests.{eq-eqb}
 use Rattle.gtb.specs.declared.Shape.{Shape}
 use Rattle.gtb.specs.declared.Refusal.{Refusal}
-use Rattle.gtb.specs.Shape.{lawful, shapeRefusal, Lawful, wordLength, scratchLength}
+use Rattle.gtb.specs.declared.Status.{Status}
+use Rattle.gtb.specs.declared.Status.the-variants as status
+use Rattle.gtb.specs.Shape.{Lawful, wordLength, scratchLength}
 use Rattle.gtb.specs.Square.{Codeword}
 use Rattle.gtb.specs.Positions.{extractOf}
 use Rattle.gtb.specs.Answer.{unless}
 use Rattle.correction.specs.declared.Decoded.the-variants as decoded
 use Rattle.decoder.specs.Decode.{decodeOf, restored}
-use Rattle.decoder.proofs.Meaning.{explains-decode}
+use Rattle.decoder.proofs.Meaning.{codeword-explains, explains-decode}
 use Rattle.page.specs.declared.PageRead.{PageRead}
 use Rattle.page.specs.declared.PageRead.the-variants as page
 use Rattle.page.specs.Page.{pageOf}
 use Rattle.session.specs.declared.Session.{Session}
 use Rattle.session.specs.declared.Outcome.{Outcome}
 use Rattle.session.specs.declared.Outcome.the-variants.{Taken, Again, Refused}
-use Rattle.session.specs.Session.{consistent, overflows}
-use Rattle.session.specs.Arrival.{isWay, wayOf, theWays, Opened, Page, Bad, openPage, opened, presented, outcomeOf, sessionBy, sessionAfter}
+use Rattle.session.specs.Session.{past, overflows}
+use Rattle.session.specs.Arrival.{isWay, wayOf, theWays, Opened, Page, Bad, openPage, opened, arrivalStatus, presented, outcomeOf, sessionBy, sessionAfter}
 use Rattle.session.specs.Recording.{Arrival}
 use Rattle.session.specs.Claim.{Run, answerAt}
-use Rattle.session.proofs.NoDamage.{noDamage, no-damage-word, no-damage-clean, no-damage-weight, no-damage-same}
 use Rattle.session.proofs.Alikes.{shape-kept}
 use Rattle.session.proofs.Fed.{brought, answersOf, endOf, run-answers, run-end}
 use Rattle.verify.specs.declared.Verdict.the-variants.{Yes}
 use Rattle.verify.specs.Verify.{verdictOf}
-use Rattle.verify.specs.Proposals.{Replaced, Proposed, bare, AnswersAlike}
+use Rattle.verify.specs.Proposals.{Replaced, Proposed, withoutNumber, AnswersAlike}
 use Rattle.verify.proofs.Meaning.{yes-explains}
 
 -- what was brought, without the digits changed
@@ -45,17 +46,7 @@ plain (Bad e) = Bad e
 
 -- a codeword is read as it is
 codeword-read : (s : Shape) → Lawful s → (v : List ℕ) → Codeword s v → (decodeOf s v ≡ decoded.Corrected 0) × (restored s v ≡ v)
-codeword-read s law v stored =
-    explains-decode s law v v 0
-    (record {
-      codeword = stored;
-      error = noDamage s;
-      word = no-damage-word s;
-      unmasked = no-damage-clean s;
-      changed = no-damage-weight s;
-      few = zero-le;
-      received = no-damage-same s v;
-    })
+codeword-read s law v stored = explains-decode s law v v 0 (codeword-explains s v stored)
 
 -- what a word opens to that is read as v
 abbrev openedTo : Shape → List ℕ → List ℕ → ℕ → Opened
@@ -74,6 +65,10 @@ unless-plain : (t : Bool) (e : Refusal) (o o′ : Opened) → plain o ≡ plain 
 unless-plain true e o o′ h = h
 unless-plain false e o o′ h = refl
 
+past-plain : (t : Status) (o o′ : Opened) → plain o ≡ plain o′ → plain (past t Bad o) ≡ plain (past t Bad o′)
+past-plain status.Done o o′ h = h
+past-plain (status.Refused e) o o′ h = refl
+
 opened-plain : (s : Shape) (w v scratch : List ℕ) → verdictOf s w v ≡ Yes → plain (opened theWays s 0 v scratch) ≡ plain (opened theWays s 0 w scratch)
 opened-plain s w v scratch h =
     let a = yes-explains s w v h in
@@ -87,20 +82,17 @@ opened-plain s w v scratch h =
 presented-plain : (σ : Session) (w v scratch : List ℕ) → verdictOf (σ .shape) w v ≡ Yes
     → plain (presented theWays σ 0 v scratch) ≡ plain (presented theWays σ 0 w scratch)
 unfolding presented
-presented-plain σ w v scratch h =
-    unless-plain (isWay 0) Refusal.Shape _ _
-    (unless-plain (lawful (σ .shape)) (shapeRefusal (σ .shape)) _ _
-    (unless-plain (consistent σ) Refusal.Figures _ _ (opened-plain (σ .shape) w v scratch h)))
+presented-plain σ w v scratch h = past-plain (arrivalStatus theWays σ 0) _ _ (opened-plain (σ .shape) w v scratch h)
 
 -- the digits changed decide neither the answer nor the session
 bare-answer : (again over : Bool) (number k : ℕ)
-    → bare (cond again (Again number k) (cond over (Refused Refusal.Overflow) (Taken number k)))
-    ≡ bare (cond again (Again number 0) (cond over (Refused Refusal.Overflow) (Taken number 0)))
+    → withoutNumber (cond again (Again number k) (cond over (Refused Refusal.Overflow) (Taken number k)))
+    ≡ withoutNumber (cond again (Again number 0) (cond over (Refused Refusal.Overflow) (Taken number 0)))
 bare-answer true over number k = refl
 bare-answer false true number k = refl
 bare-answer false false number k = refl
 
-outcome-plain : (σ : Session) (o : Opened) → bare (outcomeOf σ o) ≡ bare (outcomeOf σ (plain o))
+outcome-plain : (σ : Session) (o : Opened) → withoutNumber (outcomeOf σ o) ≡ withoutNumber (outcomeOf σ (plain o))
 unfolding outcomeOf
 outcome-plain σ (Page number marks k) = bare-answer (getD (σ .taken) number false) (overflows (σ .calls) marks) number k
 outcome-plain σ (Bad e) = refl
@@ -156,8 +148,8 @@ ends-alike s (a ∷ arrivals) (b ∷ others) σ e p =
         size = ap suc (ap (λ (τ : Session). length (answersOf theWays τ others)) same ∙ answers .size);
         each = λ j.
             elim j [
-              | zero ↦ outcome-plain σ (brought theWays σ b) ∙ ap (λ (o : Opened). bare (outcomeOf σ o)) one ∙ sym (outcome-plain σ (brought theWays σ a))
-              | suc i ↦ ap (λ (τ : Session). bare (answerAt (answersOf theWays τ others) i)) same ∙ answers .each i
+              | zero ↦ outcome-plain σ (brought theWays σ b) ∙ ap (λ (o : Opened). withoutNumber (outcomeOf σ o)) one ∙ sym (outcome-plain σ (brought theWays σ a))
+              | suc i ↦ ap (λ (τ : Session). withoutNumber (answerAt (answersOf theWays τ others) i)) same ∙ answers .each i
             ];
       },
     )

@@ -25,12 +25,12 @@ pub record Proposed (s : Shape) (arrivals others : List Arrival) : Type 0 where
   pub each : (j : ℕ) → j < length arrivals → (arrivalAt others j ≡ arrivalAt arrivals j) ⊎ Replaced s (arrivalAt arrivals j) (arrivalAt others j)
 
 -- an answer without the digits changed
-abbrev pub bare : Outcome → Outcome
-bare (Taken number k) = Taken number 0
-bare (Again number k) = Again number 0
-bare (Refused e) = Refused e
+abbrev pub withoutNumber : Outcome → Outcome
+withoutNumber (Taken number k) = Taken number 0
+withoutNumber (Again number k) = Again number 0
+withoutNumber (Refused e) = Refused e
 
 -- the same answers but for the digits changed
 pub record AnswersAlike (answers others : List Outcome) : Type 0 where
   pub size : length others ≡ length answers
-  pub each : (j : ℕ) → bare (answerAt others j) ≡ bare (answerAt answers j)
+  pub each : (j : ℕ) → withoutNumber (answerAt others j) ≡ withoutNumber (answerAt answers j)

@@ -17,12 +17,12 @@ ghost use Rattle.gtb.specs.Shape.{Lawful, wordLength};
 ghost use Rattle.gtb.specs.Square.{at, silentTest, Syndromes};
 ghost use Rattle.correction.specs.Error.{weight};
 ghost use Rattle.correction.specs.Shipped.{Tabled};
-ghost use Rattle.correction.specs.Steps.{Within, Cancelled};
+ghost use Rattle.correction.specs.Steps.{Gathered, Within, Cancelled};
 ghost use Rattle.verify.specs.Verify.{difference, unmaskedTest, restores};
-ghost use Rattle.verify.specs.Steps.{hushed, Measured};
+ghost use Rattle.verify.specs.Steps.{isMasked};
 
 // The differences at the first `count` places.
-fn measure(
+fn list_differences(
     received: &[u32],
     proposed: &[u32],
     places: &[usize; 8],
@@ -30,7 +30,7 @@ fn measure(
     errors: &mut [u32; 8],
 )
     requires { ⌜ (count ≤ 8) × (length (now errors) ≡ 8) × ((x : ℕ) → x < count → (at (now places) x < length (now received)) × (at (now places) x < length (now proposed))) ⌝ }
-    ensures { λ _. ⌜ Measured (now (received .entry)) (now (proposed .entry)) (now (places .entry)) count (now (errors .exit)) ⌝ }
+    ensures { λ _. ⌜ Gathered 8 (λ x. difference (now (received .entry)) (now (proposed .entry)) (at (now (places .entry)) x)) count (now (errors .exit)) ⌝ }
 {
     for x in 0..count {
         let j = places[x];
@@ -41,7 +41,7 @@ fn measure(
 // Some check on position j is silent.
 fn is_masked(shape: Shape, table: &[u8], syn: &[u32; 248], j: usize) -> bool
     requires { ⌜ Lawful shape × Tabled shape (now table) × (j < wordLength shape) ⌝ }
-    ensures { λ r. ⌜ r ≡ hushed shape (now (syn .entry)) j ⌝ }
+    ensures { λ r. ⌜ r ≡ isMasked shape (now (syn .entry)) j ⌝ }
 {
     let n = shape.n as usize;
     for t in 0..n {
@@ -61,7 +61,7 @@ fn any_masked(
     count: usize,
 ) -> bool
     requires { ⌜ Lawful shape × Tabled shape (now table) × Within shape count (now places) ⌝ }
-    ensures { λ r. ⌜ r ≡ any count (λ x. hushed shape (now (syn .entry)) (at (now (places .entry)) x)) ⌝ }
+    ensures { λ r. ⌜ r ≡ any count (λ x. isMasked shape (now (syn .entry)) (at (now (places .entry)) x)) ⌝ }
 {
     for x in 0..count {
         if is_masked(shape, table, syn, places[x]) {
@@ -78,14 +78,14 @@ fn is_clean_by(
     syn: &mut [u32; 248],
     places: &[usize; 8],
     errors: &[u32; 8],
-    count: usize,
+    number: usize,
 ) -> bool
-    requires { ⌜ Lawful shape × Tabled shape (now table) × (length (now syn) ≡ 248) × Within shape count (now places) ⌝ }
-    ensures { λ r. ⌜ Cancelled shape count (now (places .entry)) (now (errors .entry)) (now (syn .entry)) (now (syn .exit))
-        × (r ≡ not (any count (λ x. hushed shape (now (syn .exit)) (at (now (places .entry)) x)))) ⌝ }
+    requires { ⌜ Lawful shape × Tabled shape (now table) × (length (now syn) ≡ 248) × Within shape number (now places) ⌝ }
+    ensures { λ r. ⌜ Cancelled shape number (now (places .entry)) (now (errors .entry)) (now (syn .entry)) (now (syn .exit))
+        × (r ≡ not (any number (λ x. isMasked shape (now (syn .exit)) (at (now (places .entry)) x)))) ⌝ }
 {
-    cancel_by(shape, table, syn, places, errors, count);
-    !any_masked(shape, table, syn, places, count)
+    cancel_by(shape, table, syn, places, errors, number);
+    !any_masked(shape, table, syn, places, number)
 }
 
 // The difference is unmasked damage to at most n - 1 symbols; `syn` has the syndromes of a silent proposal. The check numbers of the
@@ -103,7 +103,7 @@ fn is_clean(shape: Shape, syn: &mut [u32; 248], received: &[u32], proposed: &[u3
     if n <= count {
         return false;
     }
-    measure(received, proposed, &places, count, &mut errors);
+    list_differences(received, proposed, &places, count, &mut errors);
     if is_shipped(shape) {
         let table = check_numbers();
         return is_clean_by(shape, &table, syn, &places, &errors, count);
@@ -117,11 +117,9 @@ pub fn is_restored(shape: Shape, received: &[u32], proposed: &[u32]) -> bool
     requires { ⌜ Lawful shape × (length (now received) ≡ wordLength shape) × (length (now proposed) ≡ wordLength shape) ⌝ }
     ensures { λ r. ⌜ r ≡ restores shape (now (received .entry)) (now (proposed .entry)) ⌝ }
 {
-    let q = shape.q as usize;
-    let n = shape.n as usize;
     let mut syn = [0u32; 248];
     syndrome::fill(shape, proposed, &mut syn);
-    if !is_silent(&syn, n * q) {
+    if !is_silent(shape, &syn) {
         return false;
     }
     is_clean(shape, &mut syn, received, proposed)

@@ -5,12 +5,9 @@ pub mod number;
 
 use gtb::Refusal;
 use gtb::Shape;
-ghost use mathlib.Core.Path.{_≡_};
-ghost use mathlib.Core.Bool.{_&&_};
-ghost use Prim.Native.Nat.{_≤_};
-ghost use lib.Dec.{eqb};
-ghost use lib.ListN.{length};
-ghost use Rattle.gtb.specs.Square.{narrow};
+use gtb::Status;
+use gtb::lent::word_status;
+use gtb::size::word_length;
 ghost use Rattle.verify.specs.Verify.{Checking};
 
 // The answer to a proposal.
@@ -20,40 +17,23 @@ pub enum Verdict {
     Refused(Refusal),
 }
 
-// Test 2, over both words.
-fn have_length(received: &[u32], proposed: &[u32], size: usize) -> bool
-    ensures { λ r. ⌜ r ≡ (eqb (length (now (received .entry))) size && eqb (length (now (proposed .entry))) size) ⌝ }
-{
-    if received.len() != size {
-        return false;
-    }
-    proposed.len() == size
-}
-
-// Test 3, over both words.
-fn are_narrow(received: &[u32], proposed: &[u32], b: u32) -> bool
-    requires { ⌜ b ≤ 32 ⌝ }
-    ensures { λ r. ⌜ r ≡ (narrow b (now (received .entry)) && narrow b (now (proposed .entry))) ⌝ }
-{
-    if !gtb::is_narrow(received, b) {
-        return false;
-    }
-    gtb::is_narrow(proposed, b)
-}
-
-// Tests 1, 18, 2, 3, then yes or no.
+// Tests 1, 18, 2, 3, then yes or no. The proposal's length is tested first, so that test 2 is over with both words before test 3.
 pub fn check(shape: Shape, received: &[u32], proposed: &[u32]) -> Verdict
     ensures { λ r. ⌜ Checking shape (now (received .entry)) (now (proposed .entry)) r ⌝ }
 {
     if !gtb::is_lawful(shape) {
         return Verdict::Refused(gtb::shape_refusal(shape));
     }
-    let q = shape.q as usize;
-    if !have_length(received, proposed, q * q) {
+    if proposed.len() != word_length(shape) {
         return Verdict::Refused(Refusal::Length);
     }
-    if !are_narrow(received, proposed, shape.b) {
-        return Verdict::Refused(Refusal::Width);
+    let first = word_status(shape, received);
+    if let Status::Refused(e) = first {
+        return Verdict::Refused(e);
+    }
+    let second = word_status(shape, proposed);
+    if let Status::Refused(e) = second {
+        return Verdict::Refused(e);
     }
     if compare::is_restored(shape, received, proposed) {
         return Verdict::Yes;

@@ -104,7 +104,7 @@ fn three_and_more(make: Make, shape: Shape, random: &mut Random) -> Verdict {
             let word = damaged(&random.codeword(shape), &damage(style, shape, weight, random));
             let call = call(shape, &word);
             let expected = call.on_reference();
-            if weight == 3 && expected != turned_down(&call, Refusal::NoPair) {
+            if weight == 3 && expected != turned_down(&call, Refusal::BeyondTwo) {
                 return Err(format!("{}: a codeword within two symbols, though six part them", call.text()));
             }
             expect(make, &call, &expected)?;
@@ -195,7 +195,7 @@ fn two_directions(make: Make, shape: Shape, random: &mut Random) -> Verdict {
 
 /// What the definition says: the one codeword within two symbols, or 17.
 fn expect_near(make: Make, call: &Call, codewords: &[Vec<u32>]) -> Result<(), String> {
-    expect_nearest(make, call, codewords, 2, Refusal::NoPair)
+    expect_nearest(make, call, codewords, 2, Refusal::BeyondTwo)
 }
 
 /// All 2^9 words.

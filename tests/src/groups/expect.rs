@@ -6,7 +6,7 @@ use crate::reference::brute::within;
 use crate::reference::shape::Refusal;
 use crate::shrink::{self, with_zeros, without_parts, Case};
 
-/// The call ends as expected. If the reference too says that it does not, it is made smaller before it is shown.
+/// The call ends as expected. Else it is made smaller, as long as it does not end as the reference ends it, and shown.
 pub fn expect(make: Make, call: &Call, expected: &After) -> Result<(), String> {
     let Some(found) = difference(call.entry, expected, &make(call)) else { return Ok(()) };
     shrink::expect(&Lent { make, call: call.clone() })?;

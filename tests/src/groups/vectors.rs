@@ -90,7 +90,7 @@ fn words() -> Vec<Vector> {
         unchanging("P4 as two", decode_two(B3, &P4_WORD), Ok(0)),
         vector("P5 as two", decode_two(B3, &P5_WORD), Ok(2), &[&P4_WORD]),
         vector("P6 as two", decode_two(B3, &P6_WORD), Ok(2), &[&P4_WORD]),
-        unchanging("three on a row as two", decode_two(B3, &[3, 6, 5, 2, 4, 1, 6, 5, 3]), Err(Refusal::NoPair)),
+        unchanging("three on a row as two", decode_two(B3, &[3, 6, 5, 2, 4, 1, 6, 5, 3]), Err(Refusal::BeyondTwo)),
         unchanging("P7 as two", decode_two(B8, &P7_WORD), Err(Refusal::Directions)),
         unchanging("P7 cut off, as two", decode_two(B8, &P7_WORD[..8]), Err(Refusal::Directions)),
         unchanging("P4 cut off, as two", decode_two(B3, &P4_WORD[..8]), Err(Refusal::Length)),

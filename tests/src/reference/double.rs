@@ -54,7 +54,7 @@ pub fn decode_two(shape: Shape, word: &mut [u32]) -> Result<u32, Refusal> {
         return Err(Refusal::Directions);
     }
     shape.judge_symbols(word, shape.word_len())?;
-    let error = error_of_two(shape, word).ok_or(Refusal::NoPair)?;
+    let error = error_of_two(shape, word).ok_or(Refusal::BeyondTwo)?;
     error.iter().for_each(|&(j, symbol)| word[j] ^= symbol);
     Ok(error.len() as u32)
 }

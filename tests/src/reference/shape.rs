@@ -28,7 +28,7 @@ pub enum Refusal {
     Ambiguous = 14,
     NoMajority = 15,
     Directions = 16,
-    NoPair = 17,
+    BeyondTwo = 17,
     Slope = 18,
     Bill = 19,
 }

@@ -1,5 +1,5 @@
 -- `batch::arrive_all` meets its contract: a refusal is the call's, and past all tests the run is delivered.
-use mathlib.Core.Path.{_≡_, refl, sym, _∙_}
+use mathlib.Core.Path.{refl, sym, _∙_}
 use borrow.Author.Needs.{needs}
 use Rattle.batch.proofs.Answers.{status-tested, batching-refused, batching-done}
 use Rattle.batch.proofs.arrive_all.Statement.{statement}

@@ -5,7 +5,7 @@ use Rattle.batch.proofs.arrive_one.Statement.{statement}
 use Rattle.batch.proofs.arrive_one.Tie as tie
 
 settle-word-requires : tie.Need-settle-word-requires
-settle-word-requires c κs = let ready = c .before .before .before .before .before .pre in (ready .known, ready .lawful, ready .consistent)
+settle-word-requires c κs = c .before .before .before .before .before .pre .admitted
 
 returns : tie.Need-returns
 returns c =

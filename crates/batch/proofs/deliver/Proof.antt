@@ -1,6 +1,6 @@
 -- `batch::deliver` meets its contract. The loop's invariant: after i words there is a run of the first i arrivals, and all that is lent is as they leave it.
 use mathlib.Core.Path.{_≡_, sym, ap, _∙_}
-use Prim.Native.Nat.{ℕ, _-_, _/_, _≤_, _<_}
+use Prim.Native.Nat.{ℕ, _-_, _/_, _≤_}
 use native.Mathlib.Omega.{arith}
 use lib.ListN.{length}
 use borrow.Author.Needs.{needs}
@@ -26,40 +26,25 @@ start c = c .before .before .before .before
 
 -- the run is whole
 whole : (c : tie.At-loop Inv-loop μ-loop) → Whole (start (asked c) .args .session .shape) (start (asked c) .args .words .now)
-whole c = let s = start (asked c) in run-words (s .args .session .shape) (s .pre .lawful) (s .args .words .now) (s .pre .run)
+whole c = let s = start (asked c) in run-words (s .args .session .shape) (s .pre .admitted .lawful) (s .args .words .now) (s .pre .run)
 
 -- so it has room for word i
 place : (c : tie.In-loop Inv-loop μ-loop) → Place (start (asked (c .before)) .args .words .now) (asked (c .before) .word-length .result) (c .before .loop .i)
 place c =
     let s = start (asked (c .before)) in
-    run-place (s .args .session .shape) (s .pre .lawful) (s .args .words .now) (whole (c .before)) _ _ (asked (c .before) .word-length .ensures) (c .loop-test .taken)
+    run-place (s .args .session .shape) (s .pre .admitted .lawful) (s .args .words .now) (whole (c .before)) _ _ (asked (c .before) .word-length .ensures) (c .loop-test .taken)
 
 -- the place where the turn began
 abbrev turning : tie.After-slice-known7 Inv-loop μ-loop → tie.In-loop Inv-loop μ-loop
 turning c = c .before .before .before .before .before .before .before .before .before .before
 
 div-count : tie.Need-div-count Inv-loop μ-loop
-div-count c = rw (c .word-length .ensures) (word-positive _ (start c .pre .lawful))
+div-count c = rw (c .word-length .ensures) (word-positive _ (start c .pre .admitted .lawful))
 
 loop-holds : tie.Need-loop-holds Inv-loop μ-loop
 loop-holds c =
     let cleared = c .before .before in
     (search needs, delivering-begins (start (cleared .before .before) .pre) (cleared .clear .ensures))
-
-mul-from : tie.Need-mul-from Inv-loop μ-loop
-mul-from c = let p = place c in omega arith
-
-add-end : tie.Need-add-end Inv-loop μ-loop
-add-end c = let p = place c in omega arith
-
-mul-at : tie.Need-mul-at Inv-loop μ-loop
-mul-at c = let p = place c in omega arith
-
-add-next : tie.Need-add-next Inv-loop μ-loop
-add-next c = let p = place c in omega arith
-
-mul-arrive-one : tie.Need-mul-arrive-one Inv-loop μ-loop
-mul-arrive-one c = let p = place c in omega arith
 
 part-arrive-one-end : tie.Need-part-arrive-one-end Inv-loop μ-loop
 part-arrive-one-end c = let p = place c in omega (arith, c .before .loop .inv .1 .size)
@@ -78,9 +63,6 @@ arrive-one-requires c κs =
     let t = c .before .before .before in
     let w = asked (t .before) in
     turn-ready (t .before .loop .inv .1) (w .word-length .ensures) (place t) (start w .pre)
-
-add-i : tie.Need-add-i Inv-loop μ-loop
-add-i c = let p = place (turning c) in omega arith
 
 loop-again : tie.Need-loop-again Inv-loop μ-loop
 loop-again c =
@@ -104,4 +86,4 @@ returns : tie.Need-returns Inv-loop μ-loop
 returns c = delivering-ends (all c) (rw (all c) (whole (c .before) .some)) (c .before .loop .inv .1)
 
 pub deliver-spec : {M : Type 1} → statement M
-deliver-spec = tie.close (tie.spec Inv-loop μ-loop (λ c κs. search needs) div-count (λ c κs. search needs) loop-holds mul-from add-end mul-at add-next mul-arrive-one (λ c. search needs) (λ c. search needs) part-arrive-one-end mul-arrive-one-2 (λ c. search needs) (λ c. search needs) part-arrive-one-end-2 arrive-one-requires add-i (λ c. search needs) loop-again (λ c. search needs) (λ c. search needs) same-length-3 returns)
+deliver-spec = tie.close (tie.spec Inv-loop μ-loop (λ c κs. search needs) div-count (λ c κs. search needs) loop-holds (λ c. let p = place c in omega arith) (λ c. let p = place c in omega arith) (λ c. let p = place c in omega arith) (λ c. let p = place c in omega arith) (λ c. let p = place c in omega arith) (λ c. search needs) (λ c. search needs) part-arrive-one-end mul-arrive-one-2 (λ c. search needs) (λ c. search needs) part-arrive-one-end-2 arrive-one-requires (λ c. let p = place (turning c) in omega arith) (λ c. search needs) loop-again (λ c. search needs) (λ c. search needs) same-length-3 returns)

@@ -1,5 +1,5 @@
 -- `batch::is_run` meets its contract: no rest, and 1 to 64 words.
-use mathlib.Core.Path.{_≡_, sym, ap, _∙_}
+use mathlib.Core.Path.{sym, ap, _∙_}
 use Prim.Native.Nat.{ℕ, _/_, _%_, _<_}
 use lib.Dec.{leb}
 use lib.ListN.{length}
@@ -19,16 +19,10 @@ long c = length (start c .args .words .now)
 positive : (c : tie.After-word-length) → 0 < c .word-length .result
 positive c = rw (c .word-length .ensures) (word-positive _ (start c .pre))
 
-rem-if1 : tie.Need-rem-if1
-rem-if1 c = positive c
-
 returns : tie.Need-returns
 returns c =
     run-ragged _ (start (c .before) .pre) _
     (λ e. c .if1 .taken (ap (λ (n : ℕ). long (c .before) % n) (c .before .word-length .ensures) ∙ e))
-
-div-count : tie.Need-div-count
-div-count c = positive (c .before)
 
 returns-2 : tie.Need-returns-2
 returns-2 c =
@@ -43,4 +37,4 @@ returns-3 c =
     ∙ run-upto _ (start asked .pre) _ (ap (λ (n : ℕ). long asked % n) (sym is) ∙ c .before .if1 .left) (λ e. c .if2 .left (ap (λ (n : ℕ). long asked / n) is ∙ e))
 
 pub is-run-spec : {M : Type 1} → statement M
-is-run-spec = tie.close (tie.spec (λ c κs. search needs) rem-if1 returns div-count returns-2 returns-3)
+is-run-spec = tie.close (tie.spec (λ c κs. search needs) (λ c. positive c) returns (λ c. positive (c .before)) returns-2 returns-3)

@@ -1,6 +1,6 @@
 -- `capture::begin` meets its contract.
 use mathlib.Core.Path.{refl}
-use Rattle.capture.specs.Feed.{start}
+use Rattle.judge.specs.Judge.{start}
 use borrow.Author.Needs.{needs}
 use Rattle.capture.proofs.begin.Statement.{statement}
 use Rattle.capture.proofs.begin.Tie as tie

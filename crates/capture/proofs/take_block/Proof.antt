@@ -1,81 +1,87 @@
 -- `capture::take_block` meets its contract. The loop's invariant: what is left of the block leads to the same end (`Reading`), and the memory of the look has its lengths.
-use mathlib.Core.Path.{_≡_, refl}
-use Prim.Native.Nat.{ℕ, _-_}
+use mathlib.Core.Path.{_≡_, refl, _∙_}
+use Prim.Native.Nat.{ℕ, _+_, _-_, _<_, _≤_}
 use native.Mathlib.Nat.{le-refl}
 use native.Mathlib.Omega.{arith}
 use lib.ListN.{length, length-replicate}
-use Rattle.capture.proofs.Frames.{Reading, reading-begins, block-taken, reading-on}
-use Rattle.capture.proofs.Glances.{line-known}
 use borrow.Author.Needs.{needs}
+use Rattle.capture.proofs.Frames.{end-few, line-ended, Reading, reading-begins, block-taken, reading-on}
+use Rattle.judge.proofs.Looks.{foretold-known}
 use Rattle.capture.proofs.take_block.Statement.{statement}
 use Rattle.capture.proofs.take_block.Tie as tie
 
 abbrev Inv-loop : tie.InvT-loop
-Inv-loop block line₀ scratch₀ out₀ reader₀ values₀ symbols₀ from₀ line scratch out reader values symbols from =
-    Reading reader₀ line₀ block line scratch out reader from × (length values ≡ 1024) × (length symbols ≡ 900)
+Inv-loop block line₀ out₀ reader₀ values₀ symbols₀ from₀ line out reader values symbols from =
+    Reading reader₀ line₀ block line out reader from × (length values ≡ 1024) × (length symbols ≡ 900)
 
 abbrev μ-loop : tie.MeasureT-loop
-μ-loop block line₀ scratch₀ out₀ reader₀ values₀ symbols₀ from₀ line scratch out reader values symbols from = length block - from
+μ-loop block line₀ out₀ reader₀ values₀ symbols₀ from₀ line out reader values symbols from = length block - from
+
+-- the place where the turn began
+abbrev turn : tie.Else1 Inv-loop μ-loop → tie.At-loop Inv-loop μ-loop
+turn c = c .before .before .before .before .before .before .before
+
+-- there is a newline
+more : (c : tie.Else1 Inv-loop μ-loop) → c .before .before .before .before .before .before .find-newline .result < length (turn c .before .before .before .before .args .block .now)
+more c = omega (arith, c .before .before .before .before .before .before .find-newline .ensures .high, c .if1 .left)
+
+-- its line's answer has room
+room : (c : tie.Else1 Inv-loop μ-loop) → turn c .loop .reader .at + 40 ≤ length (turn c .loop .out)
+room c =
+    let inv = turn c .loop .inv .0 in
+    omega (arith, inv .few, inv .out-size, c .before .before .before .before .before .before .find-newline .ensures .low, more c, turn c .before .before .before .before .pre .1)
 
 loop-holds : tie.Need-loop-holds Inv-loop μ-loop
 loop-holds c =
-    let asked = c .before .before .before .before .pre in
-    (reading-begins _ _ _ _ _ (asked .0) refl (asked .2) (asked .3) (asked .4), length-replicate {A = ℕ} 1024 0, length-replicate {A = ℕ} 900 0)
-
-find-newline-requires : tie.Need-find-newline-requires Inv-loop μ-loop
-find-newline-requires c κs = (c .loop .inv .0 .low, le-refl _)
+    let asked = c .before .before .before .pre in
+    (reading-begins _ _ _ _ (asked .0) refl (asked .2) (asked .3), length-replicate {A = ℕ} 1024 0, length-replicate {A = ℕ} 900 0)
 
 append-requires : tie.Need-append-requires Inv-loop μ-loop
 append-requires c κs = c .before .before .before .loop .inv .0 .buffer-size
 
 returns : tie.Need-returns Inv-loop μ-loop
 returns c =
-    let taken = block-taken (c .before .before .before .before .before .before .before .loop .inv .0) (c .before .before .before .before .before .before .find-newline .ensures) (c .before .before .before .append .ensures) (c .if1 .taken) (c .before .before .before .before .before .before .before .before .before .before .before .before .pre .1) in
-    record { fed = taken .fed; figures = taken .figures; within = taken .within; line = taken .line; room = taken .room; size = taken .size }
-
-glance-requires : tie.Need-glance-requires Inv-loop μ-loop
-glance-requires c κs = (c .before .before .before .before .before .before .before .before .before .append .ensures .size, c .before .before .before .before .before .before .before .before .before .before .before .before .before .loop .inv .1, c .before .before .before .before .before .before .before .before .before .before .before .before .before .loop .inv .2)
+    let taken = block-taken (c .before .before .before .before .before .before .before .loop .inv .0) (c .before .before .before .before .before .before .find-newline .ensures) (c .before .before .before .append .ensures) (c .if1 .taken) (c .before .before .before .before .before .before .before .before .before .before .before .pre .1) in
+    record { fed = taken .fed; figures = taken .figures; within = taken .within; line = taken .line; size = taken .size }
 
 add-from : tie.Need-add-from Inv-loop μ-loop
-add-from c = omega (arith, c .before .before .before .before .before .before .before .before .before .before .before .before .before .before .find-newline .ensures .high, c .before .before .before .before .before .before .before .before .before .before .before .before .before .before .before .before .before .before .before .before .pre .1)
+add-from c = omega (arith, more c, c .before .before .before .before .before .before .before .before .before .before .before .pre .1)
 
-put-answer-requires : tie.Need-put-answer-requires Inv-loop μ-loop
-put-answer-requires c κs =
-    let inv = c .before .before .before .before .before .before .before .before .before .before .before .before .before .before .before .before .before .before .before .loop .inv .0 in
-    let found = c .before .before .before .before .before .before .before .before .before .before .before .before .before .before .before .before .before .before .find-newline .ensures in
-    omega (arith, inv .few, inv .out-size, found .low, found .high, c .before .before .before .before .before .before .before .before .before .before .before .before .before .before .before .before .before .before .before .before .before .before .before .before .pre .1, c .before .before .before .before .before .before .before .before .before .before .before .before .if1 .left)
+glance-requires : tie.Need-glance-requires Inv-loop μ-loop
+glance-requires c κs =
+    let at = c .before .before .before .before .before .before .before in
+    (refl, at .before .before .before .append .ensures .size, end-few (c .before .before .before .before .before .before .line-end .ensures), turn at .loop .inv .1, turn at .loop .inv .2)
+
+put-line-requires : tie.Need-put-line-requires Inv-loop μ-loop
+put-line-requires c κs = room (c .before .before .before .before .before .before .before .before .before .before .before .before .before)
 
 loop-less : tie.Need-loop-less Inv-loop μ-loop
-loop-less c =
-    let found = c .before .before .before .before .before .before .before .before .before .before .before .before .before .before .before .before .before .before .before .before .before .find-newline .ensures in
-    omega (arith, found .low, found .high, c .before .before .before .before .before .before .before .before .before .before .before .before .before .before .before .if1 .left)
+loop-less c = omega (arith, more (c .before .before .before .before .before .before .before .before .before .before .before .before .before .before .before .before), c .before .before .before .before .before .before .before .before .before .before .before .before .before .before .before .before .before .before .before .before .before .before .find-newline .ensures .low)
 
 -- the outcome was known
 loop-again : tie.Need-loop-again Inv-loop μ-loop
 loop-again c =
-    let inv = c .before .before .before .before .before .before .before .before .before .before .before .before .before .before .before .before .before .before .before .before .before .before .loop .inv .0 in
-    let found = c .before .before .before .before .before .before .before .before .before .before .before .before .before .before .before .before .before .before .before .before .before .find-newline .ensures in
-    let glance = c .before .before .before .before .before .before .before .before .glance .ensures in
-    let put = c .before .before .put-answer .ensures in
-    (reading-on inv found (c .before .before .before .before .before .before .before .before .before .before .before .before .before .before .before .before .before .before .append .ensures) (omega (arith, found .high, c .before .before .before .before .before .before .before .before .before .before .before .before .before .before .before .if1 .left)) (line-known _ (inv .figures) glance (c .before .before .before .before .before .seen .given .1) (inv .scratch-size) (put .0) (put .1)), glance .values, glance .symbols)
+    let at = c .before .before .before .before .before .before .before .before .before .before .before .before .before .before .before .before in
+    let inv = turn at .loop .inv in
+    let glance = c .before .before .before .before .before .before .before .before .glance in
+    let put = c .before .before .put-line .ensures in
+    (reading-on (inv .0) (at .before .before .before .before .before .before .find-newline .ensures) (at .before .before .before .append .ensures) (more at) (c .before .before .before .before .before .before .before .before .before .before .before .before .before .before .before .line-end .ensures) (line-ended _ (inv .0 .figures) (foretold-known (glance .ensures .0) (c .before .before .before .before .before .seen .given .1)) (put .0) (put .1)), glance .ensures .1, glance .kept .1 .1 .1 .1 .1 .0 ∙ inv .2)
 
 end-line-requires : tie.Need-end-line-requires Inv-loop μ-loop
 end-line-requires c κs =
-    let inv = c .before .before .before .before .before .before .before .before .before .before .before .before .before .before .before .before .before .before .before .before .loop .inv .0 in
-    let found = c .before .before .before .before .before .before .before .before .before .before .before .before .before .before .before .before .before .before .before .find-newline .ensures in
-    (inv .figures, c .before .before .before .before .before .before .before .before .before .before .before .before .before .before .before .before .append .ensures .size, inv .scratch-size, omega (arith, inv .few, inv .out-size, found .low, found .high, c .before .before .before .before .before .before .before .before .before .before .before .before .before .before .before .before .before .before .before .before .before .before .before .before .before .pre .1, c .before .before .before .before .before .before .before .before .before .before .before .before .before .if1 .left))
+    let at = c .before .before .before .before .before .before .before .before .before .before .before .before .before in
+    (turn at .loop .inv .0 .figures, at .before .before .before .append .ensures .size, end-few (c .before .before .before .before .before .before .before .before .before .before .before .before .line-end .ensures), c .before .before .before .before .before .glance .ensures .0, room at)
 
 loop-less-2 : tie.Need-loop-less-2 Inv-loop μ-loop
-loop-less-2 c =
-    let found = c .before .before .before .before .before .before .before .before .before .before .before .before .before .before .before .before .before .before .before .before .before .before .before .before .find-newline .ensures in
-    omega (arith, found .low, found .high, c .before .before .before .before .before .before .before .before .before .before .before .before .before .before .before .before .before .before .if1 .left)
+loop-less-2 c = omega (arith, more (c .before .before .before .before .before .before .before .before .before .before .before .before .before .before .before .before), c .before .before .before .before .before .before .before .before .before .before .before .before .before .before .before .before .before .before .before .before .before .before .find-newline .ensures .low)
 
 -- the line was judged
 loop-again-2 : tie.Need-loop-again-2 Inv-loop μ-loop
 loop-again-2 c =
-    let found = c .before .before .before .before .before .before .before .before .before .before .before .before .before .before .before .before .before .before .before .before .before .before .before .before .find-newline .ensures in
-    let glance = c .before .before .before .before .before .before .before .before .before .before .before .glance .ensures in
-    (reading-on (c .before .before .before .before .before .before .before .before .before .before .before .before .before .before .before .before .before .before .before .before .before .before .before .before .before .loop .inv .0) found (c .before .before .before .before .before .before .before .before .before .before .before .before .before .before .before .before .before .before .before .before .before .append .ensures) (omega (arith, found .high, c .before .before .before .before .before .before .before .before .before .before .before .before .before .before .before .before .before .before .if1 .left)) (c .before .before .before .before .end-line .ensures), glance .values, glance .symbols)
+    let at = c .before .before .before .before .before .before .before .before .before .before .before .before .before .before .before .before in
+    let inv = turn at .loop .inv in
+    let glance = c .before .before .before .before .before .before .before .before .glance in
+    (reading-on (inv .0) (at .before .before .before .before .before .before .find-newline .ensures) (at .before .before .before .append .ensures) (more at) (c .before .before .before .before .before .before .before .before .before .before .before .before .before .before .before .line-end .ensures) (c .before .before .end-line .ensures), glance .ensures .1, glance .kept .1 .1 .1 .1 .1 .0 ∙ inv .2)
 
 pub take-block-spec : {M : Type 1} → statement M
-take-block-spec = tie.close (tie.spec Inv-loop μ-loop loop-holds find-newline-requires (λ c. search needs) (λ c. search needs) (λ c. search needs) append-requires (λ c. search needs) (λ c. search needs) (λ c. search needs) returns (λ c. search needs) glance-requires add-from (λ c. search needs) put-answer-requires loop-less loop-again (λ c. search needs) end-line-requires loop-less-2 loop-again-2)
+take-block-spec = tie.close (tie.spec Inv-loop μ-loop loop-holds (λ c κs. (c .loop .inv .0 .low, le-refl _)) (λ c. search needs) (λ c. search needs) (λ c. search needs) append-requires (λ c. search needs) (λ c. search needs) returns add-from (λ c κs. search needs) (λ c. search needs) glance-requires (λ c. search needs) put-line-requires loop-less loop-again (λ c. search needs) end-line-requires loop-less-2 loop-again-2)

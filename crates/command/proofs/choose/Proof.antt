@@ -6,14 +6,8 @@ use borrow.Author.Needs.{needs}
 use Rattle.command.proofs.choose.Statement.{statement}
 use Rattle.command.proofs.choose.Tie as tie
 
-returns : tie.Need-returns
-returns c = sym (choice-none _ _ (omega arith))
-
-returns-2 : tie.Need-returns-2
-returns-2 c = sym (choice-many _ _ (omega arith))
-
 returns-3 : tie.Need-returns-3
 returns-3 c = rw (choice-one (c .before .before .before .before .args .count) (c .before .before .before .before .args .first .now) (omega arith) (omega arith)) (c .meaning .ensures)
 
 pub choose-spec : {M : Type 1} → statement M
-choose-spec = tie.close (tie.spec returns returns-2 (λ c κs. search needs) returns-3)
+choose-spec = tie.close (tie.spec (λ c. sym (choice-none _ _ (omega arith))) (λ c. sym (choice-many _ _ (omega arith))) (λ c κs. search needs) returns-3)

@@ -16,13 +16,25 @@ returns-3 : tie.Need-returns-3
 returns-3 c = sym (means-short _ (sym (tested-same _ _ _ (c .before .before .before .before .before .before .before .same .ensures)) ∙ c .before .before .before .before .before .before .if1 .left) (sym (tested-same _ _ _ (c .before .before .before .before .same2 .ensures)) ∙ c .before .before .before .if2 .left) (sym (tested-same _ _ _ (c .before .same3 .ensures)) ∙ c .if3 .taken))
 
 returns-4 : tie.Need-returns-4
-returns-4 c = sym (means-file _ (sym (tested-same _ _ _ (c .before .before .before .before .before .before .before .before .same .ensures)) ∙ c .before .before .before .before .before .before .before .if1 .left) (sym (tested-same _ _ _ (c .before .before .before .before .before .same2 .ensures)) ∙ c .before .before .before .before .if2 .left) (sym (tested-same _ _ _ (c .before .before .same3 .ensures)) ∙ c .before .if3 .left) (empty-dash (c .before .before .before .before .before .before .before .before .before .before .before .args .argument .now) (c .if4 .taken)))
+returns-4 c =
+    let third = c .before in
+    let second = third .before .before .before in
+    let first = second .before .before .before in
+    sym (means-file _ (sym (tested-same _ _ _ (first .before .same .ensures)) ∙ first .if1 .left) (sym (tested-same _ _ _ (second .before .same2 .ensures)) ∙ second .if2 .left) (sym (tested-same _ _ _ (third .before .same3 .ensures)) ∙ third .if3 .left) (empty-dash (first .before .before .before .before .args .argument .now) (c .if4 .taken)))
 
 returns-5 : tie.Need-returns-5
-returns-5 c = sym (means-unknown _ (sym (tested-same _ _ _ (c .before .before .before .before .before .before .before .before .before .before .same .ensures)) ∙ c .before .before .before .before .before .before .before .before .before .if1 .left) (sym (tested-same _ _ _ (c .before .before .before .before .before .before .before .same2 .ensures)) ∙ c .before .before .before .before .before .before .if2 .left) (sym (tested-same _ _ _ (c .before .before .before .before .same3 .ensures)) ∙ c .before .before .before .if3 .left) (c .if5 .taken))
+returns-5 c =
+    let third = c .before .before .before in
+    let second = third .before .before .before in
+    let first = second .before .before .before in
+    sym (means-unknown _ (sym (tested-same _ _ _ (first .before .same .ensures)) ∙ first .if1 .left) (sym (tested-same _ _ _ (second .before .same2 .ensures)) ∙ second .if2 .left) (sym (tested-same _ _ _ (third .before .same3 .ensures)) ∙ third .if3 .left) (c .if5 .taken))
 
 returns-6 : tie.Need-returns-6
-returns-6 c = sym (means-file _ (sym (tested-same _ _ _ (c .before .before .before .before .before .before .before .before .before .before .same .ensures)) ∙ c .before .before .before .before .before .before .before .before .before .if1 .left) (sym (tested-same _ _ _ (c .before .before .before .before .before .before .before .same2 .ensures)) ∙ c .before .before .before .before .before .before .if2 .left) (sym (tested-same _ _ _ (c .before .before .before .before .same3 .ensures)) ∙ c .before .before .before .if3 .left) (c .if5 .left))
+returns-6 c =
+    let third = c .before .before .before in
+    let second = third .before .before .before in
+    let first = second .before .before .before in
+    sym (means-file _ (sym (tested-same _ _ _ (first .before .same .ensures)) ∙ first .if1 .left) (sym (tested-same _ _ _ (second .before .same2 .ensures)) ∙ second .if2 .left) (sym (tested-same _ _ _ (third .before .same3 .ensures)) ∙ third .if3 .left) (c .if5 .left))
 
 pub meaning-spec : {M : Type 1} → statement M
 meaning-spec = tie.close (tie.spec (λ c. search needs) (λ c κs. search needs) returns (λ c. search needs) (λ c κs. search needs) returns-2 (λ c. search needs) (λ c κs. search needs) returns-3 returns-4 (λ c. search needs) returns-5 returns-6)

@@ -1,4 +1,4 @@
--- `correction::apply` meets its contract. The loop's invariant is the contract for the first x places.
+-- `correction::apply` meets its contract. The loop's invariant: the errors at the first x places are XORed onto the word.
 use mathlib.Core.Path.{refl}
 use Prim.Native.Nat.{_-_, _<_, _≤_}
 use Rattle.parity.specs.Xor.{_⊕_}
@@ -9,6 +9,7 @@ use native.Mathlib.Omega.{arith}
 use lib.ListN.{length}
 use borrow.Author.Needs.{needs}
 use Rattle.correction.proofs.Toggles.{toggled-none, toggled-more}
+use Rattle.correction.proofs.Tables.{mends}
 use Rattle.correction.proofs.apply.Statement.{statement}
 use Rattle.correction.proofs.apply.Tie as tie
 
@@ -18,28 +19,13 @@ Inv-loop word₀ places errors count x₀ word x = (x ≤ count) × Toggled x (a
 abbrev μ-loop : tie.MeasureT-loop
 μ-loop word₀ places errors count x₀ word x = count - x
 
-loop-holds : tie.Need-loop-holds Inv-loop μ-loop
-loop-holds c = (search needs, toggled-none _ _ _)
-
 -- the lists have 8 entries
 inside : (c : tie.In-loop Inv-loop μ-loop) → c .before .loop .x < 8
-inside c = omega (arith, c .before .before .pre .0)
-
-mul-j : tie.Need-mul-j Inv-loop μ-loop
-mul-j c = omega (arith, inside c)
-
-element-copy-out-j : tie.Need-element-copy-out-j Inv-loop μ-loop
-element-copy-out-j c = inside c
-
-mul-word : tie.Need-mul-word Inv-loop μ-loop
-mul-word c = omega (arith, inside (c .before))
-
-element-copy-out-word : tie.Need-element-copy-out-word Inv-loop μ-loop
-element-copy-out-word c = inside (c .before)
+inside c = omega (arith, c .before .before .pre .1 .few)
 
 -- the place is in the word
 place : (c : tie.In-loop Inv-loop μ-loop) → at (c .before .before .args .places .now) (c .before .loop .x) < length (c .before .before .args .word .now)
-place c = c .before .before .pre .1 (c .before .loop .x) (c .loop-test .taken)
+place c = rw (c .before .before .pre .0) (c .before .before .pre .1 .below (c .before .loop .x) (c .loop-test .taken))
 
 mul-word-2 : tie.Need-mul-word-2 Inv-loop μ-loop
 mul-word-2 c = omega (arith, place (c .before .before), c .before .before .before .before .good .0 .1)
@@ -55,11 +41,8 @@ unfolding _⊕_
 loop-again c =
     (search needs, toggled-more (at (c .before .before .before .before .before .args .places .now) (c .before .before .before .before .loop .x)) (c .before .before .before .before .loop .inv .1) refl (place (c .before .before .before)))
 
-same-length : tie.Need-same-length Inv-loop μ-loop
-same-length c = c .before .loop .inv .1 .size
-
 returns : tie.Need-returns Inv-loop μ-loop
-returns c = rw (le-antisymm (c .before .loop .inv .0) (c .loop-test .left)) at (c .before .loop .inv .1)
+returns c = record { mends = λ error l. mends l (c .before .before .pre .0) (rw (le-antisymm (c .before .loop .inv .0) (c .loop-test .left)) at (c .before .loop .inv .1)) }
 
 pub apply-spec : {M : Type 1} → statement M
-apply-spec = tie.close (tie.spec Inv-loop μ-loop loop-holds mul-j element-copy-out-j mul-word element-copy-out-word mul-word-2 slice-read-word slice-write-word (λ c. search needs) (λ c. search needs) loop-again same-length returns)
+apply-spec = tie.close (tie.spec Inv-loop μ-loop (λ c. (search needs, toggled-none _ _ _)) (λ c. omega (arith, inside c)) (λ c. inside c) (λ c. omega (arith, inside (c .before))) (λ c. inside (c .before)) mul-word-2 slice-read-word slice-write-word (λ c. search needs) (λ c. search needs) loop-again (λ c. c .before .loop .inv .1 .size) returns)

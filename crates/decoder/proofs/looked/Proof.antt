@@ -4,8 +4,8 @@ use borrow.Author.Needs.{needs}
 use borrow.Author.Tests.{not-true, not-false}
 use lib.ListN.{length}
 use Rattle.gtb.specs.Shape.{Lawful, wordLength}
-use Rattle.gtb.proofs.Bounds.{bounds}
-use Rattle.decoder.proofs.Judging.{looking-shape, looking-word, looking-list, looking-width, looking-done}
+use Rattle.gtb.proofs.Words.{status-word}
+use Rattle.decoder.proofs.Judging.{looking-shape, looking-list, looking-word, looking-done}
 use Rattle.decoder.proofs.looked.Statement.{statement}
 use Rattle.decoder.proofs.looked.Tie as tie
 
@@ -16,40 +16,27 @@ returns c = looking-shape (sym (c .before .before .is-lawful .ensures) ∙ not-t
 shape-passes : (c : tie.Else1) → Lawful (c .before .before .before .before .args .shape)
 shape-passes c = sym (c .before .is-lawful .ensures) ∙ not-false _ (c .if1 .left)
 
-word-length-requires : tie.Need-word-length-requires
-word-length-requires c κs = shape-passes c
-
 returns-2 : tie.Need-returns-2
-returns-2 c = looking-word (shape-passes (c .before .before)) (λ e. c .if2 .taken (e ∙ sym (c .before .word-length .ensures)))
+returns-2 c = looking-list (shape-passes (c .before .before)) (λ e. c .if2 .taken (e ∙ sym (c .before .word-length .ensures)))
 
--- the lengths are right
-word-size : (c : tie.Else2) → length (c .before .before .before .before .before .before .args .word .now) ≡ wordLength (c .before .before .before .before .before .before .args .shape)
-word-size c = c .if2 .left ∙ c .before .word-length .ensures
+-- the list has a place for each symbol
+list-size : (c : tie.Else2) → length (c .before .before .before .before .before .before .args .looked .now) ≡ wordLength (c .before .before .before .before .before .before .args .shape)
+list-size c = c .if2 .left ∙ c .before .word-length .ensures
 
-list-size : (c : tie.Else3) → length (c .before .before .before .before .before .before .before .args .looked .now) ≡ wordLength (c .before .before .before .before .before .before .before .args .shape)
-list-size c = c .if3 .left ∙ c .before .before .word-length .ensures
+note-requires : tie.Need-note-requires
+note-requires c κs =
+    let e = c .before .before .before .before in
+    (shape-passes (e .before .before), status-word _ _ (sym (c .before .before .before .word-status .ensures) ∙ c .before .enum-told .given .1) .size, list-size e)
 
 returns-3 : tie.Need-returns-3
 returns-3 c =
-    looking-list (shape-passes (c .before .before .before)) (word-size (c .before)) (λ e. c .if3 .taken (e ∙ sym (c .before .before .word-length .ensures)))
-
-is-narrow-requires : tie.Need-is-narrow-requires
-is-narrow-requires c κs = bounds _ (shape-passes (c .before .before .before)) .b32
+    let e = c .before .before .before .before in
+    looking-word _ (shape-passes (e .before .before)) _ _ (list-size e) (sym (c .before .tested .given .1) ∙ c .before .before .before .word-status .ensures)
 
 returns-4 : tie.Need-returns-4
 returns-4 c =
-    let e = c .before .before in
-    looking-width (shape-passes (e .before .before .before)) (word-size (e .before)) (list-size e) (sym (c .before .is-narrow .ensures) ∙ not-true _ (c .if4 .taken))
-
-note-requires : tie.Need-note-requires
-note-requires c κs = let e = c .before .before .before in (shape-passes (e .before .before .before), word-size (e .before), list-size e)
-
-returns-5 : tie.Need-returns-5
-returns-5 c =
-    let n = c .before .before .before .before in
-    let e = n .before .before in
-    looking-done (shape-passes (e .before .before .before)) (word-size (e .before)) (list-size e) (sym (n .before .is-narrow .ensures) ∙ not-false _ (n .if4 .left))
-    (c .before .before .note .ensures)
+    let e = c .before .before .before .before .before .before .before in
+    looking-done _ (shape-passes (e .before .before)) _ _ (list-size e) (sym (c .before .before .before .before .enum-told .given .1) ∙ c .before .before .before .before .before .before .word-status .ensures) (c .before .before .note .ensures)
 
 pub looked-spec : {M : Type 1} → statement M
-looked-spec = tie.close (tie.spec (λ c κs. search needs) (λ c κs. search needs) returns word-length-requires returns-2 returns-3 is-narrow-requires returns-4 note-requires (λ c. search needs) returns-5)
+looked-spec = tie.close (tie.spec (λ c κs. search needs) (λ c κs. search needs) returns (λ c κs. shape-passes c) returns-2 (λ c κs. shape-passes (c .before .before)) (λ c. search needs) (λ c. search needs) note-requires returns-3 (λ c. search needs) returns-4)

@@ -3,13 +3,13 @@ use Prim.Native.Nat.{_-_, _≤_}
 use native.Mathlib.Nat.{le-antisymm}
 use borrow.Author.Needs.{needs}
 use Rattle.parity.specs.Xor.{_⊕_}
-use Rattle.elimination.specs.Steps.{Added}
+use Rattle.elimination.specs.Steps.{RunAdded}
 use Rattle.elimination.proofs.Cells.{added-none, added-more}
 use Rattle.elimination.proofs.add_run.Statement.{statement}
 use Rattle.elimination.proofs.add_run.Tie as tie
 
 abbrev Inv-loop : tie.InvT-loop
-Inv-loop scratch₀ to from first last w₀ scratch w = (first ≤ w) × (w ≤ last) × Added to from first w scratch₀ scratch
+Inv-loop scratch₀ to from first last w₀ scratch w = (first ≤ w) × (w ≤ last) × RunAdded to from first w scratch₀ scratch
 
 abbrev μ-loop : tie.MeasureT-loop
 μ-loop scratch₀ to from first last w₀ scratch w = last - w

@@ -2,7 +2,7 @@
 use Prim.Native.Nat.{_-_, _<_, _≤_}
 use native.Mathlib.Nat.{le-antisymm}
 use borrow.Author.Needs.{needs}
-use Rattle.elimination.specs.Steps.{cleared, Joined}
+use Rattle.elimination.specs.Steps.{cleared, RowsCombined}
 use Rattle.elimination.specs.Packed.{cellOf}
 use Rattle.elimination.proofs.Columns.{cleared-none, cleared-own, cleared-more, room-same, row-of, zeros-joined}
 use Rattle.elimination.proofs.clear.Statement.{statement}
@@ -10,7 +10,7 @@ use Rattle.elimination.proofs.clear.Tie as tie
 
 abbrev Inv-loop : tie.InvT-loop
 Inv-loop rows width columns scratch₀ values₀ k u first i₀ scratch values i =
-    (i ≤ rows) × (u < i) × Joined width columns u (cleared i (cellOf width scratch₀) k u) scratch₀ values₀ scratch values
+    (i ≤ rows) × (u < i) × RowsCombined width columns u (cleared i (cellOf width scratch₀) k u) scratch₀ values₀ scratch values
 
 abbrev μ-loop : tie.MeasureT-loop
 μ-loop rows width columns scratch₀ values₀ k u first i₀ scratch values i = rows - i
@@ -36,11 +36,8 @@ loop-again c =
     let t = c .before .before .before .before .before in
     (search needs, search needs, cleared-more (t .before .loop .i) (t .before .before .before .pre .1) (t .before .loop .inv .1) (t .before .loop .inv .2) (c .before .before .clear-row .ensures))
 
-same-length : tie.Need-same-length Inv-loop μ-loop
-same-length c = c .before .loop .inv .2 .size
-
 returns : tie.Need-returns Inv-loop μ-loop
 returns c = rw (le-antisymm (c .before .loop .inv .0) (c .loop-test .left)) at (c .before .loop .inv .2)
 
 pub clear-spec : {M : Type 1} → statement M
-clear-spec = tie.close (tie.spec Inv-loop μ-loop (λ c. search needs) loop-holds clear-row-requires (λ c. search needs) (λ c. search needs) loop-again same-length returns)
+clear-spec = tie.close (tie.spec Inv-loop μ-loop (λ c. search needs) loop-holds clear-row-requires (λ c. search needs) (λ c. search needs) loop-again (λ c. c .before .loop .inv .2 .size) returns)

@@ -18,10 +18,11 @@ returns-2 c =
 substitute-requires : tie.Need-substitute-requires
 substitute-requires c κs =
     let e = c .before .before in
-    let p = e .before .before .before .before .before .before .reduce .ensures in
-    let columns = e .before .before .before .before .before .before .before .before .before .before .args .columns in
-    let all : columns ≤ e .before .before .before .before .before .before .reduce .result = omega (arith, e .if2 .left) in (
-      room-first (room-same (e .before .before .before .before .before .before .before .before .before .before .pre) (p .size) (p .sizes)) (omega (arith, p .reduced .fits)),
+    let r = e .before .before .before .before .before .before in
+    let p = r .reduce .ensures in
+    let start = r .before .before .before .before in
+    let all : start .args .columns ≤ r .reduce .result = omega (arith, e .if2 .left) in (
+      room-first (room-same (start .pre) (p .size) (p .sizes)) (omega (arith, p .reduced .fits)),
       λ i j l. p .reduced .unit (omega (arith, p .reduced .few)) i j (omega arith),
     )
 

@@ -27,18 +27,6 @@ inside c =
     let a = c .before .before .before .args in
     omega (arith, row-before (a .width) (c .before .loop .i) (a .rows) (c .loop-test .taken))
 
-mul-has : tie.Need-mul-has Inv-loop μ-loop
-mul-has c = omega (arith, inside c)
-
-add-has : tie.Need-add-has Inv-loop μ-loop
-add-has c = omega (arith, inside c)
-
-mul-has-2 : tie.Need-mul-has-2 Inv-loop μ-loop
-mul-has-2 c = omega (arith, inside c)
-
-shared-slice-read-has : tie.Need-shared-slice-read-has Inv-loop μ-loop
-shared-slice-read-has c = inside (c .before)
-
 returns : tie.Need-returns Inv-loop μ-loop
 unfolding cellOf
 returns c =
@@ -62,4 +50,4 @@ returns-2 c =
     record { least = search needs; most = search needs; fails = λ j lj. l .inv .3 j (omega arith); passes = λ t. absurd (omega arith) }
 
 pub find-spec : {M : Type 1} → statement M
-find-spec = tie.close (tie.spec Inv-loop μ-loop loop-holds mul-has add-has mul-has-2 shared-slice-read-has (λ c κs. search needs) returns (λ c. search needs) (λ c. search needs) loop-again returns-2)
+find-spec = tie.close (tie.spec Inv-loop μ-loop loop-holds (λ c. omega (arith, inside c)) (λ c. omega (arith, inside c)) (λ c. omega (arith, inside c)) (λ c. inside (c .before)) (λ c κs. search needs) returns (λ c. search needs) (λ c. search needs) loop-again returns-2)

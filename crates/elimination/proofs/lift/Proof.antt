@@ -12,13 +12,13 @@ use Rattle.elimination.proofs.lift.Tie as tie
 returns : tie.Need-returns
 returns c =
     let a = c .before .before .args in
-    joined-none (lifted (a .u) (a .i)) (c .before .before .pre .0 .sizes) (λ t. and-no-right (eqb t (a .u)) (not-of-true (eq-eqb (a .i) (a .u) (c .if1 .taken))))
+    joined-none (lifted (a .u) (a .from)) (c .before .before .pre .0 .sizes) (λ t. and-no-right (eqb t (a .u)) (not-of-true (eq-eqb (a .from) (a .u) (c .if1 .taken))))
 
 returns-2 : tie.Need-returns-2
 returns-2 c =
     let e = c .before .before .before .before .before in
     let a = e .before .before .args in
-    joined-as (lifted (a .u) (a .i)) (c .before .before .add-row .ensures) (single-yes (λ t. not (eqb (a .i) (a .u))) (a .u) (not-of-false (ne-eqb (a .i) (a .u) (e .if1 .left))))
+    joined-as (lifted (a .u) (a .from)) (c .before .before .add-row .ensures) (single-yes (λ t. not (eqb (a .from) (a .u))) (a .u) (not-of-false (ne-eqb (a .from) (a .u) (e .if1 .left))))
 
 pub lift-spec : {M : Type 1} → statement M
 lift-spec = tie.close (tie.spec returns (λ c κs. search needs) (λ c. search needs) returns-2)

@@ -24,11 +24,8 @@ column-requires c κs =
 loop-again : tie.Need-loop-again Inv-loop μ-loop
 loop-again c = (search needs, progress-more (c .before .before .before .before .before .before .loop .inv .1) (c .before .before .column .ensures))
 
-same-length : tie.Need-same-length Inv-loop μ-loop
-same-length c = c .before .loop .inv .1 .size
-
 returns : tie.Need-returns Inv-loop μ-loop
 returns c = rw (le-antisymm (c .before .loop .inv .0) (c .loop-test .left)) at (c .before .loop .inv .1)
 
 pub reduce-spec : {M : Type 1} → statement M
-reduce-spec = tie.close (tie.spec Inv-loop μ-loop loop-holds column-requires (λ c. search needs) (λ c. search needs) loop-again same-length returns)
+reduce-spec = tie.close (tie.spec Inv-loop μ-loop loop-holds column-requires (λ c. search needs) (λ c. search needs) loop-again (λ c. c .before .loop .inv .1 .size) returns)

@@ -28,18 +28,6 @@ inside c =
     let s = c .before .before .before .before in
     omega (arith, row-before (s .args .width) (c .before .loop .i) (s .args .k) (c .loop-test .taken), s .pre .1, s .pre .2)
 
-mul-share : tie.Need-mul-share Inv-loop μ-loop
-mul-share c = omega (arith, inside c)
-
-add-share : tie.Need-add-share Inv-loop μ-loop
-add-share c = omega (arith, inside c)
-
-mul-share-2 : tie.Need-mul-share-2 Inv-loop μ-loop
-mul-share-2 c = omega (arith, inside c)
-
-shared-slice-read-share : tie.Need-shared-slice-read-share Inv-loop μ-loop
-shared-slice-read-share c = inside (c .before)
-
 loop-again : tie.Need-loop-again Inv-loop μ-loop
 unfolding _⊕_ cellOf
 loop-again c =
@@ -50,4 +38,4 @@ returns : tie.Need-returns Inv-loop μ-loop
 returns c = rw (le-antisymm (c .before .loop .inv .0) (c .loop-test .left)) at (c .before .loop .inv .1)
 
 pub take-off-spec : {M : Type 1} → statement M
-take-off-spec = tie.close (tie.spec Inv-loop μ-loop (λ c. search needs) (λ c. search needs) loop-holds mul-share add-share mul-share-2 shared-slice-read-share (λ c κs. search needs) (λ c. search needs) (λ c. search needs) (λ c. search needs) (λ c. search needs) (λ c. search needs) loop-again returns)
+take-off-spec = tie.close (tie.spec Inv-loop μ-loop (λ c. search needs) (λ c. search needs) loop-holds (λ c. omega (arith, inside c)) (λ c. omega (arith, inside c)) (λ c. omega (arith, inside c)) (λ c. inside (c .before)) (λ c κs. search needs) (λ c. search needs) (λ c. search needs) (λ c. search needs) (λ c. search needs) (λ c. search needs) loop-again returns)

@@ -29,17 +29,17 @@ mul-clear-run c =
 clear-run-requires : tie.Need-clear-run-requires Inv-loop μ-loop
 clear-run-requires c κs = let f = upper-fits _ (c .before .before .before .before .before .pre .0) in omega arith
 
+abbrev entry : tie.After-slice-known2 Inv-loop μ-loop → tie.Start Inv-loop μ-loop
+entry c = c .before .before .before .before .before .before .before .before
+
 sub-rows : tie.Need-sub-rows Inv-loop μ-loop
-sub-rows c = let b = bounds _ (c .before .before .before .before .before .before .before .before .pre .0) in omega arith
+sub-rows c = let b = bounds _ (entry c .pre .0) in omega arith
 
 sub-p : tie.Need-sub-p Inv-loop μ-loop
-sub-p c = let b = bounds _ (c .before .before .before .before .before .before .before .before .pre .0) in omega arith
-
-loop-holds : tie.Need-loop-holds Inv-loop μ-loop
-loop-holds c = (search needs, placing-none _ _ _ _ _)
+sub-p c = let b = bounds _ (entry c .pre .0) in omega arith
 
 abbrev start : tie.In-loop Inv-loop μ-loop → tie.Start Inv-loop μ-loop
-start c = c .before .before .before .before .before .before .before .before .before .before
+start c = entry (c .before .before)
 
 -- row i lies in the word, and its symbols in the symbols
 fit : (c : tie.In-loop Inv-loop μ-loop) → Lower (start c .args .shape) (c .before .loop .i)
@@ -75,10 +75,10 @@ same-length c = c .before .loop .inv .1 .size ∙ c .before .before .before .bef
 returns : tie.Need-returns Inv-loop μ-loop
 returns c =
     let l = c .before .loop in
-    let st = c .before .before .before .before .before .before .before .before .before .before in
+    let st = entry (c .before .before) in
     let b = bounds _ (st .pre .0) in
     let e : l .i ≡ st .args .shape .q - (st .args .shape .n - 1) = omega arith in
     placing-all _ (st .pre .0) _ _ _ _ (st .pre .1) (c .before .before .before .before .clear-run .ensures) (rw e at (l .inv .1))
 
 pub place-spec : {M : Type 1} → statement M
-place-spec = tie.close (tie.spec Inv-loop μ-loop (λ c. search needs) (λ c. search needs) sub-m mul-clear-run clear-run-requires sub-rows sub-p loop-holds (λ c. search needs) mul-place-row mul-place-row-2 place-row-requires (λ c. search needs) (λ c. search needs) loop-again same-length returns)
+place-spec = tie.close (tie.spec Inv-loop μ-loop (λ c. search needs) (λ c. search needs) sub-m mul-clear-run clear-run-requires sub-rows sub-p (λ c. (search needs, placing-none _ _ _ _ _)) (λ c. search needs) mul-place-row mul-place-row-2 place-row-requires (λ c. search needs) (λ c. search needs) loop-again same-length returns)

@@ -22,9 +22,6 @@ loop-holds c = (omega arith, omega arith, omega arith, up-to-none (λ k. getD (c
 abbrev head : tie.After-cost Inv-loop μ-loop → tie.At-loop Inv-loop μ-loop
 head c = c .before .before .before .before
 
-sub-if1 : tie.Need-sub-if1 Inv-loop μ-loop
-sub-if1 c = omega (arith, head c .loop .inv .2)
-
 -- the sum with the cost at hand
 more : (c : tie.After-cost Inv-loop μ-loop)
     → head c .loop .sum + c .cost .result ≡ upTo (λ k. getD (head c .before .before .args .calls .now) k 0) (head c .before .before .args .prices .now) (head c .loop .f + 1)
@@ -52,4 +49,4 @@ returns-2 c =
     ∙ sym (whole (λ k. getD (at .before .before .args .calls .now) k 0) (at .before .before .args .prices .now) (omega (arith, at .loop .inv .1, c .before .loop-test .left)) (at .loop .inv .3) (at .loop .inv .2))
 
 pub priced-spec : {M : Type 1} → statement M
-priced-spec = tie.close (tie.spec Inv-loop μ-loop loop-holds (λ c. search needs) (λ c. search needs) (λ c. search needs) (λ c. search needs) (λ c κs. search needs) sub-if1 returns add-sum (λ c. search needs) (λ c. search needs) loop-again (λ c κs. search needs) returns-2)
+priced-spec = tie.close (tie.spec Inv-loop μ-loop loop-holds (λ c. search needs) (λ c. search needs) (λ c. search needs) (λ c. search needs) (λ c κs. search needs) (λ c. omega (arith, head c .loop .inv .2)) returns add-sum (λ c. search needs) (λ c. search needs) loop-again (λ c κs. search needs) returns-2)

@@ -15,14 +15,8 @@ returns c = refuses-shape (sym (c .before .before .is-lawful .ensures) ∙ not-t
 shape-passes : (c : tie.Else1) → Lawful (c .before .before .before .before .before .args .shape)
 shape-passes c = sym (c .before .is-lawful .ensures) ∙ not-false _ (c .if1 .left)
 
-word-length-requires : tie.Need-word-length-requires
-word-length-requires c κs = shape-passes c
-
 returns-2 : tie.Need-returns-2
 returns-2 c = refuses-word _ (shape-passes (c .before .before)) _ _ _ (λ e. c .if2 .taken (e ∙ sym (c .before .word-length .ensures)))
-
-scratch-length-requires : tie.Need-scratch-length-requires
-scratch-length-requires c κs = shape-passes (c .before .before)
 
 returns-3 : tie.Need-returns-3
 returns-3 c = refuses-scratch _ (shape-passes (c .before .before .before .before)) _ _ _ (λ e. c .if3 .taken (e ∙ sym (c .before .scratch-length .ensures)))
@@ -44,4 +38,4 @@ returns-4 c =
     (j .judge .ensures) (rw size at (d .clear .ensures))
 
 pub fill-spec : {M : Type 1} → statement M
-fill-spec = tie.close (tie.spec (λ c κs. search needs) (λ c κs. search needs) returns word-length-requires returns-2 scratch-length-requires returns-3 judge-requires (λ c κs. search needs) (λ c. search needs) (λ c. search needs) returns-4)
+fill-spec = tie.close (tie.spec (λ c κs. search needs) (λ c κs. search needs) returns (λ c κs. shape-passes c) returns-2 (λ c κs. shape-passes (c .before .before)) returns-3 judge-requires (λ c κs. search needs) (λ c. search needs) (λ c. search needs) returns-4)

@@ -45,9 +45,6 @@ Inv-loop symbols b top fits₀ i₀ i-end fits i =
 abbrev μ-loop : tie.MeasureT-loop
 μ-loop symbols b top fits₀ i₀ i-end fits i = length symbols - i
 
-shl-top : tie.Need-shl-top Inv-loop μ-loop
-shl-top c = omega arith
-
 sub-top : tie.Need-sub-top Inv-loop μ-loop
 sub-top c = omega (arith, bound-pos (c .args .b) (c .pre))
 
@@ -80,4 +77,4 @@ returns c =
     c .before .loop .inv .3 ∙ ap (λ (m : ℕ). all m (λ j. ltb (at (a .symbols .now) j) (2 ^ a .b))) (omega arith)
 
 pub are-below-spec : {M : Type 1} → statement M
-are-below-spec = tie.close (tie.spec Inv-loop μ-loop shl-top sub-top cast-top loop-holds (λ c. search needs) (λ c. search needs) (λ c. search needs) (λ c. search needs) loop-again returns)
+are-below-spec = tie.close (tie.spec Inv-loop μ-loop (λ c. omega arith) sub-top cast-top loop-holds (λ c. search needs) (λ c. search needs) (λ c. search needs) (λ c. search needs) loop-again returns)

@@ -17,9 +17,6 @@ Inv-loop values₀ i₀ i-end values i =
 abbrev μ-loop : tie.MeasureT-loop
 μ-loop values₀ i₀ i-end values i = length values₀ - i
 
-slice-write-values : tie.Need-slice-write-values Inv-loop μ-loop
-slice-write-values c = omega arith
-
 loop-again : tie.Need-loop-again Inv-loop μ-loop
 loop-again c = (
   search needs,
@@ -27,9 +24,6 @@ loop-again c = (
   simp length-set (omega arith),
   rw (c .before .loop .inv .3) (fill-more (c .before .loop .i) 0 (c .before .before .args .values .now) (omega arith)),
 )
-
-same-length : tie.Need-same-length Inv-loop μ-loop
-same-length c = omega arith
 
 returns : tie.Need-returns Inv-loop μ-loop
 returns c =
@@ -39,4 +33,4 @@ returns c =
     c .before .loop .inv .3 ∙ rw (h, drop-length, append-nil)
 
 pub clear-spec : {M : Type 1} → statement M
-clear-spec = tie.close (tie.spec Inv-loop μ-loop (λ c. search needs) (λ c. search needs) slice-write-values (λ c. search needs) (λ c. search needs) loop-again same-length returns)
+clear-spec = tie.close (tie.spec Inv-loop μ-loop (λ c. search needs) (λ c. search needs) (λ c. omega arith) (λ c. search needs) (λ c. search needs) loop-again (λ c. omega arith) returns)

@@ -17,9 +17,6 @@ Inv-loop slopes q t slope u₀ u = (u ≤ t) × (slope ≡ getD slopes t 0) × (
 abbrev μ-loop : tie.MeasureT-loop
 μ-loop slopes q t slope u₀ u = t - u
 
-returns : tie.Need-returns Inv-loop μ-loop
-returns c = slope-large _ _ (c .if1 .taken)
-
 loop-holds : tie.Need-loop-holds Inv-loop μ-loop
 loop-holds c = (search needs, refl, search needs, all-zero _)
 
@@ -33,4 +30,4 @@ returns-3 : tie.Need-returns-3 Inv-loop μ-loop
 returns-3 c = let l = c .before .loop in slope-fits _ _ (rw (l .inv .1) at (l .inv .2)) (rw (le-antisymm (l .inv .0) (c .loop-test .left)) at (l .inv .3))
 
 pub fits-slope-spec : {M : Type 1} → statement M
-fits-slope-spec = tie.close (tie.spec Inv-loop μ-loop (λ c. search needs) (λ c. search needs) returns loop-holds (λ c. search needs) (λ c. search needs) returns-2 (λ c. search needs) (λ c. search needs) loop-again returns-3)
+fits-slope-spec = tie.close (tie.spec Inv-loop μ-loop (λ c. search needs) (λ c. search needs) (λ c. slope-large _ _ (c .if1 .taken)) loop-holds (λ c. search needs) (λ c. search needs) returns-2 (λ c. search needs) (λ c. search needs) loop-again returns-3)

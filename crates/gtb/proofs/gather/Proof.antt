@@ -24,9 +24,6 @@ sub-rows c = let b = bounds _ (c .before .before .before .before .pre .0) in ome
 sub-p : tie.Need-sub-p Inv-loop μ-loop
 sub-p c = let b = bounds _ (c .before .before .before .before .pre .0) in omega arith
 
-loop-holds : tie.Need-loop-holds Inv-loop μ-loop
-loop-holds c = (search needs, gathered-none _ _ _ _ _)
-
 abbrev start : tie.In-loop Inv-loop μ-loop → tie.Start Inv-loop μ-loop
 start c = c .before .before .before .before .before .before
 
@@ -63,9 +60,6 @@ loop-again c =
     let turn = c .before .before in
     (omega arith, gathered-more _ _ _ _ _ _ _ _ (turn .before .before .before .loop .inv .1) (turn .copy-run .ensures))
 
-same-length : tie.Need-same-length Inv-loop μ-loop
-same-length c = c .before .loop .inv .1 .size
-
 returns : tie.Need-returns Inv-loop μ-loop
 returns c =
     let l = c .before .loop in
@@ -75,4 +69,4 @@ returns c =
     gathered-all _ _ _ _ (st .pre .2) (rw e at (l .inv .1))
 
 pub gather-spec : {M : Type 1} → statement M
-gather-spec = tie.close (tie.spec Inv-loop μ-loop (λ c. search needs) (λ c. search needs) sub-m sub-rows sub-p loop-holds mul-copy-run (λ c. search needs) mul-copy-run-2 add-copy-run-2 copy-run-requires (λ c. search needs) (λ c. search needs) loop-again same-length returns)
+gather-spec = tie.close (tie.spec Inv-loop μ-loop (λ c. search needs) (λ c. search needs) sub-m sub-rows sub-p (λ c. (search needs, gathered-none _ _ _ _ _)) mul-copy-run (λ c. search needs) mul-copy-run-2 add-copy-run-2 copy-run-requires (λ c. search needs) (λ c. search needs) loop-again (λ c. c .before .loop .inv .1 .size) returns)

@@ -27,20 +27,11 @@ returns c =
     c .refused .ensures ∙ ap (λ (e : Refusal). 2 ^ 31 + refusalNumber e) (c .before .shape-refusal .ensures)
     ∙ sym (ap readNumber (page-shape _ _ (sym (c .before .before .before .is-lawful .ensures) ∙ not-true _ (c .before .before .if1 .taken))))
 
-info-length-requires : tie.Need-info-length-requires
-info-length-requires c κs = legal c
-
 mul-if2 : tie.Need-mul-if2
 mul-if2 c = omega (arith, c .info-length .ensures, sizes _ (legal (c .before)) .info)
 
 returns-2 : tie.Need-returns-2
 returns-2 c = c .refused2 .ensures ∙ sym (ap readNumber (page-length _ _ (legal (c .before .before .before)) (λ e. c .before .if2 .taken (rw (c .before .before .info-length .ensures) e))))
-
-array-borrow-prefix-loaded : tie.Need-array-borrow-prefix-loaded
-array-borrow-prefix-loaded c = room c
-
-slice-aggregate-read-page : tie.Need-slice-aggregate-read-page
-slice-aggregate-read-page c = sym (length-take-le _ _ (room (c .before)))
 
 read-page-requires : tie.Need-read-page-requires
 read-page-requires c κs = (
@@ -50,4 +41,4 @@ read-page-requires c κs = (
 )
 
 pub shaftglimmer-read-page-spec : {M : Type 1} → statement M
-shaftglimmer-read-page-spec = tie.close (tie.spec (λ c κs. search needs) (λ c κs. search needs) (λ c κs. search needs) returns info-length-requires mul-if2 (λ c κs. search needs) returns-2 array-borrow-prefix-loaded slice-aggregate-read-page read-page-requires (λ c. search needs))
+shaftglimmer-read-page-spec = tie.close (tie.spec (λ c κs. search needs) (λ c κs. search needs) (λ c κs. search needs) returns (λ c κs. legal c) mul-if2 (λ c κs. search needs) returns-2 (λ c. room c) (λ c. sym (length-take-le _ _ (room (c .before)))) read-page-requires (λ c. search needs))

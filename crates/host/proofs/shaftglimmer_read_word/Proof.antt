@@ -26,17 +26,11 @@ returns c =
     word-refused _ _ (word-shape _ _ (sym (c .before .before .before .is-lawful .ensures) ∙ not-true _ (c .before .before .if1 .taken)))
     (c .refused .ensures ∙ ap (λ (e : Refusal). 2 ^ 31 + refusalNumber e) (c .before .shape-refusal .ensures))
 
-word-length-requires : tie.Need-word-length-requires
-word-length-requires c κs = legal c
-
 mul-if2 : tie.Need-mul-if2
 mul-if2 c = omega (arith, c .word-length .ensures, sizes _ (legal (c .before)) .word)
 
 returns-2 : tie.Need-returns-2
 returns-2 c = word-refused _ _ (word-length _ _ (legal (c .before .before .before)) (λ e. c .before .if2 .taken (rw (c .before .before .word-length .ensures) e))) (c .refused2 .ensures)
-
-array-borrow-prefix-symbols : tie.Need-array-borrow-prefix-symbols
-array-borrow-prefix-symbols c = room (c .before)
 
 slice-aggregate-read-word : tie.Need-slice-aggregate-read-word
 slice-aggregate-read-word c = sym (length-take-le _ _ (room (c .before .before)))
@@ -52,4 +46,4 @@ returns-3 : tie.Need-returns-3
 returns-3 c = c .before .before .before .read-word .ensures
 
 pub shaftglimmer-read-word-spec : {M : Type 1} → statement M
-shaftglimmer-read-word-spec = tie.close (tie.spec (λ c κs. search needs) (λ c κs. search needs) (λ c κs. search needs) returns word-length-requires mul-if2 (λ c κs. search needs) returns-2 array-borrow-prefix-symbols slice-aggregate-read-word read-word-requires (λ c. search needs) returns-3)
+shaftglimmer-read-word-spec = tie.close (tie.spec (λ c κs. search needs) (λ c κs. search needs) (λ c κs. search needs) returns (λ c κs. legal c) mul-if2 (λ c κs. search needs) returns-2 (λ c. room (c .before)) slice-aggregate-read-word read-word-requires (λ c. search needs) returns-3)

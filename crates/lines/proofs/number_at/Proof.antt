@@ -28,12 +28,6 @@ abbrev μ-loop : tie.MeasureT-loop
 returns : tie.Need-returns Inv-loop μ-loop
 returns c = without-digit _ _ (end-other (now (c .before .args .line)) (c .before .args .from) (c .if1 .taken))
 
-returns-2 : tie.Need-returns-2 Inv-loop μ-loop
-returns-2 c = without-digit _ _ (λ l h. omega arith)
-
-returns-3 : tie.Need-returns-3 Inv-loop μ-loop
-returns-3 c = without-digit _ _ (λ l h. omega arith)
-
 loop-holds : tie.Need-loop-holds Inv-loop μ-loop
 loop-holds c =
     let start = c .before .before .before .before in
@@ -80,4 +74,4 @@ returns-8 c =
     (end-other (now (c .before .before .before .before .before .before .args .line)) (c .before .loop .at) (omega arith))
 
 pub number-at-spec : {M : Type 1} → statement M
-number-at-spec = tie.close (tie.spec Inv-loop μ-loop returns (λ c. search needs) returns-2 returns-3 (λ c. search needs) (λ c. search needs) loop-holds (λ c. search needs) (λ c. search needs) returns-4 (λ c. search needs) returns-5 returns-6 (λ c. search needs) (λ c. search needs) (λ c. search needs) returns-7 (λ c. search needs) (λ c. search needs) loop-again (λ c. search needs) returns-8)
+number-at-spec = tie.close (tie.spec Inv-loop μ-loop returns (λ c. search needs) (λ c. without-digit _ _ (λ l h. omega arith)) (λ c. without-digit _ _ (λ l h. omega arith)) (λ c. search needs) (λ c. search needs) loop-holds (λ c. search needs) (λ c. search needs) returns-4 (λ c. search needs) returns-5 returns-6 (λ c. search needs) (λ c. search needs) (λ c. search needs) returns-7 (λ c. search needs) (λ c. search needs) loop-again (λ c. search needs) returns-8)

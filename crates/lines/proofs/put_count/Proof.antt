@@ -16,17 +16,22 @@ ten-digits c = (at-most-ten (c .args .function) (omega arith), at-most-ten (c .a
 put-byte-requires : tie.Need-put-byte-requires
 put-byte-requires c κs = omega (arith, ten-digits (c .before .before .before .before .before .before))
 
+abbrev start : tie.After-put-byte → tie.Start
+start c = c .before .before .before .before .before .before .before
+
 put-number-requires-2 : tie.Need-put-number-requires-2
-put-number-requires-2 c κs = omega (arith, ten-digits (c .before .before .before .before .before .before .before .before .before .before))
+put-number-requires-2 c κs = omega (arith, ten-digits (start (c .before .before .before)))
 
 put-byte-requires-2 : tie.Need-put-byte-requires-2
-put-byte-requires-2 c κs = omega (arith, ten-digits (c .before .before .before .before .before .before .before .before .before .before .before .before .before .before))
+put-byte-requires-2 c κs = omega (arith, ten-digits (start (c .before .before .before .before .before .before .before)))
 
 returns : tie.Need-returns
 returns c =
-    let start = c .before .before .before .before .before .before .before .before .before .before .before .before .before .before .before .before .before in
-    put-pair (start .args .function) (start .args .calls) (omega (arith, start)) (omega (arith, start)) (start .pre)
-    (c .before .before .before .before .before .before .before .before .before .before .before .before .before .before .put-number .ensures) (c .before .before .before .before .before .before .before .before .before .before .put-byte .ensures) (c .before .before .before .before .before .before .put-number2 .ensures) (c .before .before .put-byte2 .ensures)
+    let third = c .before .before .before .before .before .before in
+    let second = third .before .before .before .before in
+    let s = start second in
+    put-pair (s .args .function) (s .args .calls) (omega (arith, s)) (omega (arith, s)) (s .pre)
+    (second .before .before .before .before .put-number .ensures) (second .put-byte .ensures) (third .put-number2 .ensures) (c .before .before .put-byte2 .ensures)
 
 pub put-count-spec : {M : Type 1} → statement M
 put-count-spec = tie.close (tie.spec (λ c κs. search needs) put-byte-requires put-number-requires-2 put-byte-requires-2 (λ c. search needs) returns)

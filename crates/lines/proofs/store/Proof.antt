@@ -6,8 +6,5 @@ use lib.Seq.{set-out}
 use Rattle.lines.proofs.store.Statement.{statement}
 use Rattle.lines.proofs.store.Tie as tie
 
-returns-2 : tie.Need-returns-2
-returns-2 c = sym (set-out _ _ _ (omega arith))
-
 pub store-spec : {M : Type 1} → statement M
-store-spec = tie.close (tie.spec (λ c. search needs) (λ c. search needs) (λ c. search needs) returns-2)
+store-spec = tie.close (tie.spec (λ c. search needs) (λ c. search needs) (λ c. search needs) (λ c. sym (set-out _ _ _ (omega arith))))

@@ -5,8 +5,5 @@ use Rattle.page.proofs.Entries.{narrow-zeros}
 use Rattle.page.proofs.are_zeros.Statement.{statement}
 use Rattle.page.proofs.are_zeros.Tie as tie
 
-returns : tie.Need-returns
-returns c = c .is-narrow .ensures ∙ narrow-zeros _
-
 pub are-zeros-spec : {M : Type 1} → statement M
-are-zeros-spec = tie.close (tie.spec (λ c κs. search needs) returns)
+are-zeros-spec = tie.close (tie.spec (λ c κs. search needs) (λ c. c .is-narrow .ensures ∙ narrow-zeros _))

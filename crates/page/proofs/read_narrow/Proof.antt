@@ -43,10 +43,13 @@ returns-2 c =
       many-marks (s .args .shape) (getD (s .args .symbols .now) 1 0) (length (s .args .symbols .now)) (s .pre .0 .size) (c .if2 .taken),
     )
 
+abbrev start : tie.After-are-functions → tie.Start
+start c = c .before .before .before .before .before .before .before
+
 returns-3 : tie.Need-returns-3
 unfolding pageOf
 returns-3 c =
-    let s = c .before .before .before .before .before .before .before .before in
+    let s = start (c .before) in
     rw (
       s .pre .0 .legal,
       eq-eqb _ _ (s .pre .0 .size),
@@ -59,7 +62,7 @@ returns-3 c =
 returns-4 : tie.Need-returns-4
 unfolding pageOf
 returns-4 c =
-    let s = c .before .before .before .before .before .before .before .before .before .before .before in
+    let s = start (c .before .before .before .before) in
     rw (
       s .pre .0 .legal,
       eq-eqb _ _ (s .pre .0 .size),
@@ -72,7 +75,7 @@ returns-4 c =
 
 returns-5 : tie.Need-returns-5
 returns-5 c =
-    let s = c .before .before .before .before .before .before .before .before .before .before .before in
+    let s = start (c .before .before .before .before) in
     sym
     (passed-read (s .args .shape) (s .args .symbols .now)
     (record {

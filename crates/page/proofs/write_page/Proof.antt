@@ -1,8 +1,10 @@
 -- `page::write_page` meets its contract.
+use lib.ListN.{length}
 use borrow.Author.Needs.{needs}
 use Rattle.gtb.specs.declared.Status.the-variants.{Refused}
 use borrow.Author.Tests.{ne-eqb, not-true, not-false}
-use mathlib.Core.Path.{refl, sym, _∙_, ap}
+use mathlib.Core.Path.{_≡_, refl, sym, _∙_, ap}
+use Rattle.gtb.specs.Shape.{infoLength}
 use Rattle.page.specs.Page.{writeStatus}
 use Rattle.page.proofs.Pages.{writing, sized, writable}
 use Rattle.page.proofs.write_page.Statement.{statement}
@@ -28,28 +30,31 @@ returns-2 c =
 status-requires : tie.Need-status-requires
 status-requires c κs = sym (c .before .before .before .is-lawful .ensures) ∙ not-false _ (c .before .before .if1 .left)
 
+abbrev start : tie.Else2 → tie.Start
+start c = c .before .before .before .before .before .before
+
+-- the lent list has its length
+as-long : (c : tie.Else2) → length (start c .args .symbols .now) ≡ infoLength (start c .args .shape)
+as-long c = c .if2 .left ∙ c .before .info-length .ensures
+
 fill-requires : tie.Need-fill-requires
 fill-requires c κs =
-    let s = c .before .before .before .before .before .before .before .before .before .before in
-    let size = c .before .before .before .before .if2 .left ∙ c .before .before .before .before .before .info-length .ensures in (
-      sized _ _ (sym (c .before .before .before .before .before .before .before .is-lawful .ensures) ∙ not-false _ (c .before .before .before .before .before .before .if1 .left)) size,
-      writable (s .args .shape) (s .args .number) (s .args .marks .now) (s .args .symbols .now)
-          (sym (c .before .before .before .status .ensures (s .args .symbols .now) size) ∙ c .before .enum-told .given .1) .few,
+    let st = c .before .before .before in
+    let size = as-long (st .before) in
+    let s = start (st .before) in (
+      sized _ _ (sym (st .before .before .before .before .is-lawful .ensures) ∙ not-false _ (st .before .before .before .if1 .left)) size,
+      writable (s .args .shape) (s .args .number) (s .args .marks .now) (s .args .symbols .now) (sym (st .status .ensures _ size) ∙ c .before .enum-told .given .1) .few,
     )
 
 returns-3 : tie.Need-returns-3
 returns-3 c =
-    let s = c .before .before .before .before .before .before .before .before .before .before .before .before .before in
-    writing
-    (sym (c .before .before .before .before .enum-told .given .1) ∙ c .before .before .before .before .before .before .status .ensures (s .args .symbols .now) (c .before .before .before .before .before .before .before .if2 .left ∙ c .before .before .before .before .before .before .before .before .info-length .ensures))
-    (c .before .before .fill .ensures)
+    let st = c .before .before .before .before .before .before in
+    writing (sym (c .before .before .before .before .enum-told .given .1) ∙ st .status .ensures _ (as-long (st .before))) (c .before .before .fill .ensures)
 
 returns-4 : tie.Need-returns-4
 returns-4 c =
-    let s = c .before .before .before .before .before .before .before .before .before .before in
-    writing
-    (sym (c .before .e .given .1) ∙ c .before .before .before .status .ensures (s .args .symbols .now) (c .before .before .before .before .if2 .left ∙ c .before .before .before .before .before .info-length .ensures))
-    refl
+    let st = c .before .before .before in
+    writing (sym (c .before .e .given .1) ∙ st .status .ensures _ (as-long (st .before))) refl
 
 pub write-page-spec : {M : Type 1} → statement M
 write-page-spec = tie.close (tie.spec (λ c κs. search needs) (λ c κs. search needs) returns info-length-requires returns-2 status-requires (λ c. search needs) fill-requires (λ c. search needs) (λ c. search needs) returns-3 returns-4)

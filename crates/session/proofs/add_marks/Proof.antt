@@ -32,20 +32,11 @@ head c = c .before .before .before .before
 room : (c : tie.Else1 Inv-loop μ-loop) → getD (head c .loop .calls) (mark-at (head c)) 0 + bit (isCall (mark-at (head c))) < 2 ^ 32
 room c = omega (arith, c .if1 .left, bit-byte (isCall (mark-at (head c))), bit-le (isCall (mark-at (head c))))
 
-loop-holds : tie.Need-loop-holds Inv-loop μ-loop
-loop-holds c = turn-none (c .pre .0) (c .pre .1)
-
 mul-f : tie.Need-mul-f Inv-loop μ-loop
 mul-f c = omega (arith, c .before .before .good .1 .0 .1)
 
 cast-f : tie.Need-cast-f Inv-loop μ-loop
 cast-f c = omega (arith, c .shared-slice-known .given (c .before .before .loop .i))
-
-mul-k : tie.Need-mul-k Inv-loop μ-loop
-mul-k c = omega (arith, mark (c .before))
-
-element-copy-out-k : tie.Need-element-copy-out-k Inv-loop μ-loop
-element-copy-out-k c = mark (c .before)
 
 -- a mark adds at most 1
 cast-call : tie.Need-cast-call Inv-loop μ-loop
@@ -65,15 +56,6 @@ add-calls c = omega (arith, room c, bit-byte (isCall (mark-at (head c))))
 mul-calls : tie.Need-mul-calls Inv-loop μ-loop
 mul-calls c = omega (arith, mark (c .before .before .before))
 
-element-write-calls : tie.Need-element-write-calls Inv-loop μ-loop
-element-write-calls c = mark (c .before .before .before)
-
-add-i : tie.Need-add-i Inv-loop μ-loop
-add-i c = omega arith
-
-loop-less : tie.Need-loop-less Inv-loop μ-loop
-loop-less c = omega arith
-
 loop-again : tie.Need-loop-again Inv-loop μ-loop
 loop-again c = rw (bit-byte (isCall (mark-at (head c)))) (turn-more (head c .loop .inv) (c .before .before .before .loop-test .taken) (room c))
 
@@ -81,4 +63,4 @@ returns-2 : tie.Need-returns-2 Inv-loop μ-loop
 returns-2 c = turn-all (c .before .loop .inv) (c .loop-test .left)
 
 pub add-marks-spec : {M : Type 1} → statement M
-add-marks-spec = tie.close (tie.spec Inv-loop μ-loop loop-holds mul-f (λ c. search needs) cast-f mul-k element-copy-out-k cast-call sub-if1 returns add-calls mul-calls element-write-calls add-i loop-less loop-again returns-2)
+add-marks-spec = tie.close (tie.spec Inv-loop μ-loop (λ c. turn-none (c .pre .0) (c .pre .1)) mul-f (λ c. search needs) cast-f (λ c. omega (arith, mark (c .before))) (λ c. mark (c .before)) cast-call sub-if1 returns add-calls mul-calls (λ c. mark (c .before .before .before)) (λ c. omega arith) (λ c. omega arith) loop-again returns-2)

@@ -17,9 +17,6 @@ Inv-loop syn₀ word q row₀ syn row = (row ≤ q) × Added 0 row (λ k. xorSum
 abbrev μ-loop : tie.MeasureT-loop
 μ-loop syn₀ word q row₀ syn row = q - row
 
-loop-holds : tie.Need-loop-holds Inv-loop μ-loop
-loop-holds c = (search needs, written-none _ _ _)
-
 mul-run-sum : tie.Need-mul-run-sum Inv-loop μ-loop
 mul-run-sum c =
     let q = c .before .before .before .args .q in
@@ -36,4 +33,4 @@ returns : tie.Need-returns Inv-loop μ-loop
 returns c = written-end (c .before .loop .inv .1) (omega arith)
 
 pub add-rows-spec : {M : Type 1} → statement M
-add-rows-spec = tie.close (tie.spec Inv-loop μ-loop loop-holds mul-run-sum run-sum-requires (λ c. search needs) (λ c. search needs) (λ c. search needs) (λ c. search needs) (λ c. search needs) loop-again returns)
+add-rows-spec = tie.close (tie.spec Inv-loop μ-loop (λ c. (search needs, written-none _ _ _)) mul-run-sum run-sum-requires (λ c. search needs) (λ c. search needs) (λ c. search needs) (λ c. search needs) (λ c. search needs) loop-again returns)

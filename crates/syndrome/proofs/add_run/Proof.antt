@@ -16,9 +16,6 @@ Inv-loop syn₀ word to from count i₀ syn i = (i ≤ count) × Added to i (λ 
 abbrev μ-loop : tie.MeasureT-loop
 μ-loop syn₀ word to from count i₀ syn i = count - i
 
-loop-holds : tie.Need-loop-holds Inv-loop μ-loop
-loop-holds c = (search needs, written-none _ _ _)
-
 loop-again : tie.Need-loop-again Inv-loop μ-loop
 unfolding _⊕_
 loop-again c = (search needs, added-more _ _ _ _ _ (c .before .before .before .loop .inv .1) (omega arith))
@@ -27,4 +24,4 @@ returns : tie.Need-returns Inv-loop μ-loop
 returns c = written-end (c .before .loop .inv .1) (omega arith)
 
 pub add-run-spec : {M : Type 1} → statement M
-add-run-spec = tie.close (tie.spec Inv-loop μ-loop loop-holds (λ c. search needs) (λ c. search needs) (λ c. search needs) (λ c. search needs) (λ c. search needs) (λ c. search needs) (λ c. search needs) (λ c. search needs) (λ c. search needs) loop-again returns)
+add-run-spec = tie.close (tie.spec Inv-loop μ-loop (λ c. (search needs, written-none _ _ _)) (λ c. search needs) (λ c. search needs) (λ c. search needs) (λ c. search needs) (λ c. search needs) (λ c. search needs) (λ c. search needs) (λ c. search needs) (λ c. search needs) loop-again returns)

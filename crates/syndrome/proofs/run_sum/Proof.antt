@@ -15,9 +15,6 @@ Inv-loop values from count sum₀ i₀ sum i = (i ≤ count) × (sum ≡ xorSum 
 abbrev μ-loop : tie.MeasureT-loop
 μ-loop values from count sum₀ i₀ sum i = count - i
 
-loop-holds : tie.Need-loop-holds Inv-loop μ-loop
-loop-holds c = (search needs, sym (xs-zero _))
-
 loop-again : tie.Need-loop-again Inv-loop μ-loop
 unfolding _⊕_
 loop-again c = (search needs, more _ _ (c .before .before .loop .inv .1))
@@ -28,4 +25,4 @@ returns c =
     rw (← e) (c .before .loop .inv .1)
 
 pub run-sum-spec : {M : Type 1} → statement M
-run-sum-spec = tie.close (tie.spec Inv-loop μ-loop loop-holds (λ c. search needs) (λ c. search needs) (λ c. search needs) (λ c. search needs) (λ c. search needs) loop-again returns)
+run-sum-spec = tie.close (tie.spec Inv-loop μ-loop (λ c. (search needs, sym (xs-zero _))) (λ c. search needs) (λ c. search needs) (λ c. search needs) (λ c. search needs) (λ c. search needs) loop-again returns)

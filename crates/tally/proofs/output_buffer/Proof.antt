@@ -4,8 +4,5 @@ use lib.ListN.{length-replicate}
 use Rattle.tally.proofs.output_buffer.Statement.{statement}
 use Rattle.tally.proofs.output_buffer.Tie as tie
 
-returns : tie.Need-returns
-returns c = length-replicate {A = ℕ} 491584 0
-
 pub output-buffer-spec : {M : Type 1} → statement M
-output-buffer-spec = tie.close (tie.spec returns)
+output-buffer-spec = tie.close (tie.spec (λ c. length-replicate {A = ℕ} 491584 0))

@@ -1,13 +1,14 @@
 -- `capture::output::put_closing` meets its contract, phase by phase.
+use mathlib.Core.Path.{_∙_}
 use borrow.Author.Needs.{needs}
-use Rattle.capture.proofs.Texts.{appended-none, appended-both, closing-in, closing-whole, closing-begun, closed-by}
+use Rattle.capture.proofs.Texts.{appended-none, appended-both, closing-in, closed-by}
 use Rattle.capture.proofs.output.put_closing.Statement.{statement}
 use Rattle.capture.proofs.output.put_closing.Tie as tie
 
 returns : tie.Need-returns
 returns c =
     let start = c .before .before .before .before .before .before .before .before in
-    closed-by (λ line same. closing-whole (start .args .tally) line (c .before .before .before .before .before .enum-told2 .given .1) same (c .before .before .before .before .if1 .taken)) (c .before .before .put-calls .ensures)
+    closed-by (λ line same. closing-in (start .args .tally) line (c .before .before .before .before .before .enum-told2 .given .1) ∙ rw (← same, c .before .before .before .before .if1 .taken)) (c .before .before .put-calls .ensures)
 
 returns-2 : tie.Need-returns-2
 returns-2 c = closed-by (λ line same. closing-in (c .before .before .before .args .tally) line (c .enum-told .given .1)) (appended-none _ 0)
@@ -15,7 +16,7 @@ returns-2 c = closed-by (λ line same. closing-in (c .before .before .before .ar
 returns-3 : tie.Need-returns-3
 returns-3 c =
     let start = c .before .before .before .before .before .before .before .before .before .before .before .before in
-    closed-by (λ line same. closing-begun (start .args .tally) line (c .before .before .before .before .before .before .before .before .before .enum-told2 .given .1) same (c .before .before .before .before .before .before .before .before .if1 .left))
+    closed-by (λ line same. closing-in (start .args .tally) line (c .before .before .before .before .before .before .before .before .before .enum-told2 .given .1) ∙ rw (← same, c .before .before .before .before .before .before .before .before .if1 .left))
     (appended-both (c .before .before .before .before .before .before .put-line .ensures .0) (c .before .before .put-calls2 .ensures))
 
 returns-4 : tie.Need-returns-4

@@ -18,12 +18,6 @@ abbrev μ-loop : tie.MeasureT-loop
 counts : (c : tie.Start Inv-loop μ-loop) → Counts (c .args .t3)
 counts c = owned-counts _ _ (c .good .1 .1 .0)
 
-loop-holds : tie.Need-loop-holds Inv-loop μ-loop
-loop-holds c = (omega arith, counting-begins _ _ _)
-
-put-count-requires : tie.Need-put-count-requires Inv-loop μ-loop
-put-count-requires c κs = omega arith
-
 loop-again : tie.Need-loop-again Inv-loop μ-loop
 loop-again c =
     let start = c .before .before .before .before in
@@ -39,11 +33,8 @@ loop-again c =
           (c .if1 .came),
     )
 
-same-length : tie.Need-same-length Inv-loop μ-loop
-same-length c = c .before .loop .inv .1 .size
-
 returns : tie.Need-returns Inv-loop μ-loop
 returns c = counting-ends (omega (arith, counts (c .before .before .before))) (c .before .loop .inv .1)
 
 pub put-counts-spec : {M : Type 1} → statement M
-put-counts-spec = tie.close (tie.spec Inv-loop μ-loop loop-holds (λ c. search needs) (λ c. search needs) (λ c. search needs) put-count-requires (λ c. search needs) (λ c. search needs) loop-again same-length returns)
+put-counts-spec = tie.close (tie.spec Inv-loop μ-loop (λ c. (omega arith, counting-begins _ _ _)) (λ c. search needs) (λ c. search needs) (λ c. search needs) (λ c κs. omega arith) (λ c. search needs) (λ c. search needs) loop-again (λ c. c .before .loop .inv .1 .size) returns)

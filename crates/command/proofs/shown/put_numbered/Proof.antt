@@ -10,7 +10,10 @@ put-text-requires : tie.Need-put-text-requires
 put-text-requires c κs = omega (arith, at-most-ten (c .before .before .before .before .before .before .before .args .value) (omega arith))
 
 returns : tie.Need-returns
-returns c = put-numbered (c .before .before .before .before .before .before .before .before .before .before .args .value) (omega arith) (c .before .before .before .before .before .before .before .before .before .before .pre) (c .before .before .before .before .before .before .put-number .ensures) (c .before .before .put-text .ensures)
+returns c =
+    let number = c .before .before .before .before .before .before in
+    let s = number .before .before .before .before in
+    put-numbered (s .args .value) (omega arith) (s .pre) (number .put-number .ensures) (c .before .before .put-text .ensures)
 
 pub put-numbered-spec : {M : Type 1} → statement M
 put-numbered-spec = tie.close (tie.spec (λ c κs. search needs) put-text-requires (λ c. search needs) returns)

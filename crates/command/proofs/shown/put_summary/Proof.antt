@@ -6,17 +6,26 @@ use borrow.Author.Needs.{needs}
 use Rattle.command.proofs.shown.put_summary.Statement.{statement}
 use Rattle.command.proofs.shown.put_summary.Tie as tie
 
+abbrev start : tie.After-put-numbered → tie.Start
+start c = c .before .before .before .before
+
+abbrev first : tie.After-put-numbered2 → tie.After-put-numbered
+first c = c .before .before .before .before .before
+
 put-numbered-requires-2 : tie.Need-put-numbered-requires-2
-put-numbered-requires-2 c κs = omega (arith, numbered-length (c .before .before .before .before .before .before .before .before .args .taken) (ascii " taken, ") (omega arith))
+put-numbered-requires-2 c κs = omega (arith, numbered-length (start (c .before .before .before .before) .args .taken) (ascii " taken, ") (omega arith))
 
 put-numbered-requires-3 : tie.Need-put-numbered-requires-3
-put-numbered-requires-3 c κs = omega (arith, numbered-length (c .before .before .before .before .before .before .before .before .before .before .before .before .before .args .taken) (ascii " taken, ") (omega arith), numbered-length (c .before .before .before .before .before .before .before .before .before .before .before .before .before .args .again) (ascii " again, ") (omega arith))
+put-numbered-requires-3 c κs =
+    let s = start (first (c .before .before .before .before)) in
+    omega (arith, numbered-length (s .args .taken) (ascii " taken, ") (omega arith), numbered-length (s .args .again) (ascii " again, ") (omega arith))
 
 returns : tie.Need-returns
 returns c =
-    let start = c .before .before .before .before .before .before .before .before .before .before .before .before .before .before .before .before in
-    put-summary (start .args .taken) (start .args .again) (start .args .refused) (omega (arith, start)) (omega (arith, start)) (start .pre)
-    (c .before .before .before .before .before .before .before .before .before .before .before .before .put-numbered .ensures) (c .before .before .before .before .before .before .before .put-numbered2 .ensures) (c .before .before .put-numbered3 .ensures)
+    let second = c .before .before .before .before .before .before .before in
+    let s = start (first second) in
+    put-summary (s .args .taken) (s .args .again) (s .args .refused) (omega (arith, s)) (omega (arith, s)) (s .pre)
+    (first second .put-numbered .ensures) (second .put-numbered2 .ensures) (c .before .before .put-numbered3 .ensures)
 
 pub put-summary-spec : {M : Type 1} → statement M
 put-summary-spec = tie.close (tie.spec (λ c. search needs) (λ c κs. search needs) (λ c. search needs) put-numbered-requires-2 (λ c. search needs) put-numbered-requires-3 (λ c. search needs) returns)

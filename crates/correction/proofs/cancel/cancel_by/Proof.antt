@@ -21,18 +21,6 @@ loop-holds c = (search needs, cancelled-none _ _ _ _ (c .before .pre .2))
 inside : (c : tie.After-cancel-one-arg Inv-loop μ-loop) → c .before .before .loop .x < 8
 inside c = omega (arith, c .before .before .before .before .pre .3 .few)
 
-mul-cancel-one : tie.Need-mul-cancel-one Inv-loop μ-loop
-mul-cancel-one c = omega (arith, inside c)
-
-element-copy-out-cancel-one : tie.Need-element-copy-out-cancel-one Inv-loop μ-loop
-element-copy-out-cancel-one c = inside c
-
-mul-cancel-one-2 : tie.Need-mul-cancel-one-2 Inv-loop μ-loop
-mul-cancel-one-2 c = omega (arith, inside (c .before))
-
-element-copy-out-cancel-one-2 : tie.Need-element-copy-out-cancel-one-2 Inv-loop μ-loop
-element-copy-out-cancel-one-2 c = inside (c .before)
-
 cancel-one-requires : tie.Need-cancel-one-requires Inv-loop μ-loop
 cancel-one-requires c κs =
     let p = c .before .before .before .before .before .before .pre in
@@ -48,4 +36,4 @@ returns : tie.Need-returns Inv-loop μ-loop
 returns c = rw (le-antisymm (c .before .loop .inv .0) (c .loop-test .left)) at (c .before .loop .inv .1)
 
 pub cancel-by-spec : {M : Type 1} → statement M
-cancel-by-spec = tie.close (tie.spec Inv-loop μ-loop loop-holds mul-cancel-one element-copy-out-cancel-one mul-cancel-one-2 element-copy-out-cancel-one-2 cancel-one-requires (λ c. search needs) (λ c. search needs) loop-again returns)
+cancel-by-spec = tie.close (tie.spec Inv-loop μ-loop loop-holds (λ c. omega (arith, inside c)) (λ c. inside c) (λ c. omega (arith, inside (c .before))) (λ c. inside (c .before)) cancel-one-requires (λ c. search needs) (λ c. search needs) loop-again returns)

@@ -17,23 +17,11 @@ Inv-loop shape table syn₀ j error n t₀ syn t = (t ≤ n) × Toggled t (check
 abbrev μ-loop : tie.MeasureT-loop
 μ-loop shape table syn₀ j error n t₀ syn t = n - t
 
-loop-holds : tie.Need-loop-holds Inv-loop μ-loop
-loop-holds c = (search needs, toggled-none _ _ _)
-
 -- the check is in the table
 inside : (c : tie.After-number-by Inv-loop μ-loop) → c .number-by .result < 248
 inside c =
     let s = c .before .before .before .before .before in
     rw (c .number-by .ensures) (check-fits (s .args .shape) (s .pre .0) (c .before .before .loop .t) (s .args .j) (c .before .loop-test .taken) (s .pre .3))
-
-mul-syn : tie.Need-mul-syn Inv-loop μ-loop
-mul-syn c = omega (arith, inside c)
-
-element-copy-out-syn : tie.Need-element-copy-out-syn Inv-loop μ-loop
-element-copy-out-syn c = inside c
-
-element-write-syn : tie.Need-element-write-syn Inv-loop μ-loop
-element-write-syn c = inside (c .before)
 
 loop-again : tie.Need-loop-again Inv-loop μ-loop
 unfolding _⊕_
@@ -45,4 +33,4 @@ returns : tie.Need-returns Inv-loop μ-loop
 returns c = rw (le-antisymm (c .before .loop .inv .0) (c .loop-test .left)) at (c .before .loop .inv .1)
 
 pub cancel-one-spec : {M : Type 1} → statement M
-cancel-one-spec = tie.close (tie.spec Inv-loop μ-loop (λ c. search needs) loop-holds (λ c κs. search needs) mul-syn element-copy-out-syn element-write-syn (λ c. search needs) (λ c. search needs) loop-again returns)
+cancel-one-spec = tie.close (tie.spec Inv-loop μ-loop (λ c. search needs) (λ c. (search needs, toggled-none _ _ _)) (λ c κs. search needs) (λ c. omega (arith, inside c)) (λ c. inside c) (λ c. inside (c .before)) (λ c. search needs) (λ c. search needs) loop-again returns)

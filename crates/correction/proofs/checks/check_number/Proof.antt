@@ -10,17 +10,8 @@ use Rattle.correction.proofs.CheckNumbers.{check-lt, check-row, check-l
 use Rattle.correction.proofs.checks.check_number.Statement.{statement}
 use Rattle.correction.proofs.checks.check_number.Tie as tie
 
-div-row : tie.Need-div-row
-div-row c = positive _ (c .before .pre .0)
-
-returns : tie.Need-returns
-returns c = check-row _ _ _ (c .if1 .taken)
-
 mul-result : tie.Need-mul-result
 mul-result c = let a = c .before .before .args in omega (arith, check-lt (a .shape) (c .before .before .pre .0) (a .t) 0 (c .before .before .pre .1) (positive _ (c .before .before .pre .0)))
-
-rem-result : tie.Need-rem-result
-rem-result c = positive _ (c .before .before .pre .0)
 
 slope-requires : tie.Need-slope-requires
 slope-requires c κs = let a = c .before .before in omega (arith, bounds _ (a .pre .0) .n8, a .pre .1, c .if1 .left)
@@ -29,9 +20,6 @@ slope-requires c κs = let a = c .before .before in omega (arith, bounds _ (a .p
 module _ (c : tie.After-slope) where
   offset : c .slope .result * (c .before .before .before .args .j / c .before .before .before .args .shape .q) ≤ 961
   offset = let a = c .before .before .before in rw (c .slope .ensures) (offset-le (a .args .shape) (a .pre .0) (a .args .t) _ (omega (arith, c .before .if1 .left)) (a .pre .1) (div-lt-iff-lt-mul (positive (a .args .shape) (a .pre .0)) .1 (a .pre .2)))
-
-mul-result-2 : tie.Need-mul-result-2
-mul-result-2 c = omega (arith, offset c)
 
 add-result : tie.Need-add-result
 add-result c = let a = c .before .before .before in omega (arith, offset c, mod-lt (a .args .j) (positive (a .args .shape) (a .pre .0)), bounds (a .args .shape) (a .pre .0) .q31)
@@ -46,8 +34,5 @@ same c = rw (c .slope .ensures) (check-line _ _ _ (c .before .if1 .left))
 add-result-2 : tie.Need-add-result-2
 add-result-2 c = let a = c .before .before .before in omega (arith, same c, check-fits (a .args .shape) (a .pre .0) (a .args .t) (a .args .j) (a .pre .1) (a .pre .2))
 
-returns-2 : tie.Need-returns-2
-returns-2 c = same c
-
 pub check-number-spec : {M : Type 1} → statement M
-check-number-spec = tie.close (tie.spec (λ c. search needs) div-row returns mul-result rem-result slope-requires mul-result-2 add-result rem-result-2 add-result-2 returns-2)
+check-number-spec = tie.close (tie.spec (λ c. search needs) (λ c. positive _ (c .before .pre .0)) (λ c. check-row _ _ _ (c .if1 .taken)) mul-result (λ c. positive _ (c .before .before .pre .0)) slope-requires (λ c. omega (arith, offset c)) add-result rem-result-2 add-result-2 (λ c. same c))

@@ -32,12 +32,6 @@ loop-holds c =
 few : (c : tie.In-loop Inv-loop μ-loop) → c .before .loop .t < 8
 few c = let k = c .before .before .before .before in omega (arith, bounds (k .args .shape) (k .pre .0) .n8)
 
-mul-shifts : tie.Need-mul-shifts Inv-loop μ-loop
-mul-shifts c = omega (arith, few c)
-
-array-read-shifts : tie.Need-array-read-shifts Inv-loop μ-loop
-array-read-shifts c = omega (arith, few c)
-
 mul-shifts-2 : tie.Need-mul-shifts-2 Inv-loop μ-loop
 unfolding slopeOf
 mul-shifts-2 c =
@@ -51,12 +45,6 @@ cast-shifts : tie.Need-cast-shifts Inv-loop μ-loop
 cast-shifts c =
     let k = c .before .before .before .before in
     omega (arith, bounds _ (k .pre .0) .q31, mod-lt (getD (k .args .shape .slopes) (c .before .loop .t - 1) 0 * k .args .row) (positive (k .args .shape) (k .pre .0)))
-
-mul-shifts-3 : tie.Need-mul-shifts-3 Inv-loop μ-loop
-mul-shifts-3 c = omega (arith, few c)
-
-element-write-shifts : tie.Need-element-write-shifts Inv-loop μ-loop
-element-write-shifts c = few c
 
 loop-again : tie.Need-loop-again Inv-loop μ-loop
 unfolding slopeOf
@@ -74,4 +62,4 @@ returns c =
     rw (le-antisymm (c .before .loop .inv .1) (c .loop-test .left)) at (c .before .loop .inv .2 (k .args .shape) refl refl)
 
 pub put-shifts-spec : {M : Type 1} → statement M
-put-shifts-spec = tie.close (tie.spec Inv-loop μ-loop (λ c. search needs) cast-r loop-holds (λ c. search needs) mul-shifts array-read-shifts mul-shifts-2 rem-shifts cast-shifts mul-shifts-3 element-write-shifts (λ c. search needs) (λ c. search needs) loop-again returns)
+put-shifts-spec = tie.close (tie.spec Inv-loop μ-loop (λ c. search needs) cast-r loop-holds (λ c. search needs) (λ c. omega (arith, few c)) (λ c. omega (arith, few c)) mul-shifts-2 rem-shifts cast-shifts (λ c. omega (arith, few c)) (λ c. few c) (λ c. search needs) (λ c. search needs) loop-again returns)

@@ -19,20 +19,11 @@ Inv-loop shape table syn places count j n t₀ t = (t ≤ n) × ((u : ℕ) → u
 abbrev μ-loop : tie.MeasureT-loop
 μ-loop shape table syn places count j n t₀ t = n - t
 
-loop-holds : tie.Need-loop-holds Inv-loop μ-loop
-loop-holds c = (search needs, below-none _)
-
 -- the check is in the table
 inside : (c : tie.After-number-by Inv-loop μ-loop) → c .number-by .result < 248
 inside c =
     let s = c .before .before .before .before .before .before .before in
     rw (c .number-by .ensures) (check-fits (s .args .shape) (s .pre .0) (c .before .before .before .before .loop .t) (s .args .j) (c .before .before .before .loop-test .taken) (s .pre .2))
-
-mul-result : tie.Need-mul-result Inv-loop μ-loop
-mul-result c = omega (arith, inside c)
-
-element-copy-out-result : tie.Need-element-copy-out-result Inv-loop μ-loop
-element-copy-out-result c = inside c
 
 returns : tie.Need-returns Inv-loop μ-loop
 unfolding errorAmong
@@ -51,4 +42,4 @@ unfolding errorAmong
 returns-2 c = sym (first-none _ _ _ (rw (le-antisymm (c .before .loop .inv .0) (c .loop-test .left)) at (c .before .loop .inv .1)))
 
 pub error-of-spec : {M : Type 1} → statement M
-error-of-spec = tie.close (tie.spec Inv-loop μ-loop (λ c. search needs) loop-holds (λ c κs. search needs) (λ c κs. search needs) mul-result element-copy-out-result returns (λ c. search needs) (λ c. search needs) loop-again returns-2)
+error-of-spec = tie.close (tie.spec Inv-loop μ-loop (λ c. search needs) (λ c. (search needs, below-none _)) (λ c κs. search needs) (λ c κs. search needs) (λ c. omega (arith, inside c)) (λ c. inside c) returns (λ c. search needs) (λ c. search needs) loop-again returns-2)

@@ -18,18 +18,9 @@ Inv-loop shape table places count j t x₀ x = (x ≤ count) × (any x (λ y. sh
 abbrev μ-loop : tie.MeasureT-loop
 μ-loop shape table places count j t x₀ x = count - x
 
-loop-holds : tie.Need-loop-holds Inv-loop μ-loop
-loop-holds c = (search needs, any-zero _)
-
 -- the list has 8 entries
 inside : (c : tie.In-loop Inv-loop μ-loop) → c .before .loop .x < 8
 inside c = omega (arith, c .before .before .before .pre .4 .few)
-
-mul-shares-check : tie.Need-mul-shares-check Inv-loop μ-loop
-mul-shares-check c = omega (arith, inside c)
-
-element-copy-out-shares-check : tie.Need-element-copy-out-shares-check Inv-loop μ-loop
-element-copy-out-shares-check c = inside c
 
 shares-check-requires : tie.Need-shares-check-requires Inv-loop μ-loop
 shares-check-requires c κs =
@@ -48,4 +39,4 @@ unfolding aloneAmong
 returns-2 c = sym (ap not (rw (le-antisymm (c .before .loop .inv .0) (c .loop-test .left)) at (c .before .loop .inv .1)))
 
 pub is-alone-spec : {M : Type 1} → statement M
-is-alone-spec = tie.close (tie.spec Inv-loop μ-loop loop-holds mul-shares-check element-copy-out-shares-check shares-check-requires returns (λ c. search needs) (λ c. search needs) loop-again returns-2)
+is-alone-spec = tie.close (tie.spec Inv-loop μ-loop (λ c. (search needs, any-zero _)) (λ c. omega (arith, inside c)) (λ c. inside c) shares-check-requires returns (λ c. search needs) (λ c. search needs) loop-again returns-2)

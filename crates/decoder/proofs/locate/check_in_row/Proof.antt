@@ -1,9 +1,7 @@
 -- `decoder::locate::check_in_row` meets its contract: the table's number, or that by the row's shift.
-use mathlib.Core.Path.{_≡_}
 use Prim.Native.Nat.{_+_, _*_, _<_}
 use native.Mathlib.Nat.{lt-of-lt-of-le}
 use native.Mathlib.Omega.{arith}
-use lib.ListN.{length}
 use borrow.Author.Needs.{needs}
 use Rattle.gtb.proofs.Bounds.{bounds, positive}
 use Rattle.gtb.proofs.Turns.{square-le}
@@ -27,9 +25,6 @@ number-by-requires c κs =
     let s = c .before .before .before in
     (s .pre .0, s .pre .1, s .pre .4, in-word (s .args .shape) (s .pre .5) (s .pre .6))
 
-returns : tie.Need-returns
-returns c = c .number-by .ensures
-
 mul-result : tie.Need-mul-result
 mul-result c =
     let s = c .before .before .before in
@@ -41,9 +36,6 @@ inside s = omega (arith, bounds (s .args .shape) (s .pre .0) .n8)
 
 mul-add-mod : tie.Need-mul-add-mod
 mul-add-mod c = omega (arith, inside (c .before .before .before))
-
-element-copy-out-add-mod : tie.Need-element-copy-out-add-mod
-element-copy-out-add-mod c = inside (c .before .before .before)
 
 add-mod-requires : tie.Need-add-mod-requires
 add-mod-requires c κs =
@@ -62,4 +54,4 @@ returns-2 c =
     shift-check (s .pre .2 (c .before .before .if1 .left)) (s .args .t) (s .args .column) (s .pre .6) (s .pre .4) (s .pre .3) (c .add-mod .ensures .0)
 
 pub check-in-row-spec : {M : Type 1} → statement M
-check-in-row-spec = tie.close (tie.spec (λ c. search needs) mul-number-by add-number-by number-by-requires returns mul-result mul-add-mod element-copy-out-add-mod add-mod-requires add-result returns-2)
+check-in-row-spec = tie.close (tie.spec (λ c. search needs) mul-number-by add-number-by number-by-requires (λ c. c .number-by .ensures) mul-result mul-add-mod (λ c. inside (c .before .before .before)) add-mod-requires add-result returns-2)

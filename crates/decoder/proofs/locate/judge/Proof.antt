@@ -41,12 +41,6 @@ check c =
     let s = l .before .before .before .before in
     rw (c .check-in-row .ensures) (check-fits (s .args .shape) (s .pre .0) (l .loop .t) _ (c .before .loop-test .taken) (in-word (s .args .shape) (s .pre .4) (s .pre .5)))
 
-mul-if2 : tie.Need-mul-if2 Inv-loop μ-loop
-mul-if2 c = omega (arith, check c)
-
-element-copy-out-if2 : tie.Need-element-copy-out-if2 Inv-loop μ-loop
-element-copy-out-if2 c = check c
-
 -- a direction is below 8
 inside : (c : tie.In-loop Inv-loop μ-loop) → c .before .loop .t < 8
 inside c =
@@ -80,4 +74,4 @@ returns-3 c =
     (rw (le-antisymm (l .loop .inv .1) (c .loop-test .left)) at (l .loop .inv .2)) refl refl
 
 pub judge-spec : {M : Type 1} → statement M
-judge-spec = tie.close (tie.spec Inv-loop μ-loop returns (λ c. search needs) loop-holds check-in-row-requires mul-if2 element-copy-out-if2 cast-looked add-looked returns-2 (λ c. search needs) (λ c. search needs) loop-again returns-3)
+judge-spec = tie.close (tie.spec Inv-loop μ-loop returns (λ c. search needs) loop-holds check-in-row-requires (λ c. omega (arith, check c)) (λ c. check c) cast-looked add-looked returns-2 (λ c. search needs) (λ c. search needs) loop-again returns-3)

@@ -20,24 +20,9 @@ place c =
     let s = c .before .before .before .before in
     lt-of-lt-of-le (in-word (s .args .shape) (s .pre .4) (s .pre .5)) (square-le (s .args .shape .q) (bounds (s .args .shape) (s .pre .0) .q31))
 
-mul-places : tie.Need-mul-places
-mul-places c = omega (arith, place c)
-
-add-places : tie.Need-add-places
-add-places c = omega (arith, place c)
-
 -- there is room for one more
 room : (c : tie.Then1) → c .before .before .before .before .args .count < 8
 room c = omega (arith, bounds (c .before .before .before .before .args .shape) (c .before .before .before .before .pre .0) .n8)
-
-mul-places-2 : tie.Need-mul-places-2
-mul-places-2 c = omega (arith, room c)
-
-element-write-places : tie.Need-element-write-places
-element-write-places c = room c
-
-add-result : tie.Need-add-result
-add-result c = omega (arith, room c)
 
 returns : tie.Need-returns
 returns c = listed-keep (sym (c .before .judge .ensures .located) ∙ c .if1 .taken) (room c) (c .before .before .before .before .pre .7)
@@ -46,4 +31,4 @@ returns-2 : tie.Need-returns-2
 returns-2 c = listed-skip (sym (c .before .judge .ensures .located) ∙ c .if1 .left) (c .before .before .before .before .pre .7)
 
 pub keep-spec : {M : Type 1} → statement M
-keep-spec = tie.close (tie.spec (λ c. search needs) judge-requires mul-places add-places mul-places-2 element-write-places add-result returns returns-2)
+keep-spec = tie.close (tie.spec (λ c. search needs) judge-requires (λ c. omega (arith, place c)) (λ c. omega (arith, place c)) (λ c. omega (arith, room c)) (λ c. room c) (λ c. omega (arith, room c)) returns returns-2)

@@ -22,12 +22,6 @@ abbrev μ-loop : tie.MeasureT-loop
 inside : (c : tie.Start Inv-loop μ-loop) → c .args .row < 248
 inside c = omega (arith, bounds (c .args .shape) (c .pre .0) .q31)
 
-mul-check : tie.Need-mul-check Inv-loop μ-loop
-mul-check c = omega (arith, inside (c .before))
-
-element-copy-out-check : tie.Need-element-copy-out-check Inv-loop μ-loop
-element-copy-out-check c = inside (c .before)
-
 returns : tie.Need-returns Inv-loop μ-loop
 returns c =
     let s = c .before .before .before in
@@ -66,4 +60,4 @@ returns-3 c =
     )
 
 pub scan-row-spec : {M : Type 1} → statement M
-scan-row-spec = tie.close (tie.spec Inv-loop μ-loop mul-check element-copy-out-check returns (λ c. search needs) (λ c. search needs) (λ c κs. search needs) loop-holds keep-requires returns-2 (λ c. search needs) (λ c. search needs) loop-again returns-3)
+scan-row-spec = tie.close (tie.spec Inv-loop μ-loop (λ c. omega (arith, inside (c .before))) (λ c. inside (c .before)) returns (λ c. search needs) (λ c. search needs) (λ c κs. search needs) loop-holds keep-requires returns-2 (λ c. search needs) (λ c. search needs) loop-again returns-3)

@@ -3,11 +3,5 @@ use borrow.Author.Needs.{needs}
 use Rattle.decoder.proofs.locate.shifts_by.Statement.{statement}
 use Rattle.decoder.proofs.locate.shifts_by.Tie as tie
 
-returns : tie.Need-returns
-returns c = λ ne. absurd (ne (c .if1 .taken))
-
-returns-2 : tie.Need-returns-2
-returns-2 c = λ _. c .put-shifts .ensures
-
 pub shifts-by-spec : {M : Type 1} → statement M
-shifts-by-spec = tie.close (tie.spec returns (λ c κs. search needs) returns-2)
+shifts-by-spec = tie.close (tie.spec (λ c. λ ne. absurd (ne (c .if1 .taken))) (λ c κs. search needs) (λ c. λ _. c .put-shifts .ensures))

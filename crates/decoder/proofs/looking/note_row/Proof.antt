@@ -7,14 +7,15 @@ use borrow.Author.Needs.{needs}
 use Rattle.gtb.specs.Shape.{wordLength}
 use Rattle.gtb.proofs.Bounds.{bounds}
 use Rattle.gtb.proofs.Turns.{square-le}
-use Rattle.decoder.specs.Steps.{Noted}
+use Rattle.correction.specs.Steps.{Gathered}
+use Rattle.decoder.specs.Steps.{lookedIn}
 use Rattle.correction.proofs.Rows.{in-word}
-use Rattle.decoder.proofs.Looks.{noted-more}
+use Rattle.correction.proofs.Listing.{gathered-more}
 use Rattle.decoder.proofs.looking.note_row.Statement.{statement}
 use Rattle.decoder.proofs.looking.note_row.Tie as tie
 
 abbrev Inv-loop : tie.InvT-loop
-Inv-loop shape table syn row looked₀ q own shifts c₀ looked c = (c ≤ q) × Noted shape syn (row * q + c) looked
+Inv-loop shape table syn row looked₀ q own shifts c₀ looked c = (c ≤ q) × Gathered (wordLength shape) (lookedIn shape syn) (row * q + c) looked
 
 abbrev μ-loop : tie.MeasureT-loop
 μ-loop shape table syn row looked₀ q own shifts c₀ looked c = q - c
@@ -24,12 +25,6 @@ inside : (c : tie.After-struct-known Inv-loop μ-loop) → c .before .before .be
 inside c =
     let s = c .before .before .before in
     omega (arith, bounds (s .args .shape) (s .pre .0) .q31)
-
-mul-own : tie.Need-mul-own Inv-loop μ-loop
-mul-own c = omega (arith, inside c)
-
-element-copy-out-own : tie.Need-element-copy-out-own Inv-loop μ-loop
-element-copy-out-own c = inside c
 
 loop-holds : tie.Need-loop-holds Inv-loop μ-loop
 loop-holds c =
@@ -53,23 +48,14 @@ small c =
     let s = c .before .before .before .before .before .before .before .before .before .before in
     lt-of-lt-of-le (place c) (square-le (s .args .shape .q) (bounds (s .args .shape) (s .pre .0) .q31))
 
-mul-looked : tie.Need-mul-looked Inv-loop μ-loop
-mul-looked c = omega (arith, small c)
-
-add-looked : tie.Need-add-looked Inv-loop μ-loop
-add-looked c = omega (arith, small c)
-
-mul-looked-2 : tie.Need-mul-looked-2 Inv-loop μ-loop
-mul-looked-2 c = omega (arith, small c)
-
 slice-write-looked : tie.Need-slice-write-looked Inv-loop μ-loop
 slice-write-looked c = rw (c .before .before .before .loop .inv .1 .size) (place c)
 
 loop-again : tie.Need-loop-again Inv-loop μ-loop
-loop-again c = (search needs, rw (← add-assoc) (noted-more _ (place c) (c .judge .ensures .looked) (c .before .before .before .loop .inv .1)))
+loop-again c = (search needs, rw (← add-assoc) (gathered-more _ (place c) (c .judge .ensures .looked) (c .before .before .before .loop .inv .1)))
 
 returns : tie.Need-returns Inv-loop μ-loop
 returns c = rw (le-antisymm (c .before .loop .inv .0) (c .loop-test .left)) at (c .before .loop .inv .1)
 
 pub note-row-spec : {M : Type 1} → statement M
-note-row-spec = tie.close (tie.spec Inv-loop μ-loop (λ c. search needs) mul-own element-copy-out-own (λ c κs. search needs) loop-holds judge-requires mul-looked add-looked mul-looked-2 slice-write-looked (λ c. search needs) (λ c. search needs) loop-again (λ c. search needs) returns)
+note-row-spec = tie.close (tie.spec Inv-loop μ-loop (λ c. search needs) (λ c. omega (arith, inside c)) (λ c. inside c) (λ c κs. search needs) loop-holds judge-requires (λ c. omega (arith, small c)) (λ c. omega (arith, small c)) (λ c. omega (arith, small c)) slice-write-looked (λ c. search needs) (λ c. search needs) loop-again (λ c. search needs) returns)

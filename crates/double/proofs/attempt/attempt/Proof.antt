@@ -19,33 +19,6 @@ module _ (c : tie.After-last-line2) where
       let s = c .before .before .before .before .before in
       check-lt (s .args .shape) (s .pre .0) (s .args .t) _ (omega (arith, s .pre .2, s .pre .3)) (c .before .before .last-line .ensures .below)
 
-mul-x : tie.Need-mul-x
-mul-x c = omega (arith, first-inside c)
-
-add-x : tie.Need-add-x
-add-x c = omega (arith, first-inside c)
-
-mul-x-2 : tie.Need-mul-x-2
-mul-x-2 c = omega (arith, first-inside c)
-
-element-copy-out-x : tie.Need-element-copy-out-x
-element-copy-out-x c = first-inside c
-
-mul-second-value : tie.Need-mul-second-value
-mul-second-value c = omega (arith, first-inside (c .before))
-
-add-second-value : tie.Need-add-second-value
-add-second-value c = omega (arith, first-inside (c .before))
-
-mul-second-value-2 : tie.Need-mul-second-value-2
-mul-second-value-2 c = omega (arith, last-inside (c .before))
-
-add-second-value-2 : tie.Need-add-second-value-2
-add-second-value-2 c = omega (arith, last-inside (c .before))
-
-second-value-requires : tie.Need-second-value-requires
-second-value-requires c κs = last-inside (c .before)
-
 returns : tie.Need-returns
 returns c =
     let l = c .before .before .before .before .before .before in
@@ -69,4 +42,4 @@ returns-2 c =
     (c .before .before .cross3 .ensures) (c .before .cross4 .ensures) (c .test-pair2 .ensures) (e .if1 .left)
 
 pub attempt-spec : {M : Type 1} → statement M
-attempt-spec = tie.close (tie.spec (λ c. search needs) (λ c κs. search needs) (λ c κs. search needs) (λ c κs. search needs) (λ c κs. search needs) mul-x add-x mul-x-2 element-copy-out-x mul-second-value add-second-value mul-second-value-2 add-second-value-2 second-value-requires (λ c κs. search needs) (λ c κs. search needs) (λ c κs. search needs) returns (λ c κs. search needs) (λ c κs. search needs) test-pair-requires-2 returns-2)
+attempt-spec = tie.close (tie.spec (λ c. search needs) (λ c κs. search needs) (λ c κs. search needs) (λ c κs. search needs) (λ c κs. search needs) (λ c. omega (arith, first-inside c)) (λ c. omega (arith, first-inside c)) (λ c. omega (arith, first-inside c)) (λ c. first-inside c) (λ c. omega (arith, first-inside (c .before))) (λ c. omega (arith, first-inside (c .before))) (λ c. omega (arith, last-inside (c .before))) (λ c. omega (arith, last-inside (c .before))) (λ c κs. last-inside (c .before)) (λ c κs. search needs) (λ c κs. search needs) (λ c κs. search needs) returns (λ c κs. search needs) (λ c κs. search needs) test-pair-requires-2 returns-2)

@@ -24,9 +24,6 @@ returns c =
     let on = c .on-row .ensures in
     crosses-here _ (s .pre .0) _ _ _ _ _ (s .pre .1) (s .pre .2) (on .below) (ap (λ (t : ℕ). lineOf (s .args .shape) t (c .on-row .result)) (c .before .if1 .taken) ∙ on .row-of) (on .line-of)
 
-loop-holds : tie.Need-loop-holds Inv-loop μ-loop
-loop-holds c = (search needs, below-none _)
-
 check-number-requires : tie.Need-check-number-requires Inv-loop μ-loop
 check-number-requires c κs =
     let s = c .before .before .before .before .before in
@@ -63,4 +60,4 @@ returns-3 c =
     crosses-none _ (s .pre .0) _ _ _ _ (s .pre .1) (s .pre .2) (rw (le-antisymm (c .before .loop .inv .0) (c .loop-test .left)) at (c .before .loop .inv .1))
 
 pub cross-spec : {M : Type 1} → statement M
-cross-spec = tie.close (tie.spec Inv-loop μ-loop (λ c κs. search needs) returns (λ c. search needs) loop-holds (λ c κs. search needs) check-number-requires mul-if2 add-if2 returns-2 (λ c. search needs) (λ c. search needs) loop-again returns-3)
+cross-spec = tie.close (tie.spec Inv-loop μ-loop (λ c κs. search needs) returns (λ c. search needs) (λ c. (search needs, below-none _)) (λ c κs. search needs) check-number-requires mul-if2 add-if2 returns-2 (λ c. search needs) (λ c. search needs) loop-again returns-3)

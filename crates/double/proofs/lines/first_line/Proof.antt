@@ -18,24 +18,9 @@ Inv-loop syn t q line₀ line = (line ≤ q) × ((L : ℕ) → L < line → at s
 abbrev μ-loop : tie.MeasureT-loop
 μ-loop syn t q line₀ line = q - line
 
-loop-holds : tie.Need-loop-holds Inv-loop μ-loop
-loop-holds c = (search needs, below-none _)
-
 -- the check is in the table
 inside : (c : tie.In-loop Inv-loop μ-loop) → let s = c .before .before .before in s .args .t * s .args .shape .q + c .before .loop .line < 248
 inside c = let s = c .before .before .before in check-lt (s .args .shape) (s .pre .0) (s .args .t) _ (s .pre .1) (c .loop-test .taken)
-
-mul-if1 : tie.Need-mul-if1 Inv-loop μ-loop
-mul-if1 c = omega (arith, inside c)
-
-add-if1 : tie.Need-add-if1 Inv-loop μ-loop
-add-if1 c = omega (arith, inside c)
-
-mul-if1-2 : tie.Need-mul-if1-2 Inv-loop μ-loop
-mul-if1-2 c = omega (arith, inside c)
-
-element-copy-out-if1 : tie.Need-element-copy-out-if1 Inv-loop μ-loop
-element-copy-out-if1 c = inside c
 
 returns : tie.Need-returns Inv-loop μ-loop
 returns c = first-here _ _ _ _ (c .before .before .loop-test .taken) (c .before .before .before .loop .inv .1) (c .if1 .taken)
@@ -48,4 +33,4 @@ returns-2 c =
     first-none _ _ _ (positive _ (c .before .before .before .pre .0)) (rw (le-antisymm (c .before .loop .inv .0) (c .loop-test .left)) at (c .before .loop .inv .1))
 
 pub first-line-spec : {M : Type 1} → statement M
-first-line-spec = tie.close (tie.spec Inv-loop μ-loop (λ c. search needs) loop-holds mul-if1 add-if1 mul-if1-2 element-copy-out-if1 returns (λ c. search needs) (λ c. search needs) loop-again returns-2)
+first-line-spec = tie.close (tie.spec Inv-loop μ-loop (λ c. search needs) (λ c. (search needs, below-none _)) (λ c. omega (arith, inside c)) (λ c. omega (arith, inside c)) (λ c. omega (arith, inside c)) (λ c. inside c) returns (λ c. search needs) (λ c. search needs) loop-again returns-2)

@@ -18,30 +18,9 @@ Inv-loop syn t q k₀ k = (k ≤ q) × ((m : ℕ) → m < k → at syn (t * q + 
 abbrev μ-loop : tie.MeasureT-loop
 μ-loop syn t q k₀ k = q - k
 
-loop-holds : tie.Need-loop-holds Inv-loop μ-loop
-loop-holds c = (search needs, below-none _)
-
-sub-line : tie.Need-sub-line Inv-loop μ-loop
-sub-line c = omega arith
-
-sub-line-2 : tie.Need-sub-line-2 Inv-loop μ-loop
-sub-line-2 c = omega arith
-
 -- the check is in the table
 inside : (c : tie.In-loop Inv-loop μ-loop) → let s = c .before .before .before in s .args .t * s .args .shape .q + (s .args .shape .q - 1 - c .before .loop .k) < 248
 inside c = let s = c .before .before .before in check-lt (s .args .shape) (s .pre .0) (s .args .t) _ (s .pre .1) (omega (arith, c .loop-test .taken))
-
-mul-if1 : tie.Need-mul-if1 Inv-loop μ-loop
-mul-if1 c = omega (arith, inside c)
-
-add-if1 : tie.Need-add-if1 Inv-loop μ-loop
-add-if1 c = omega (arith, inside c)
-
-mul-if1-2 : tie.Need-mul-if1-2 Inv-loop μ-loop
-mul-if1-2 c = omega (arith, inside c)
-
-element-copy-out-if1 : tie.Need-element-copy-out-if1 Inv-loop μ-loop
-element-copy-out-if1 c = inside c
 
 returns : tie.Need-returns Inv-loop μ-loop
 returns c = last-here _ _ _ _ _ (c .before .before .loop-test .taken) refl (c .before .before .before .loop .inv .1) (c .if1 .taken)
@@ -54,4 +33,4 @@ returns-2 c =
     last-none _ _ _ (positive _ (c .before .before .before .pre .0)) (rw (le-antisymm (c .before .loop .inv .0) (c .loop-test .left)) at (c .before .loop .inv .1))
 
 pub last-line-spec : {M : Type 1} → statement M
-last-line-spec = tie.close (tie.spec Inv-loop μ-loop (λ c. search needs) loop-holds sub-line sub-line-2 mul-if1 add-if1 mul-if1-2 element-copy-out-if1 returns (λ c. search needs) (λ c. search needs) loop-again returns-2)
+last-line-spec = tie.close (tie.spec Inv-loop μ-loop (λ c. search needs) (λ c. (search needs, below-none _)) (λ c. omega arith) (λ c. omega arith) (λ c. omega (arith, inside c)) (λ c. omega (arith, inside c)) (λ c. omega (arith, inside c)) (λ c. inside c) returns (λ c. search needs) (λ c. search needs) loop-again returns-2)

@@ -13,9 +13,6 @@ use Rattle.double.proofs.lines.on_row.Tie as tie
 rows : (s : tie.Start) → s .args .row * s .args .shape .q ≤ 961
 rows s = let b = bounds _ (s .pre .0) in mul-le-mul {n₂ = 31} {m₂ = 31} (omega (arith, b .q31, s .pre .3)) (b .q31)
 
-mul-result : tie.Need-mul-result
-mul-result c = omega (arith, rows (c .before))
-
 slope-requires : tie.Need-slope-requires
 slope-requires c κs = let s = c .before in (s .pre .1, omega (arith, bounds _ (s .pre .0) .n8, s .pre .2))
 
@@ -26,14 +23,8 @@ sub-result c = let s = c .before .before in omega (arith, c .slope .ensures, slo
 offset : (c : tie.After-slope) → let s = c .before .before in (s .args .shape .q - c .slope .result) * s .args .row ≤ 961
 offset c = let s = c .before .before in let b = bounds _ (s .pre .0) in mul-le-mul {n₂ = 31} {m₂ = 31} (omega (arith, b .q31)) (omega (arith, b .q31, s .pre .3))
 
-mul-result-2 : tie.Need-mul-result-2
-mul-result-2 c = omega (arith, offset c)
-
 add-result : tie.Need-add-result
 add-result c = let s = c .before .before in omega (arith, offset c, bounds _ (s .pre .0) .q31, s .pre .4)
-
-rem-result : tie.Need-rem-result
-rem-result c = positive _ (c .before .before .pre .0)
 
 add-result-2 : tie.Need-add-result-2
 add-result-2 c =
@@ -50,4 +41,4 @@ returns : tie.Need-returns
 returns c = let s = c .before .before in rw (c .slope .ensures) (row-position (s .args .shape) (s .pre .0) (s .args .u) (s .args .row) (s .args .line) (s .pre .1) (s .pre .2) (s .pre .3) (s .pre .4))
 
 pub on-row-spec : {M : Type 1} → statement M
-on-row-spec = tie.close (tie.spec (λ c. search needs) mul-result slope-requires sub-result mul-result-2 add-result rem-result add-result-2 returns)
+on-row-spec = tie.close (tie.spec (λ c. search needs) (λ c. omega (arith, rows (c .before))) slope-requires sub-result (λ c. omega (arith, offset c)) add-result (λ c. positive _ (c .before .before .pre .0)) add-result-2 returns)

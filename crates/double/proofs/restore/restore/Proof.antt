@@ -1,45 +1,30 @@
--- `double::restore::restore` meets its contract. Each way out is one of Answers.antt.
+-- `double::restore::restore` meets its contract: a codeword is near, or none is.
 use mathlib.Core.Path.{sym, _∙_}
-use Prim.Native.Nat.{_*_, _≤_}
-use native.Mathlib.Omega.{arith}
 use borrow.Author.Needs.{needs}
-use borrow.Author.Tests.{not-true, not-false}
-use Rattle.correction.proofs.CheckNumbers.{checks-fit}
-use Rattle.double.proofs.Answers.{keeps-silent, refuses-far, takes-pair}
+use borrow.Author.Tests.{le-leb, not-true, not-false}
+use Rattle.distance.proofs.Near.{near-self}
+use Rattle.correction.proofs.Tables.{silent-codeword}
+use Rattle.correction.proofs.Readings.{takes, leaves}
+use Rattle.double.proofs.Trials.{pair-near}
+use Rattle.double.proofs.Meaning.{two-meant}
 use Rattle.double.proofs.restore.restore.Statement.{statement}
 use Rattle.double.proofs.restore.restore.Tie as tie
 
--- all checks are in the table
-checks : (s : tie.Start) → s .args .shape .n * s .args .shape .q ≤ 248
-checks s = checks-fit _ (s .pre .0)
-
-mul-is-silent : tie.Need-mul-is-silent
-mul-is-silent c = omega (arith, checks (c .before .before .before .before .before .before))
-
-is-silent-requires : tie.Need-is-silent-requires
-is-silent-requires c κs = checks (c .before .before .before .before .before .before)
-
 returns : tie.Need-returns
 returns c =
-    let a = c .before in
-    let s = a .before .before .before .before .before .before .before in
-    keeps-silent (s .pre .0) (s .pre .1) (s .pre .2) (a .before .before .syndromes .ensures) (sym (a .is-silent .ensures) ∙ c .if1 .taken)
+    let (law, n3, hw) = c .before .before .before .before .before .before .pre in
+    takes two-meant _ law (le-leb 3 _ n3) _ (near-self (silent-codeword law hw (c .before .before .before .syndromes .ensures) (sym (c .before .is-silent .ensures) ∙ c .if1 .taken)))
 
 returns-2 : tie.Need-returns-2
 returns-2 c =
-    let f = c .before .before in
-    let a = f .before .before .before in
-    let s = a .before .before .before .before .before .before .before in
-    refuses-far (s .pre .0) (s .pre .1) (s .pre .2) (a .before .before .syndromes .ensures) (f .find .ensures) (not-true _ (c .if2 .taken))
+    let (law, n3, hw) = c .before .before .before .before .before .before .before .before .before .before .pre in
+    leaves two-meant _ law (le-leb 3 _ n3) _ hw (λ v k. c .before .before .find .ensures .fails (not-true _ (c .if2 .taken)) _ v k (c .before .before .before .before .before .before .before .syndromes .ensures))
 
 returns-3 : tie.Need-returns-3
 returns-3 c =
-    let e = c .before .before .before .before .before in
-    let f = e .before .before in
-    let a = f .before .before .before in
-    let s = a .before .before .before .before .before .before .before in
-    takes-pair (s .pre .0) (s .pre .1) (s .pre .2) (a .before .before .syndromes .ensures) (f .find .ensures) (not-false _ (e .if2 .left)) (c .before .before .before .before .changed .ensures)
-    (c .before .before .take-off .ensures)
+    let (law, n3, hw) = c .before .before .before .before .before .before .before .before .before .before .before .before .before .before .before .pre in
+    rw (c .before .before .before .before .changed .ensures, c .before .before .take-off .ensures)
+    (takes two-meant _ law (le-leb 3 _ n3) _ (pair-near (c .before .before .before .before .before .before .before .find .ensures .proposed) hw (c .before .before .before .before .before .before .before .before .before .before .before .before .syndromes .ensures) (not-false _ (c .before .before .before .before .before .if2 .left))))
 
 pub restore-spec : {M : Type 1} → statement M
-restore-spec = tie.close (tie.spec (λ c. search needs) (λ c. search needs) (λ c κs. search needs) mul-is-silent is-silent-requires (λ c. search needs) returns (λ c κs. search needs) (λ c. search needs) returns-2 (λ c κs. search needs) (λ c κs. search needs) (λ c. search needs) returns-3)
+restore-spec = tie.close (tie.spec (λ c κs. search needs) (λ c κs. search needs) (λ c. search needs) returns (λ c κs. search needs) (λ c. search needs) returns-2 (λ c κs. search needs) (λ c κs. search needs) (λ c. search needs) returns-3)

@@ -26,8 +26,5 @@ returns c =
     raised-stacked _ (st .pre .0) _ _ (eqb-true _ _ (and-left (eqb (s .n) 2) (eqb (slopeOf s 1) 0) flat))
     (eqb-true _ _ (and-right (eqb (s .n) 2) (eqb (slopeOf s 1) 0) flat)) (c .before .before .stack .ensures)
 
-returns-2 : tie.Need-returns-2
-returns-2 c = c .before .before .copy-checks .ensures
-
 pub raise-spec : {M : Type 1} → statement M
-raise-spec = tie.close (tie.spec (λ c κs. search needs) (λ c. search needs) stack-requires (λ c. search needs) returns (λ c κs. search needs) (λ c. search needs) returns-2)
+raise-spec = tie.close (tie.spec (λ c κs. search needs) (λ c. search needs) stack-requires (λ c. search needs) returns (λ c κs. search needs) (λ c. search needs) (λ c. c .before .before .copy-checks .ensures))

@@ -65,8 +65,5 @@ returns-9 c = literal-stack _ _ (c .before .before .before .before .match .keys9
 returns-10 : tie.Need-returns-10
 returns-10 c = literal-stack _ _ (c .before .before .before .before .match .keys10) (c .before .before .stack-by10 .ensures)
 
-returns-11 : tie.Need-returns-11
-returns-11 c = c .before .before .stack-by11 .ensures
-
 pub stack-spec : {M : Type 1} → statement M
-stack-spec = tie.close (tie.spec stack-by-requires stack-by-requires-2 stack-by-requires-3 stack-by-requires-4 stack-by-requires-5 stack-by-requires-6 stack-by-requires-7 stack-by-requires-8 stack-by-requires-9 stack-by-requires-10 (λ c κs. search needs) (λ c. search needs) returns (λ c. search needs) returns-2 (λ c. search needs) returns-3 (λ c. search needs) returns-4 (λ c. search needs) returns-5 (λ c. search needs) returns-6 (λ c. search needs) returns-7 (λ c. search needs) returns-8 (λ c. search needs) returns-9 (λ c. search needs) returns-10 (λ c. search needs) returns-11)
+stack-spec = tie.close (tie.spec stack-by-requires stack-by-requires-2 stack-by-requires-3 stack-by-requires-4 stack-by-requires-5 stack-by-requires-6 stack-by-requires-7 stack-by-requires-8 stack-by-requires-9 stack-by-requires-10 (λ c κs. search needs) (λ c. search needs) returns (λ c. search needs) returns-2 (λ c. search needs) returns-3 (λ c. search needs) returns-4 (λ c. search needs) returns-5 (λ c. search needs) returns-6 (λ c. search needs) returns-7 (λ c. search needs) returns-8 (λ c. search needs) returns-9 (λ c. search needs) returns-10 (λ c. search needs) (λ c. c .before .before .stack-by11 .ensures))

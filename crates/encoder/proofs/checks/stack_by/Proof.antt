@@ -37,13 +37,10 @@ loop-again c =
     let l = turn .before .before .before .loop in
     (omega arith, omega arith, stacking-more _ _ _ _ _ (l .inv .0) (l .inv .2) (turn .join-run .ensures))
 
-same-length : tie.Need-same-length Inv-loop μ-loop
-same-length c = c .before .loop .inv .2 .size
-
 returns : tie.Need-returns Inv-loop μ-loop
 returns c =
     let e : c .before .loop .r ≡ c .before .before .before .args .q = omega arith in
     rw e at (c .before .loop .inv .2)
 
 pub stack-by-spec : {M : Type 1} → statement M
-stack-by-spec = tie.close (tie.spec Inv-loop μ-loop loop-holds mul-join-run join-run-requires (λ c. search needs) (λ c. search needs) loop-again same-length returns)
+stack-by-spec = tie.close (tie.spec Inv-loop μ-loop loop-holds mul-join-run join-run-requires (λ c. search needs) (λ c. search needs) loop-again (λ c. c .before .loop .inv .2 .size) returns)

@@ -23,14 +23,17 @@ walk-requires c κs =
     let f = at-start st in
     (f .low, f .high, c .before .add-mod .ensures .1, f .root-fits, f .row-fits′, both _ _ _ (st .pre .value .cyclic) (st .pre .root .cyclic))
 
+abbrev start : tie.After-walked → tie.Start
+start c = c .before .before .before .before .before .before .before .before
+
 run-sum-requires : tie.Need-run-sum-requires
-run-sum-requires c κs = let f = at-start (c .before .before .before .before .before .before .before .before) in omega (arith, c .before .walk .ensures .size)
+run-sum-requires c κs = let f = at-start (start c) in omega (arith, c .before .walk .ensures .size)
 
 mul-store-row : tie.Need-mul-store-row
-mul-store-row c = let f = at-start (c .before .before .before .before .before .before .before .before .before .before .before) in omega arith
+mul-store-row c = let f = at-start (start (c .before .before .before)) in omega arith
 
 store-row-requires : tie.Need-store-row-requires
-store-row-requires c κs = let f = at-start (c .before .before .before .before .before .before .before .before .before .before .before) in omega (arith, c .before .before .before .before .walk .ensures .size)
+store-row-requires c κs = let f = at-start (start (c .before .before .before)) in omega (arith, c .before .before .before .before .walk .ensures .size)
 
 returns : tie.Need-returns
 returns c =

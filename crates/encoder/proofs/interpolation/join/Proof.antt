@@ -36,9 +36,6 @@ fit c =
     let size : length (l .word) ≡ wordLength (st .args .shape) = l .inv .2 .size ∙ st .pre .1 in
     (omega arith, omega arith)
 
-mul-join-row : tie.Need-mul-join-row Inv-loop μ-loop
-mul-join-row c = omega (arith, fit (c .before))
-
 join-row-requires : tie.Need-join-row-requires Inv-loop μ-loop
 join-row-requires c κs =
     let st = start (c .before) in
@@ -61,4 +58,4 @@ returns c =
     rw (shift .shift .ensures, e) at (l .inv .2)
 
 pub join-spec : {M : Type 1} → statement M
-join-spec = tie.close (tie.spec Inv-loop μ-loop (λ c. search needs) (λ c. search needs) (λ c. search needs) (λ c κs. search needs) loop-holds mul-join-row join-row-requires (λ c. search needs) (λ c. search needs) loop-again (λ c. search needs) returns)
+join-spec = tie.close (tie.spec Inv-loop μ-loop (λ c. search needs) (λ c. search needs) (λ c. search needs) (λ c κs. search needs) loop-holds (λ c. omega (arith, fit (c .before))) join-row-requires (λ c. search needs) (λ c. search needs) loop-again (λ c. search needs) returns)

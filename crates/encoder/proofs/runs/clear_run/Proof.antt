@@ -15,9 +15,6 @@ Inv-loop word₀ count i₀ word i = (i ≤ count) × Written 0 i (λ j. 0) word
 abbrev μ-loop : tie.MeasureT-loop
 μ-loop word₀ count i₀ word i = count - i
 
-loop-holds : tie.Need-loop-holds Inv-loop μ-loop
-loop-holds c = (search needs, written-none _ _ _)
-
 loop-again : tie.Need-loop-again Inv-loop μ-loop
 loop-again c =
     let l = c .before .loop in
@@ -27,4 +24,4 @@ returns : tie.Need-returns Inv-loop μ-loop
 returns c = written-end (c .before .loop .inv .1) (omega arith)
 
 pub clear-run-spec : {M : Type 1} → statement M
-clear-run-spec = tie.close (tie.spec Inv-loop μ-loop loop-holds (λ c. search needs) (λ c. search needs) (λ c. search needs) (λ c. search needs) loop-again (λ c. search needs) returns)
+clear-run-spec = tie.close (tie.spec Inv-loop μ-loop (λ c. (search needs, written-none _ _ _)) (λ c. search needs) (λ c. search needs) (λ c. search needs) (λ c. search needs) loop-again (λ c. search needs) returns)

@@ -36,15 +36,6 @@ inside c = omega (arith, c .before .before .before .before .pre .0)
 cast-j : tie.Need-cast-j Inv-loop μ-loop
 cast-j c = omega (arith, c .shared-slice-known2 .given (c .before .before .loop .k))
 
-mul-word : tie.Need-mul-word Inv-loop μ-loop
-mul-word c = omega (arith, inside (c .before))
-
-element-copy-out-word : tie.Need-element-copy-out-word Inv-loop μ-loop
-element-copy-out-word c = inside (c .before)
-
-mul-word-2 : tie.Need-mul-word-2 Inv-loop μ-loop
-mul-word-2 c = omega (arith, place (c .before .before))
-
 slice-read-word : tie.Need-slice-read-word Inv-loop μ-loop
 slice-read-word c = rw (c .before .before .before .before .loop .inv .2 .word .size) (place (c .before .before .before))
 
@@ -53,9 +44,6 @@ slice-write-word c = rw (c .before .before .before .before .loop .inv .2 .word .
 
 mul-changes-one : tie.Need-mul-changes-one Inv-loop μ-loop
 mul-changes-one c = omega (arith, inside (c .before .before .before))
-
-element-copy-out-changes-one : tie.Need-element-copy-out-changes-one Inv-loop μ-loop
-element-copy-out-changes-one c = inside (c .before .before .before)
 
 add-changed : tie.Need-add-changed Inv-loop μ-loop
 add-changed c =
@@ -77,11 +65,8 @@ loop-again c =
       },
     )
 
-same-length : tie.Need-same-length Inv-loop μ-loop
-same-length c = c .before .loop .inv .2 .word .size
-
 returns : tie.Need-returns Inv-loop μ-loop
 returns c = rw (le-antisymm (c .before .loop .inv .1) (search needs)) at (c .before .loop .inv .2)
 
 pub apply-spec : {M : Type 1} → statement M
-apply-spec = tie.close (tie.spec Inv-loop μ-loop loop-holds (λ c. search needs) (λ c. search needs) cast-j mul-word element-copy-out-word mul-word-2 slice-read-word slice-write-word mul-changes-one element-copy-out-changes-one (λ c κs. search needs) add-changed (λ c. search needs) (λ c. search needs) loop-again same-length returns)
+apply-spec = tie.close (tie.spec Inv-loop μ-loop loop-holds (λ c. search needs) (λ c. search needs) cast-j (λ c. omega (arith, inside (c .before))) (λ c. inside (c .before)) (λ c. omega (arith, place (c .before .before))) slice-read-word slice-write-word mul-changes-one (λ c. inside (c .before .before .before)) (λ c κs. search needs) add-changed (λ c. search needs) (λ c. search needs) loop-again (λ c. c .before .loop .inv .2 .word .size) returns)

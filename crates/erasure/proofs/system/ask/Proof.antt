@@ -33,21 +33,6 @@ check c =
     let s = c .before .before .before .before in
     rw (c .kept-check .ensures) (kept-fits (s .args .shape) (s .pre .0) (c .before .before .loop .i) (below (c .before)))
 
-kept-check-requires : tie.Need-kept-check-requires Inv-loop μ-loop
-kept-check-requires c κs = (c .before .before .before .pre .0, below c)
-
-mul-values : tie.Need-mul-values Inv-loop μ-loop
-mul-values c = omega (arith, check c)
-
-element-copy-out-values : tie.Need-element-copy-out-values Inv-loop μ-loop
-element-copy-out-values c = check c
-
-mul-values-2 : tie.Need-mul-values-2 Inv-loop μ-loop
-mul-values-2 c = omega (arith, inside (c .before .before))
-
-element-write-values : tie.Need-element-write-values Inv-loop μ-loop
-element-write-values c = inside (c .before .before)
-
 loop-again : tie.Need-loop-again Inv-loop μ-loop
 loop-again c =
     let k = c .before in
@@ -60,4 +45,4 @@ returns c =
     rw (l .inv .1) at (rw (le-antisymm (l .inv .0) (c .loop-test .left)) at (l .inv .2))
 
 pub ask-spec : {M : Type 1} → statement M
-ask-spec = tie.close (tie.spec Inv-loop μ-loop (λ c κs. search needs) loop-holds kept-check-requires mul-values element-copy-out-values mul-values-2 element-write-values (λ c. search needs) (λ c. search needs) loop-again returns)
+ask-spec = tie.close (tie.spec Inv-loop μ-loop (λ c κs. search needs) loop-holds (λ c κs. (c .before .before .before .pre .0, below c)) (λ c. omega (arith, check c)) (λ c. check c) (λ c. omega (arith, inside (c .before .before))) (λ c. inside (c .before .before)) (λ c. search needs) (λ c. search needs) loop-again returns)

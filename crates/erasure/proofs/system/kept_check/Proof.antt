@@ -29,29 +29,5 @@ module _ (c : tie.Else1) where
   small : (i - 1) / (q - 1) * q + (i - 1) % (q - 1) < 248
   small = omega (arith, number, kept-fits (c .before .before .args .shape) (c .before .before .pre .0) i (c .before .before .pre .1))
 
-sub-others : tie.Need-sub-others
-sub-others c = omega (arith, order c)
-
-sub-t : tie.Need-sub-t
-sub-t c = omega (arith, order c)
-
-div-t : tie.Need-div-t
-div-t c = omega (arith, order c)
-
-mul-result : tie.Need-mul-result
-mul-result c = omega (arith, small c)
-
-sub-result : tie.Need-sub-result
-sub-result c = omega (arith, order c)
-
-rem-result : tie.Need-rem-result
-rem-result c = omega (arith, order c)
-
-add-result : tie.Need-add-result
-add-result c = omega (arith, small c)
-
-returns-2 : tie.Need-returns-2
-returns-2 c = number c
-
 pub kept-check-spec : {M : Type 1} → statement M
-kept-check-spec = tie.close (tie.spec (λ c. search needs) returns sub-others sub-t div-t mul-result sub-result rem-result add-result returns-2)
+kept-check-spec = tie.close (tie.spec (λ c. search needs) returns (λ c. omega (arith, order c)) (λ c. omega (arith, order c)) (λ c. omega (arith, order c)) (λ c. omega (arith, small c)) (λ c. omega (arith, order c)) (λ c. omega (arith, order c)) (λ c. omega (arith, small c)) (λ c. number c))

@@ -17,21 +17,6 @@ use Rattle.erasure.proofs.system.mark.Tie as tie
 inside : (c : tie.Start) → c .args .row * c .args .width + c .args .k / 32 < length (c .args .scratch .now)
 inside c = cell-inside (c .args .width) (c .args .rows) (c .args .row) (c .args .k) (length (c .args .scratch .now)) (c .pre .0) (c .pre .1) (c .pre .2)
 
-mul-scratch : tie.Need-mul-scratch
-mul-scratch c = omega (arith, inside c)
-
-add-scratch : tie.Need-add-scratch
-add-scratch c = omega (arith, inside c)
-
-mul-scratch-2 : tie.Need-mul-scratch-2
-mul-scratch-2 c = omega (arith, inside c)
-
-slice-read-scratch : tie.Need-slice-read-scratch
-slice-read-scratch c = inside (c .before)
-
-slice-write-scratch : tie.Need-slice-write-scratch
-slice-write-scratch c = inside (c .before)
-
 returns : tie.Need-returns
 unfolding _⊕_
 returns c =
@@ -41,4 +26,4 @@ returns c =
     (sym (one-shifted (a .k % 32) (omega arith))) (flipped-one (a .width) (a .scratch .now) (a .row) (a .k) (s .pre .1) (a .rows) (inside s))
 
 pub mark-spec : {M : Type 1} → statement M
-mark-spec = tie.close (tie.spec (λ c. search needs) (λ c. search needs) mul-scratch add-scratch mul-scratch-2 slice-read-scratch slice-write-scratch (λ c. search needs) returns)
+mark-spec = tie.close (tie.spec (λ c. search needs) (λ c. search needs) (λ c. omega (arith, inside c)) (λ c. omega (arith, inside c)) (λ c. omega (arith, inside c)) (λ c. inside (c .before)) (λ c. inside (c .before)) (λ c. search needs) returns)

@@ -30,9 +30,6 @@ loop-again c =
     let a = l .before .before .before .args in
     (search needs, directions-more (a .shape) (a .k) (a .j) (l .loop .t) (l .loop .inv .1) (m .mark-check .ensures))
 
-same-length : tie.Need-same-length Inv-loop μ-loop
-same-length c = c .before .loop .inv .1 .size
-
 returns : tie.Need-returns Inv-loop μ-loop
 returns c =
     let l = c .before in
@@ -40,4 +37,4 @@ returns c =
     directions-all (s .args .shape) (s .args .k) (s .args .j) (s .pre .0) (rw (le-antisymm (l .loop .inv .0) (c .loop-test .left)) at (l .loop .inv .1))
 
 pub mark-place-spec : {M : Type 1} → statement M
-mark-place-spec = tie.close (tie.spec Inv-loop μ-loop (λ c. search needs) loop-holds mark-check-requires (λ c. search needs) (λ c. search needs) loop-again same-length returns)
+mark-place-spec = tie.close (tie.spec Inv-loop μ-loop (λ c. search needs) loop-holds mark-check-requires (λ c. search needs) (λ c. search needs) loop-again (λ c. c .before .loop .inv .1 .size) returns)

@@ -42,11 +42,8 @@ loop-again c =
     let a = l .before .before .before .args in
     (search needs, search needs, places-more (a .shape) (a .places .now) (l .loop .k) (l .loop .inv .2) (m .mark-place .ensures))
 
-same-length : tie.Need-same-length Inv-loop μ-loop
-same-length c = c .before .loop .inv .2 .size
-
 returns : tie.Need-returns Inv-loop μ-loop
 returns c = rw (le-antisymm (c .before .loop .inv .1) (search needs)) at (c .before .loop .inv .2)
 
 pub mark-places-spec : {M : Type 1} → statement M
-mark-places-spec = tie.close (tie.spec Inv-loop μ-loop loop-holds (λ c. search needs) (λ c. search needs) cast-j mark-place-requires (λ c. search needs) (λ c. search needs) loop-again same-length returns)
+mark-places-spec = tie.close (tie.spec Inv-loop μ-loop loop-holds (λ c. search needs) (λ c. search needs) cast-j mark-place-requires (λ c. search needs) (λ c. search needs) loop-again (λ c. c .before .loop .inv .2 .size) returns)

@@ -24,23 +24,11 @@ module _ (c : tie.Else1) where
   turned : (c .before .before .before .args .t + 1) * c .before .before .before .args .shape .q ≤ 248
   turned = let s = c .before .before .before in turn-small (s .args .shape) (s .pre .0) (s .args .t) (s .pre .1)
 
-add-if2 : tie.Need-add-if2
-add-if2 c = omega (arith, inside c)
-
-mul-if2 : tie.Need-mul-if2
-mul-if2 c = omega (arith, turned c)
-
 returns-2 : tie.Need-returns-2
 returns-2 c =
     let n = c .before .before in
     let s = n .before .before in
     numbered-none (s .args .shape) (s .pre .0) (s .args .t) (s .args .j) (s .pre .1) (s .pre .2) (c .before .if1 .left) (rw (n .check-number .ensures) at (c .if2 .taken))
-
-add-result : tie.Need-add-result
-add-result c = omega (arith, inside (c .before))
-
-sub-result : tie.Need-sub-result
-sub-result c = omega (arith, above (c .before))
 
 returns-3 : tie.Need-returns-3
 returns-3 c =
@@ -49,4 +37,4 @@ returns-3 c =
     rw (n .check-number .ensures) (numbered-later (s .args .shape) (s .pre .0) (s .args .t) (s .args .j) (s .pre .1) (s .pre .2) (c .before .if1 .left) (rw (n .check-number .ensures) at (c .if2 .left)))
 
 pub row-of-spec : {M : Type 1} → statement M
-row-of-spec = tie.close (tie.spec (λ c. search needs) (λ c κs. search needs) returns add-if2 (λ c. search needs) mul-if2 returns-2 add-result sub-result returns-3)
+row-of-spec = tie.close (tie.spec (λ c. search needs) (λ c κs. search needs) returns (λ c. omega (arith, inside c)) (λ c. search needs) (λ c. omega (arith, turned c)) returns-2 (λ c. omega (arith, inside (c .before))) (λ c. omega (arith, above (c .before))) returns-3)

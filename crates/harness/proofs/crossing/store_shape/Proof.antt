@@ -14,12 +14,6 @@ use Rattle.harness.proofs.crossing.store_shape.Tie as tie
 fit : (c : tie.After-slopes2) → 3 ≤ length (headed (c .before .before .before .args .values .now) (c .before .before .before .args .shape))
 fit c = omega (arith, headed-size (c .before .before .before .args .values .now) (c .before .before .before .args .shape))
 
-sub-copy : tie.Need-sub-copy
-sub-copy c = fit c
-
-part-copy-start : tie.Need-part-copy-start
-part-copy-start c = fit c
-
 copy-requires : tie.Need-copy-requires
 copy-requires c κs =
     let start = c .before .before .before .before in
@@ -40,4 +34,4 @@ returns c =
     shape-stored (start .args .values .now) s (start .pre) (slopes-size (s .slopes) _ (start .good .0 .1 .1 .1 .1 .1 .0)) (c .before .before .copy .ensures)
 
 pub store-shape-spec : {M : Type 1} → statement M
-store-shape-spec = tie.close (tie.spec (λ c. search needs) (λ c. search needs) (λ c. search needs) (λ c. search needs) sub-copy part-copy-start (λ c. search needs) copy-requires same-length returns)
+store-shape-spec = tie.close (tie.spec (λ c. search needs) (λ c. search needs) (λ c. search needs) (λ c. search needs) (λ c. fit c) (λ c. fit c) (λ c. search needs) copy-requires same-length returns)

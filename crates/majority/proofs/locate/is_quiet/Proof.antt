@@ -27,12 +27,6 @@ loop-holds c =
 inside : (c : tie.In-loop Inv-loop μ-loop) → c .before .loop .t < 8
 inside c = omega (arith, bounds (c .before .before .before .before .args .shape) (c .before .before .before .before .pre .0) .n8)
 
-mul-add-mod : tie.Need-mul-add-mod Inv-loop μ-loop
-mul-add-mod c = omega (arith, inside c)
-
-element-copy-out-add-mod : tie.Need-element-copy-out-add-mod Inv-loop μ-loop
-element-copy-out-add-mod c = inside c
-
 add-mod-requires : tie.Need-add-mod-requires Inv-loop μ-loop
 add-mod-requires c κs =
     let s = c .before .before .before .before .before in
@@ -44,18 +38,6 @@ check : (c : tie.After-add-mod Inv-loop μ-loop) → c .before .before .before .
 check c =
     let s = c .before .before .before .before .before .before in
     check-lt (s .args .shape) (s .pre .0) (c .before .before .before .loop .t) (c .add-mod .result) (c .before .before .loop-test .taken) (c .add-mod .ensures .1)
-
-mul-hit : tie.Need-mul-hit Inv-loop μ-loop
-mul-hit c = omega (arith, check c)
-
-add-hit : tie.Need-add-hit Inv-loop μ-loop
-add-hit c = omega (arith, check c)
-
-mul-hit-2 : tie.Need-mul-hit-2 Inv-loop μ-loop
-mul-hit-2 c = omega (arith, check c)
-
-element-copy-out-hit : tie.Need-element-copy-out-hit Inv-loop μ-loop
-element-copy-out-hit c = check c
 
 -- one check more
 module _ (c : tie.After-hit Inv-loop μ-loop) where
@@ -71,12 +53,6 @@ module _ (c : tie.After-hit Inv-loop μ-loop) where
   small : loop .loop .silent + c .hit .result ≤ 8
   small = omega (arith, next, shows-le (loop .loop .t + 1) (seen (start .args .shape .q) (start .args .syn .now) (start .args .shifts .now) (start .args .row) (start .args .column)) 0, inside (c .before .before .before .before))
 
-add-silent : tie.Need-add-silent Inv-loop μ-loop
-add-silent c = omega (arith, small c)
-
-mul-if1 : tie.Need-mul-if1 Inv-loop μ-loop
-mul-if1 c = omega (arith, small c)
-
 returns : tie.Need-returns Inv-loop μ-loop
 returns c = λ _.
     let l = loop (c .before) in
@@ -86,8 +62,5 @@ returns c = λ _.
 loop-again : tie.Need-loop-again Inv-loop μ-loop
 loop-again c = (search needs, search needs, next (c .before))
 
-returns-2 : tie.Need-returns-2 Inv-loop μ-loop
-returns-2 c = λ e. absurd (clash e refl)
-
 pub is-quiet-spec : {M : Type 1} → statement M
-is-quiet-spec = tie.close (tie.spec Inv-loop μ-loop (λ c. search needs) (λ c. search needs) loop-holds mul-add-mod element-copy-out-add-mod add-mod-requires mul-hit add-hit mul-hit-2 element-copy-out-hit (λ c κs. search needs) add-silent mul-if1 returns (λ c. search needs) (λ c. search needs) loop-again returns-2)
+is-quiet-spec = tie.close (tie.spec Inv-loop μ-loop (λ c. search needs) (λ c. search needs) loop-holds (λ c. omega (arith, inside c)) (λ c. inside c) add-mod-requires (λ c. omega (arith, check c)) (λ c. omega (arith, check c)) (λ c. omega (arith, check c)) (λ c. check c) (λ c κs. search needs) (λ c. omega (arith, small c)) (λ c. omega (arith, small c)) returns (λ c. search needs) (λ c. search needs) loop-again (λ c. λ e. absurd (clash e refl)))

@@ -21,12 +21,6 @@ place c =
     let s = c .before .before .before in
     lt-of-lt-of-le (in-word (s .args .shape) (s .pre .3) (s .pre .4)) (square-le (s .args .shape .q) (bounds (s .args .shape) (s .pre .0) .q31))
 
-mul-j : tie.Need-mul-j
-mul-j c = omega (arith, place c)
-
-add-j : tie.Need-add-j
-add-j c = omega (arith, place c)
-
 vote-requires : tie.Need-vote-requires
 vote-requires c κs = let s = c .before .before .before in (s .pre .0, in-word (s .args .shape) (s .pre .3) (s .pre .4))
 
@@ -37,17 +31,8 @@ returns-2 c = record { next = λ p same. listed-skip (same ∙ stays _ _ _ (sym 
 room : (c : tie.Else2) → c .before .before .before .before .before .args .count < 8
 room c = let s = c .before .before .before .before .before in omega (arith, bounds (s .args .shape) (s .pre .0) .n8, s .pre .5)
 
-mul-places : tie.Need-mul-places
-mul-places c = omega (arith, room c)
-
-element-write-places : tie.Need-element-write-places
-element-write-places c = room c
-
-add-result : tie.Need-add-result
-add-result c = omega (arith, room c)
-
 returns-3 : tie.Need-returns-3
 returns-3 c = record { next = λ p same. listed-keep (same ∙ changes-there _ _ _ (λ z. c .if2 .left (c .before .vote .ensures ∙ z))) (room c) }
 
 pub keep-spec : {M : Type 1} → statement M
-keep-spec = tie.close (tie.spec (λ c. search needs) (λ c κs. search needs) returns mul-j add-j vote-requires returns-2 mul-places element-write-places add-result returns-3)
+keep-spec = tie.close (tie.spec (λ c. search needs) (λ c κs. search needs) returns (λ c. omega (arith, place c)) (λ c. omega (arith, place c)) vote-requires returns-2 (λ c. omega (arith, room c)) (λ c. room c) (λ c. omega (arith, room c)) returns-3)

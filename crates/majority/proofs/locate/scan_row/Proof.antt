@@ -25,12 +25,6 @@ add-limit c = omega (arith, bounds _ (c .before .before .pre .0) .n8)
 inside : (c : tie.After-struct-known2 Inv-loop μ-loop) → c .before .before .args .row < 248
 inside c = let s = c .before .before in omega (arith, bounds (s .args .shape) (s .pre .0) .q31, s .pre .1)
 
-mul-value : tie.Need-mul-value Inv-loop μ-loop
-mul-value c = omega (arith, inside c)
-
-element-copy-out-value : tie.Need-element-copy-out-value Inv-loop μ-loop
-element-copy-out-value c = inside c
-
 returns : tie.Need-returns Inv-loop μ-loop
 returns c =
     let s = c .before .before .before .before .before in
@@ -81,4 +75,4 @@ returns-3 : tie.Need-returns-3 Inv-loop μ-loop
 returns-3 c = scanned-few (c .before .loop .inv .1) (rw (le-antisymm (c .before .loop .inv .0) (c .loop-test .left)) at (c .before .loop .inv .2))
 
 pub scan-row-spec : {M : Type 1} → statement M
-scan-row-spec = tie.close (tie.spec Inv-loop μ-loop (λ c. search needs) (λ c. search needs) add-limit mul-value element-copy-out-value (λ c κs. search needs) returns (λ c κs. search needs) (λ c κs. search needs) loop-holds keep-requires returns-2 (λ c. search needs) (λ c. search needs) loop-again returns-3)
+scan-row-spec = tie.close (tie.spec Inv-loop μ-loop (λ c. search needs) (λ c. search needs) add-limit (λ c. omega (arith, inside c)) (λ c. inside c) (λ c κs. search needs) returns (λ c κs. search needs) (λ c κs. search needs) loop-holds keep-requires returns-2 (λ c. search needs) (λ c. search needs) loop-again returns-3)

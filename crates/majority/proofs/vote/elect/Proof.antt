@@ -15,18 +15,9 @@ Inv-loop values n t₀ t = (t ≤ n) × Failed n (at values) t
 abbrev μ-loop : tie.MeasureT-loop
 μ-loop values n t₀ t = n - t
 
-loop-holds : tie.Need-loop-holds Inv-loop μ-loop
-loop-holds c = (search needs, failed-none _ _)
-
 -- the value is in the list
 inside : (c : tie.In-loop Inv-loop μ-loop) → c .before .loop .t < 8
 inside c = omega (arith, c .before .before .pre)
-
-mul-value : tie.Need-mul-value Inv-loop μ-loop
-mul-value c = omega (arith, inside c)
-
-element-copy-out-value : tie.Need-element-copy-out-value Inv-loop μ-loop
-element-copy-out-value c = inside c
 
 returns : tie.Need-returns Inv-loop μ-loop
 returns c =
@@ -40,4 +31,4 @@ returns-2 : tie.Need-returns-2 Inv-loop μ-loop
 returns-2 c = elects-none (rw (le-antisymm (c .before .loop .inv .0) (c .loop-test .left)) at (c .before .loop .inv .1))
 
 pub elect-spec : {M : Type 1} → statement M
-elect-spec = tie.close (tie.spec Inv-loop μ-loop loop-holds mul-value element-copy-out-value (λ c κs. search needs) returns (λ c. search needs) (λ c. search needs) loop-again returns-2)
+elect-spec = tie.close (tie.spec Inv-loop μ-loop (λ c. (search needs, failed-none _ _)) (λ c. omega (arith, inside c)) (λ c. inside c) (λ c κs. search needs) returns (λ c. search needs) (λ c. search needs) loop-again returns-2)

@@ -1,23 +1,22 @@
 -- `majority::vote::gather` meets its contract. The loop's invariant is the contract for the first t checks.
+use mathlib.Core.Path.{refl}
 use Prim.Native.Nat.{_-_, _<_, _≤_}
 use native.Mathlib.Nat.{le-antisymm}
 use native.Mathlib.Omega.{arith}
 use borrow.Author.Needs.{needs}
 use Rattle.gtb.proofs.Bounds.{bounds}
 use Rattle.correction.proofs.CheckNumbers.{check-fits}
-use Rattle.majority.specs.Steps.{Gathered}
-use Rattle.majority.proofs.Table.{gathered-none, gathered-more}
+use Rattle.correction.specs.Steps.{Gathered}
+use Rattle.correction.proofs.Listing.{gathered-none, gathered-more}
+use Rattle.majority.specs.Steps.{checkIn}
 use Rattle.majority.proofs.vote.gather.Statement.{statement}
 use Rattle.majority.proofs.vote.gather.Tie as tie
 
 abbrev Inv-loop : tie.InvT-loop
-Inv-loop shape syn j n values₀ t₀ values t = (t ≤ n) × Gathered shape syn j t values
+Inv-loop shape syn j n values₀ t₀ values t = (t ≤ n) × Gathered 8 (checkIn shape syn j) t values
 
 abbrev μ-loop : tie.MeasureT-loop
 μ-loop shape syn j n values₀ t₀ values t = n - t
-
-loop-holds : tie.Need-loop-holds Inv-loop μ-loop
-loop-holds c = (search needs, gathered-none _ _ _)
 
 -- the check is in the table, and the direction in the list
 inside : (c : tie.After-check-number Inv-loop μ-loop) → c .check-number .result < 248
@@ -28,18 +27,6 @@ inside c =
 room : (c : tie.After-check-number Inv-loop μ-loop) → c .before .before .loop .t < 8
 room c = omega (arith, bounds (c .before .before .before .before .args .shape) (c .before .before .before .before .pre .0) .n8)
 
-mul-values : tie.Need-mul-values Inv-loop μ-loop
-mul-values c = omega (arith, inside c)
-
-element-copy-out-values : tie.Need-element-copy-out-values Inv-loop μ-loop
-element-copy-out-values c = inside c
-
-mul-values-2 : tie.Need-mul-values-2 Inv-loop μ-loop
-mul-values-2 c = omega (arith, room (c .before))
-
-array-write-values : tie.Need-array-write-values Inv-loop μ-loop
-array-write-values c = room (c .before)
-
 loop-again : tie.Need-loop-again Inv-loop μ-loop
 loop-again c = (search needs, gathered-more _ (room (c .before)) (rw (c .before .check-number .ensures)) (c .before .before .before .loop .inv .1))
 
@@ -47,4 +34,4 @@ returns : tie.Need-returns Inv-loop μ-loop
 returns c = rw (le-antisymm (c .before .loop .inv .0) (c .loop-test .left)) at (c .before .loop .inv .1)
 
 pub gather-spec : {M : Type 1} → statement M
-gather-spec = tie.close (tie.spec Inv-loop μ-loop (λ c. search needs) loop-holds (λ c κs. search needs) mul-values element-copy-out-values mul-values-2 array-write-values (λ c. search needs) (λ c. search needs) loop-again returns)
+gather-spec = tie.close (tie.spec Inv-loop μ-loop (λ c. search needs) (λ c. (search needs, gathered-none _ _ _ refl)) (λ c κs. search needs) (λ c. omega (arith, inside c)) (λ c. inside c) (λ c. omega (arith, room (c .before))) (λ c. room (c .before)) (λ c. search needs) (λ c. search needs) loop-again returns)

@@ -1,6 +1,5 @@
 -- `majority::vote::hit` meets its contract.
 use mathlib.Core.Path.{sym, ap}
-use borrow.Author.Needs.{needs}
 use borrow.Author.Tests.{eq-eqb, ne-eqb}
 use Rattle.parity.specs.Count.{bit}
 use Rattle.majority.proofs.vote.hit.Statement.{statement}

@@ -1,14 +1,10 @@
 -- `majority::vote::prevails` meets its contract.
-use mathlib.Core.Path.{_≡_}
 use native.Mathlib.Omega.{arith}
 use borrow.Author.Needs.{needs}
 use Rattle.gtb.specs.Square.{at}
 use Rattle.majority.proofs.Table.{shows-le, no-zero, by-number}
 use Rattle.majority.proofs.vote.prevails.Statement.{statement}
 use Rattle.majority.proofs.vote.prevails.Tie as tie
-
-returns : tie.Need-returns
-returns c = no-zero _ _ _ (c .if1 .taken)
 
 mul-result : tie.Need-mul-result
 mul-result c =
@@ -19,4 +15,4 @@ returns-2 : tie.Need-returns-2
 returns-2 c = by-number _ _ _ _ (c .before .if1 .left) (c .shown .ensures)
 
 pub prevails-spec : {M : Type 1} → statement M
-prevails-spec = tie.close (tie.spec returns (λ c κs. search needs) mul-result returns-2)
+prevails-spec = tie.close (tie.spec (λ c. no-zero _ _ _ (c .if1 .taken)) (λ c κs. search needs) mul-result returns-2)

@@ -16,18 +16,9 @@ Inv-loop values n x count₀ t₀ count t = (t ≤ n) × (count ≡ shows t (at 
 abbrev μ-loop : tie.MeasureT-loop
 μ-loop values n x count₀ t₀ count t = n - t
 
-loop-holds : tie.Need-loop-holds Inv-loop μ-loop
-loop-holds c = (search needs, shows-zero _ _)
-
 -- the value is in the list
 inside : (c : tie.In-loop Inv-loop μ-loop) → c .before .loop .t < 8
 inside c = omega (arith, c .before .before .pre)
-
-mul-hit : tie.Need-mul-hit Inv-loop μ-loop
-mul-hit c = omega (arith, inside c)
-
-element-copy-out-hit : tie.Need-element-copy-out-hit Inv-loop μ-loop
-element-copy-out-hit c = inside c
 
 -- one more
 next : (c : tie.After-hit Inv-loop μ-loop) → c .before .before .before .loop .count + c .hit .result ≡ shows (c .before .before .before .loop .t + 1) (at (c .before .before .before .before .args .values .now)) (c .before .before .before .before .args .x)
@@ -36,11 +27,8 @@ next c = shows-more _ _ _ (c .before .before .before .loop .inv .1) (c .hit .ens
 add-count : tie.Need-add-count Inv-loop μ-loop
 add-count c = omega (arith, next c, shows-le (c .before .before .before .loop .t + 1) (at (c .before .before .before .before .args .values .now)) (c .before .before .before .before .args .x), inside (c .before .before))
 
-loop-again : tie.Need-loop-again Inv-loop μ-loop
-loop-again c = (search needs, next c)
-
 returns : tie.Need-returns Inv-loop μ-loop
 returns c = rw (le-antisymm (c .before .loop .inv .0) (c .loop-test .left)) at (c .before .loop .inv .1)
 
 pub shown-spec : {M : Type 1} → statement M
-shown-spec = tie.close (tie.spec Inv-loop μ-loop loop-holds mul-hit element-copy-out-hit (λ c κs. search needs) add-count (λ c. search needs) (λ c. search needs) loop-again returns)
+shown-spec = tie.close (tie.spec Inv-loop μ-loop (λ c. (search needs, shows-zero _ _)) (λ c. omega (arith, inside c)) (λ c. inside c) (λ c κs. search needs) add-count (λ c. search needs) (λ c. search needs) (λ c. (search needs, next c)) returns)

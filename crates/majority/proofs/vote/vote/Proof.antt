@@ -10,7 +10,7 @@ elect-requires : tie.Need-elect-requires
 elect-requires c κs = bounds _ (c .before .before .before .pre .0) .n8
 
 returns : tie.Need-returns
-returns c = c .elect .ensures ∙ gathered-vote (c .before .before .gather .ensures)
+returns c = c .elect .ensures ∙ gathered-vote _ _ _ (c .before .before .gather .ensures)
 
 pub vote-spec : {M : Type 1} → statement M
 vote-spec = tie.close (tie.spec (λ c. search needs) (λ c κs. search needs) elect-requires returns)

@@ -13,9 +13,6 @@ use Rattle.session.proofs.Settle.{settle-again, settle-overflow, settle
 use Rattle.session.proofs.Session.settled.Statement.{statement}
 use Rattle.session.proofs.Session.settled.Tie as tie
 
-returns : tie.Need-returns
-returns c = settle-again (c .if1 .taken)
-
 -- the place where the function begins
 abbrev entry : tie.Else1 → tie.Start
 entry c = c .before .before .before .before
@@ -61,4 +58,4 @@ returns-3 c =
     (not-true _ (sym (added .add-marks .ensures .fits) ∙ ok)) (cc (added .add-marks .ensures .sums ok, number, c .before .lowest-from .ensures), refl)
 
 pub settled-spec : {M : Type 1} → statement M
-settled-spec = tie.close (tie.spec (λ c. search needs) returns add-marks-requires (λ c κs. search needs) returns-2 (λ c. search needs) lowest-from-requires add-t22 returns-3)
+settled-spec = tie.close (tie.spec (λ c. search needs) (λ c. settle-again (c .if1 .taken)) add-marks-requires (λ c κs. search needs) returns-2 (λ c. search needs) lowest-from-requires add-t22 returns-3)

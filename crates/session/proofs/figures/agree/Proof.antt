@@ -23,9 +23,6 @@ returns c = pages-differ (c .before .before .args .taken .now) _ _ (λ e. c .if1
 returns-2 : tie.Need-returns-2
 returns-2 c = lowest-differs (c .before .before .before .args .taken .now) _ _ (λ e. omega (arith, e, c .if2 .taken, lowest-facts (c .before .before .before .args .taken .now) .upto))
 
-marked-below-requires-2 : tie.Need-marked-below-requires-2
-marked-below-requires-2 c κs = c .if2 .left
-
 returns-3 : tie.Need-returns-3
 returns-3 c = lowest-differs (c .before .before .before .before .before .args .taken .now) _ _ (λ e. c .if3 .taken (c .before .marked-below2 .ensures ∙ lowest-full (c .before .before .before .before .before .args .taken .now) _ e))
 
@@ -38,9 +35,6 @@ full c = sym (c .before .marked-below2 .ensures) ∙ c .if3 .left
 below : (c : tie.Else4) → c .before .before .before .before .before .before .args .lowest < 1024
 below c = omega (arith, c .before .before .before .if2 .left, c .if4 .left)
 
-element-copy-out-result : tie.Need-element-copy-out-result
-element-copy-out-result c = below c
-
 returns-4 : tie.Need-returns-4
 returns-4 c =
     let e = c .if4 .taken in
@@ -52,4 +46,4 @@ returns-5 : tie.Need-returns-5
 returns-5 c = last-test (c .before .before .before .before .before .before .before .args .taken .now) _ _ (right (c .before .before .before .before .before)) (below (c .before)) (full (c .before .before))
 
 pub agree-spec : {M : Type 1} → statement M
-agree-spec = tie.close (tie.spec (λ c κs. search needs) returns returns-2 marked-below-requires-2 returns-3 element-copy-out-result returns-4 returns-5)
+agree-spec = tie.close (tie.spec (λ c κs. search needs) returns returns-2 (λ c κs. c .if2 .left) returns-3 (λ c. below c) returns-4 returns-5)

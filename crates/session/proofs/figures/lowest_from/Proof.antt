@@ -1,7 +1,7 @@
 -- `session::figures::lowest_from` meets its contract: all before the place at hand are marked.
 use mathlib.Core.Path.{_≡_, sym, _∙_}
 use mathlib.Core.Bool.{true}
-use Prim.Native.Nat.{ℕ, _+_, _-_, _<_, _≤_}
+use Prim.Native.Nat.{ℕ, _-_, _<_, _≤_}
 use native.Mathlib.Omega.{arith}
 use borrow.Author.Needs.{needs}
 use borrow.Author.Tests.{not-true, not-false}
@@ -15,12 +15,6 @@ Inv-loop taken from at₀ at = (at ≤ 1024) × ((p : ℕ) → p < at → marked
 
 abbrev μ-loop : tie.MeasureT-loop
 μ-loop taken from at₀ at = 1024 - at
-
-loop-holds : tie.Need-loop-holds Inv-loop μ-loop
-loop-holds c = (c .pre .0, c .pre .1)
-
-element-copy-out-if1 : tie.Need-element-copy-out-if1 Inv-loop μ-loop
-element-copy-out-if1 c = c .loop-test .taken
 
 cast-result : tie.Need-cast-result Inv-loop μ-loop
 cast-result c = omega (arith, c .before .before .before .loop .inv .0)
@@ -38,4 +32,4 @@ returns-2 : tie.Need-returns-2 Inv-loop μ-loop
 returns-2 c = let e : c .before .loop .at ≡ 1024 = omega (arith, c .before .loop .inv .0, c .loop-test .left) in sym e ∙ lowest-found _ _ (c .before .loop .inv .0) (c .before .loop .inv .1) (λ l. absurd (omega arith))
 
 pub lowest-from-spec : {M : Type 1} → statement M
-lowest-from-spec = tie.close (tie.spec Inv-loop μ-loop loop-holds element-copy-out-if1 cast-result returns (λ c. search needs) loop-less loop-again returns-2)
+lowest-from-spec = tie.close (tie.spec Inv-loop μ-loop (λ c. (c .pre .0, c .pre .1)) (λ c. c .loop-test .taken) cast-result returns (λ c. search needs) loop-less loop-again returns-2)

@@ -19,9 +19,6 @@ abbrev μ-loop : tie.MeasureT-loop
 loop-holds : tie.Need-loop-holds Inv-loop μ-loop
 loop-holds c = (zero-le, sym (count-zero (marked (c .args .taken .now))))
 
-sub-loop : tie.Need-sub-loop Inv-loop μ-loop
-sub-loop c = c .loop .inv .0
-
 add-next : tie.Need-add-next Inv-loop μ-loop
 add-next c = omega (arith, c .before .loop .inv .0, c .before .before .pre)
 
@@ -39,9 +36,6 @@ more c =
 add-pages : tie.Need-add-pages Inv-loop μ-loop
 add-pages c =
     omega (arith, more c, c .before .loop-test .taken, c .before .before .before .pre, count-bound (c .before .before .loop .from + 128) (marked (c .before .before .before .args .taken .now)))
-
-loop-less : tie.Need-loop-less Inv-loop μ-loop
-loop-less c = omega (arith, c .before .loop-test .taken)
 
 loop-again : tie.Need-loop-again Inv-loop μ-loop
 loop-again c = (omega (arith, c .before .loop-test .taken), more c)
@@ -61,8 +55,5 @@ add-result : tie.Need-add-result Inv-loop μ-loop
 add-result c =
     omega (arith, whole c, c .before .before .before .pre, count-bound (c .before .before .before .args .end) (marked (c .before .before .before .args .taken .now)))
 
-returns : tie.Need-returns Inv-loop μ-loop
-returns c = whole c
-
 pub marked-below-spec : {M : Type 1} → statement M
-marked-below-spec = tie.close (tie.spec Inv-loop μ-loop loop-holds sub-loop add-next marked-in-requires (λ c. search needs) add-pages loop-less loop-again marked-in-requires-2 (λ c. search needs) add-result returns)
+marked-below-spec = tie.close (tie.spec Inv-loop μ-loop loop-holds (λ c. c .loop .inv .0) add-next marked-in-requires (λ c. search needs) add-pages (λ c. omega (arith, c .before .loop-test .taken)) loop-again marked-in-requires-2 (λ c. search needs) add-result (λ c. whole c))

@@ -4,11 +4,5 @@ use Rattle.session.proofs.Ways.{suits-early, suits-late}
 use Rattle.session.proofs.way.suits.Statement.{statement}
 use Rattle.session.proofs.way.suits.Tie as tie
 
-returns : tie.Need-returns
-returns c = sym (suits-early _ _ (c .if1 .taken))
-
-returns-2 : tie.Need-returns-2
-returns-2 c = sym (suits-late _ _ (c .before .if1 .left))
-
 pub suits-spec : {M : Type 1} → statement M
-suits-spec = tie.close (tie.spec returns returns-2)
+suits-spec = tie.close (tie.spec (λ c. sym (suits-early _ _ (c .if1 .taken))) (λ c. sym (suits-late _ _ (c .before .if1 .left))))

@@ -35,28 +35,31 @@ loop-holds c =
     let b = bounds _ (k .pre .0) in
     (omega arith, omega arith, k .pre .2)
 
+abbrev start : tie.At-loop Inv-loop μ-loop → tie.Start Inv-loop μ-loop
+start l = l .before .before .before .before .before .before .before .before
+
 mul-sweep-twice : tie.Need-mul-sweep-twice Inv-loop μ-loop
 mul-sweep-twice c =
     let l = c .before .before .before in
-    let k = l .before .before .before .before .before .before .before .before in
+    let k = start l in
     omega (arith, room k (l .loop .t) (omega arith))
 
 slope-requires : tie.Need-slope-requires Inv-loop μ-loop
 slope-requires c κs =
     let l = c .before .before .before in
-    let k = l .before .before .before .before .before .before .before .before in
+    let k = start l in
     omega (arith, bounds _ (k .pre .0) .n8, l .loop .inv .0, c .before .before .loop-test .taken)
 
 sub-sweep-twice : tie.Need-sub-sweep-twice Inv-loop μ-loop
 sub-sweep-twice c =
     let l = c .before .before .before .before in
-    let k = l .before .before .before .before .before .before .before .before in
+    let k = start l in
     omega (arith, k .pre .4, c .slope .ensures, slope-lt _ (k .pre .0) _ (l .loop .inv .0) (c .before .before .before .loop-test .taken))
 
 sweep-twice-requires : tie.Need-sweep-twice-requires Inv-loop μ-loop
 sweep-twice-requires c κs =
     let l = c .before .before .before .before in
-    let k = l .before .before .before .before .before .before .before .before in (
+    let k = start l in (
       l .loop .inv .2 .size,
       room k (l .loop .t) (omega arith),
       l .before .before .before .lay .ensures .size,
@@ -67,7 +70,7 @@ sweep-twice-requires c κs =
 loop-again : tie.Need-loop-again Inv-loop μ-loop
 loop-again c =
     let l = c .before .before .before .before .before in
-    let k = l .before .before .before .before .before .before .before .before in (
+    let k = start l in (
       omega arith,
       omega arith,
       next-of (k .args .shape) (k .pre .0) (k .args .word .now) (k .args .q) (k .pre .4) (l .loop .t) _ (l .before .before .before .lay .ensures)
@@ -77,7 +80,7 @@ loop-again c =
 returns : tie.Need-returns Inv-loop μ-loop
 returns c =
     let l = c .before in
-    let k = l .before .before .before .before .before .before .before .before in
+    let k = start l in
     direction-last (k .args .shape) (k .pre .0) (k .args .word .now) (l .loop .t) (l .loop .syn) (omega arith) (l .loop .inv .2)
 
 pub other-directions-spec : {M : Type 1} → statement M

@@ -31,12 +31,6 @@ run-in c =
 run-small : (c : tie.In-loop Inv-loop μ-loop) → c .before .loop .r * (c .before .before .before .args .q + c .before .before .before .args .q) + c .before .loop .place + c .before .before .before .args .q ≤ 1922
 run-small c = omega (arith, run-in c, doubled-small (c .before .before .before .args .q) (c .before .before .before .pre .4))
 
-mul-add-run : tie.Need-mul-add-run Inv-loop μ-loop
-mul-add-run c = omega (arith, run-small (c .before))
-
-add-add-run-2 : tie.Need-add-add-run-2 Inv-loop μ-loop
-add-add-run-2 c = omega (arith, run-small (c .before))
-
 add-run-requires : tie.Need-add-run-requires Inv-loop μ-loop
 add-run-requires c κs =
     let s = c .before .before .before .before in
@@ -59,4 +53,4 @@ returns : tie.Need-returns Inv-loop μ-loop
 returns c = rounds-end _ (c .before .loop .inv .2) (omega arith)
 
 pub sweep-twice-spec : {M : Type 1} → statement M
-sweep-twice-spec = tie.close (tie.spec Inv-loop μ-loop loop-holds (λ c. search needs) mul-add-run add-add-run-2 add-run-requires add-mod-requires (λ c. search needs) (λ c. search needs) loop-again returns)
+sweep-twice-spec = tie.close (tie.spec Inv-loop μ-loop loop-holds (λ c. search needs) (λ c. omega (arith, run-small (c .before))) (λ c. omega (arith, run-small (c .before))) add-run-requires add-mod-requires (λ c. search needs) (λ c. search needs) loop-again returns)

@@ -5,7 +5,7 @@ use Prim.Native.Nat.{_-_, _<_, _≤_}
 use Rattle.parity.specs.Count.{any}
 use Rattle.parity.proofs.Tests.{any-zero, any-more, any-intro}
 use Rattle.gtb.specs.Square.{at}
-use Rattle.verify.specs.Steps.{hushed}
+use Rattle.verify.specs.Steps.{isMasked}
 use native.Mathlib.Nat.{le-antisymm}
 use native.Mathlib.Omega.{arith}
 use borrow.Author.Needs.{needs}
@@ -13,23 +13,14 @@ use Rattle.verify.proofs.compare.any_masked.Statement.{statement}
 use Rattle.verify.proofs.compare.any_masked.Tie as tie
 
 abbrev Inv-loop : tie.InvT-loop
-Inv-loop shape table syn places count x₀ x = (x ≤ count) × (any x (λ y. hushed shape syn (at places y)) ≡ false)
+Inv-loop shape table syn places count x₀ x = (x ≤ count) × (any x (λ y. isMasked shape syn (at places y)) ≡ false)
 
 abbrev μ-loop : tie.MeasureT-loop
 μ-loop shape table syn places count x₀ x = count - x
 
-loop-holds : tie.Need-loop-holds Inv-loop μ-loop
-loop-holds c = (search needs, any-zero _)
-
 -- the list has 8 entries
 inside : (c : tie.In-loop Inv-loop μ-loop) → c .before .loop .x < 8
 inside c = omega (arith, c .before .before .before .pre .2 .few)
-
-mul-is-masked : tie.Need-mul-is-masked Inv-loop μ-loop
-mul-is-masked c = omega (arith, inside c)
-
-element-copy-out-is-masked : tie.Need-element-copy-out-is-masked Inv-loop μ-loop
-element-copy-out-is-masked c = inside c
 
 is-masked-requires : tie.Need-is-masked-requires Inv-loop μ-loop
 is-masked-requires c κs =
@@ -46,4 +37,4 @@ returns-2 : tie.Need-returns-2 Inv-loop μ-loop
 returns-2 c = sym (rw (le-antisymm (c .before .loop .inv .0) (c .loop-test .left)) at (c .before .loop .inv .1))
 
 pub any-masked-spec : {M : Type 1} → statement M
-any-masked-spec = tie.close (tie.spec Inv-loop μ-loop loop-holds mul-is-masked element-copy-out-is-masked is-masked-requires returns (λ c. search needs) (λ c. search needs) loop-again returns-2)
+any-masked-spec = tie.close (tie.spec Inv-loop μ-loop (λ c. (search needs, any-zero _)) (λ c. omega (arith, inside c)) (λ c. inside c) is-masked-requires returns (λ c. search needs) (λ c. search needs) loop-again returns-2)

@@ -6,7 +6,7 @@ use Rattle.gtb.proofs.Bounds.{bounds}
 use Rattle.gtb.proofs.Words.{test-silent}
 use Rattle.correction.specs.Steps.{Within}
 use Rattle.correction.proofs.Tabulated.{tabled, untabled}
-use Rattle.decoder.proofs.Reading.{within}
+use Rattle.correction.proofs.Listing.{within}
 use Rattle.verify.proofs.Table.{differ-many, differ-inside, differ-few}
 use Rattle.verify.proofs.compare.is_clean.Statement.{statement}
 use Rattle.verify.proofs.compare.is_clean.Tie as tie
@@ -14,8 +14,8 @@ use Rattle.verify.proofs.compare.is_clean.Tie as tie
 returns : tie.Need-returns
 returns c = differ-many _ (c .before .before .before .before .before .before .pre .0) _ _ (c .before .locate .ensures .many (omega (arith, c .if1 .taken)))
 
-measure-requires : tie.Need-measure-requires
-measure-requires c κs =
+list-differences-requires : tie.Need-list-differences-requires
+list-differences-requires c κs =
     let s = c .before .before .before .before .before .before .before .before in
     let e = c .before .before in (
       omega (arith, e .if1 .left, bounds (s .args .shape) (s .pre .0) .n8),
@@ -41,7 +41,7 @@ returns-2 c =
     let e = m .before .before .before in
     let p = e .before .before .before .before .before .before .pre in
     c .is-clean-by .ensures .1
-    ∙ differ-few (p .0) (e .before .locate .ensures .few (e .if1 .left)) (m .measure .ensures) (p .3) (test-silent _ _ (p .4)) (c .is-clean-by .ensures .0) (e .if1 .left)
+    ∙ differ-few _ _ _ (p .0) (e .before .locate .ensures .few (e .if1 .left)) (m .list-differences .ensures) (p .3) (test-silent _ _ (p .4)) (c .is-clean-by .ensures .0) (e .if1 .left)
 
 is-clean-by-requires-2 : tie.Need-is-clean-by-requires-2
 is-clean-by-requires-2 c κs =
@@ -55,7 +55,7 @@ returns-3 c =
     let e = m .before .before .before in
     let p = e .before .before .before .before .before .before .pre in
     c .is-clean-by2 .ensures .1
-    ∙ differ-few (p .0) (e .before .locate .ensures .few (e .if1 .left)) (m .measure .ensures) (p .3) (test-silent _ _ (p .4)) (c .is-clean-by2 .ensures .0) (e .if1 .left)
+    ∙ differ-few _ _ _ (p .0) (e .before .locate .ensures .few (e .if1 .left)) (m .list-differences .ensures) (p .3) (test-silent _ _ (p .4)) (c .is-clean-by2 .ensures .0) (e .if1 .left)
 
 pub is-clean-spec : {M : Type 1} → statement M
-is-clean-spec = tie.close (tie.spec (λ c. search needs) (λ c κs. search needs) returns measure-requires (λ c κs. search needs) (λ c κs. search needs) (λ c. search needs) is-clean-by-requires returns-2 (λ c. search needs) is-clean-by-requires-2 returns-3)
+is-clean-spec = tie.close (tie.spec (λ c. search needs) (λ c κs. search needs) returns list-differences-requires (λ c κs. search needs) (λ c κs. search needs) (λ c. search needs) is-clean-by-requires returns-2 (λ c. search needs) is-clean-by-requires-2 returns-3)

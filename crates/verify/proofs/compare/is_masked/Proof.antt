@@ -9,7 +9,7 @@ use Rattle.gtb.specs.Square.{at}
 use Rattle.gtb.proofs.Bounds.{bounds}
 use Rattle.correction.specs.Error.{checkOf}
 use Rattle.correction.proofs.CheckNumbers.{check-fits}
-use Rattle.verify.specs.Steps.{hushed}
+use Rattle.verify.specs.Steps.{isMasked}
 use native.Mathlib.Nat.{le-antisymm}
 use native.Mathlib.Omega.{arith}
 use borrow.Author.Needs.{needs}
@@ -32,14 +32,8 @@ inside c =
     let s = c .before .before .before .before .before in
     rw (c .number-by .ensures) (check-fits (s .args .shape) (s .pre .0) (c .before .before .loop .t) (s .args .j) (c .before .loop-test .taken) (s .pre .2))
 
-mul-if1 : tie.Need-mul-if1 Inv-loop μ-loop
-mul-if1 c = omega (arith, inside c)
-
-element-copy-out-if1 : tie.Need-element-copy-out-if1 Inv-loop μ-loop
-element-copy-out-if1 c = inside c
-
 returns : tie.Need-returns Inv-loop μ-loop
-unfolding hushed
+unfolding isMasked
 returns c =
     let s = c .before .before .before .before .before .before .before .args in
     sym
@@ -55,8 +49,8 @@ loop-again c =
     )
 
 returns-2 : tie.Need-returns-2 Inv-loop μ-loop
-unfolding hushed
+unfolding isMasked
 returns-2 c = sym (rw (le-antisymm (c .before .loop .inv .0) (c .loop-test .left)) at (c .before .loop .inv .1))
 
 pub is-masked-spec : {M : Type 1} → statement M
-is-masked-spec = tie.close (tie.spec Inv-loop μ-loop (λ c. search needs) loop-holds (λ c κs. search needs) mul-if1 element-copy-out-if1 returns (λ c. search needs) (λ c. search needs) loop-again returns-2)
+is-masked-spec = tie.close (tie.spec Inv-loop μ-loop (λ c. search needs) loop-holds (λ c κs. search needs) (λ c. omega (arith, inside c)) (λ c. inside c) returns (λ c. search needs) (λ c. search needs) loop-again returns-2)

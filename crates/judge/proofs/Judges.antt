@@ -1,0 +1,173 @@
+-- One line judged: the cases of the definitions.
+use mathlib.Core.Path.{_≡_, refl, sym, ap, _∙_, subst}
+use mathlib.Core.Logic.{⊎-elim}
+use mathlib.Core.Bool.{Bool, true, false, cond}
+use mathlib.Core.List.{List, []}
+use Prim.Native.Nat.{ℕ, _≤_, _<_}
+use native.Mathlib.Omega.{arith}
+use borrow.Author.Tests.{lt-ltb, le-ltb, ne-eqb, eq-eqb, leb-true, leb-false}
+use lib.Dec.{eqb, leb}
+use lib.ListN.{length, getD, take, replicate, length-replicate}
+use lib.Seq.{length-take-le, getD-take, ext-getD}
+use Rattle.parity.proofs.Tests.{either}
+use Rattle.gtb.specs.declared.Shape.{Shape}
+use Rattle.gtb.specs.declared.Refusal.{Refusal}
+use Rattle.gtb.specs.declared.Status.{Status}
+use Rattle.gtb.specs.declared.Status.the-variants as status
+use Rattle.gtb.specs.Shape.{shapeRefusal, lawful, wordLength, scratchLength, standard}
+use Rattle.gtb.proofs.Sizes.{sizes}
+use Rattle.correction.specs.Reading.{readOf}
+use Rattle.lines.specs.Text.{sameBytes, namesShape, namesWord}
+use Rattle.lines.specs.Content.{Content, Spelled, Unreadable, contentOf}
+use Rattle.lines.specs.Parse.{Stored}
+use Rattle.lines.proofs.Same.{differ-same}
+use Rattle.lines.proofs.Contents.{content-spelled}
+use Rattle.session.specs.declared.Session.{Session}
+use Rattle.session.specs.declared.Opening.{Opening}
+use Rattle.session.specs.Session.{freshOf, freshStatus}
+use Rattle.session.specs.Arrival.{isWay, wayOf, clean, theWays, Opened, Bad, opened}
+use Rattle.session.specs.Steps.{openedBy, Tells}
+use Rattle.judge.specs.declared.Phase.{Phase}
+use Rattle.judge.specs.declared.Phase.the-variants.{ShapeNames, ShapeValues, WordNames, Words, Ended}
+use Rattle.judge.specs.declared.Tally.{Tally}
+use Rattle.judge.specs.declared.Judged.{Judged}
+use Rattle.judge.specs.Judge.{lineContent, passed, fault, named, begun, shaped, worded, broughtBy, judgedIn, judgedOf}
+use Rattle.judge.specs.Steps.{Cut, headedIn, headed}
+
+-- ---- lines by length
+pub short-content : (line : List ℕ) → length line < 16384 → lineContent line ≡ contentOf line
+unfolding lineContent
+short-content line l = rw (lt-ltb (length line) 16384 l)
+
+long-content : (line : List ℕ) → 16384 ≤ length line → lineContent line ≡ Unreadable
+unfolding lineContent
+long-content line l = rw (le-ltb (length line) 16384 l)
+
+empty-content : lineContent [] ≡ Unreadable
+unfolding lineContent contentOf Rattle.lines.specs.Content.valuesIn Rattle.lines.specs.Content.small Rattle.lines.specs.Text.spell Rattle.lines.specs.Text.decimal sameBytes
+empty-content = refl
+
+long-differs : (line names : List ℕ) → 16384 ≤ length line → length names < 16384 → sameBytes line names ≡ false
+long-differs line names l k = differ-same line names (λ e. let z = ap length e in absurd (omega arith))
+
+long-in : (p : Phase) (σ : Session) (line : List ℕ) → 16384 ≤ length line → judgedIn p σ line ≡ judgedIn p σ []
+unfolding sameBytes
+long-in ShapeNames σ line l = rw (long-differs line namesShape l (omega arith))
+long-in ShapeValues σ line l = rw (long-content line l, empty-content)
+long-in WordNames σ line l = rw (long-differs line namesWord l (omega arith))
+long-in Words σ line l = rw (long-content line l, empty-content)
+long-in Ended σ line l = refl
+
+-- a line too long is judged as an empty one is
+pub long-judged : (t : Tally) (line : List ℕ) → 16384 ≤ length line → judgedOf t line ≡ judgedOf t []
+unfolding judgedOf
+long-judged t line l = long-in (t .phase) (t .session) line l
+
+-- ---- the first three lines
+pub named-yes : (σ : Session) (b : Bool) (next : Phase) {r : Judged} → b ≡ true → r ≡ passed next σ → r ≡ named σ b next
+named-yes σ b next h e = rw h e
+
+pub named-no : (σ : Session) (b : Bool) (next : Phase) {r : Judged} → b ≡ false → r ≡ fault σ Refusal.Syntax → r ≡ named σ b next
+named-no σ b next h e = rw h e
+
+pub begun-done : (σ : Session) (s : Shape) (st : Status) {r : Judged} → st ≡ status.Done → r ≡ passed WordNames (freshOf s) → r ≡ begun σ s st
+begun-done σ s st h e = rw h e
+
+pub begun-refused : (σ : Session) (s : Shape) (st : Status) (e : Refusal) {r : Judged} → st ≡ status.Refused e → r ≡ fault σ e → r ≡ begun σ s st
+begun-refused σ s st e h p = rw h p
+
+pub shaped-none : (σ : Session) (c : Content) {r : Judged} → c ≡ Unreadable → r ≡ fault σ Refusal.Syntax → r ≡ shaped σ c
+shaped-none σ c h e = rw h e
+
+module _ {line stored : List ℕ} {count : ℕ} (h : Stored line stored count) where
+  pub says : contentOf line ≡ Spelled (h .values)
+  says = content-spelled line (h .values) (h .spelled)
+
+  pub shaped-other : (σ : Session) {r : Judged} → (count ≡ 3 → ⊥) → r ≡ fault σ Refusal.Syntax → r ≡ shaped σ (contentOf line)
+  shaped-other σ ne e = rw (says, ne-eqb (length (h .values)) 3 (λ z. ne (sym (h .counted) ∙ z))) e
+
+  pub shaped-three : (σ : Session) {r : Judged} → count ≡ 3
+      → r ≡ begun σ (standard (getD stored 0 0) (getD stored 1 0) (getD stored 2 0)) (freshStatus (standard (getD stored 0 0) (getD stored 1 0) (getD stored 2 0)))
+      → r ≡ shaped σ (contentOf line)
+  shaped-three σ three e =
+      rw (says, eq-eqb (length (h .values)) 3 (h .counted ∙ three), ← h .kept 0 (omega arith) (omega arith), ← h .kept 1 (omega arith) (omega arith), ← h .kept 2 (omega arith) (omega arith)) e
+
+  -- the values that are stored are all of them, unless there are too many
+  word-stored : length stored ≡ 1024 → count ≤ 1024 → take count stored ≡ h .values
+  word-stored size few =
+      let l : length (take count stored) ≡ count = length-take-le count stored (omega arith) in
+      ext-getD 0 (take count stored) (h .values) (l ∙ sym (h .counted))
+      (λ i p. let q : i < count = rw l at p in getD-take count stored i 0 q ∙ h .kept i q (omega arith))
+
+-- ---- what a word line brings
+-- what arrives is what the clean way reads, whatever the shape and the length
+opened-clean : (s : Shape) (word : List ℕ) → opened theWays s 0 word (replicate {A = ℕ} (scratchLength s) 0) ≡ openedBy clean s word
+unfolding opened isWay wayOf readOf
+opened-clean s word =
+    let room = eq-eqb (length (replicate {A = ℕ} (scratchLength s) 0)) (scratchLength s) (length-replicate {A = ℕ} (scratchLength s) 0) in
+    ⊎-elim
+    (λ (t : lawful s ≡ true).
+    ⊎-elim (λ (l : eqb (length word) (wordLength s) ≡ true). rw (t, room, l)) (λ (l : eqb (length word) (wordLength s) ≡ false). rw (t, room, l)) (either (eqb (length word) (wordLength s))))
+    (λ (f : lawful s ≡ false). rw f)
+    (either (lawful s))
+
+-- no word is so long
+opened-long : (s : Shape) (word : List ℕ) → 961 < length word → openedBy clean s word ≡ Bad (cond (lawful s) Refusal.Length (shapeRefusal s))
+unfolding readOf
+opened-long s word l =
+    ⊎-elim (λ (t : lawful s ≡ true). rw (t, ne-eqb (length word) (wordLength s) (λ e. let z = sizes s t .word in absurd (omega arith))))
+    (λ (f : lawful s ≡ false). rw f)
+    (either (lawful s))
+
+-- what a line brings is what the clean way reads in its values so cut
+brought-cut : (s : Shape) {line stored : List ℕ} {count size : ℕ} → Stored line stored count → length stored ≡ 1024 → Cut count size
+    → openedBy (wayOf 0) s (take size stored) ≡ broughtBy s (contentOf line)
+unfolding wayOf
+brought-cut s {stored = stored} {size = size} h full cut =
+    let xs = h .values in
+    rw (says h, opened-clean s xs)
+    (⊎-elim
+    (λ (l : leb (length xs) 1024 ≡ true).
+    let few = rw (h .counted) at (leb-true (length xs) 1024 l) in
+    ap (openedBy clean s) (ap (λ (k : ℕ). take k stored) (cut .few few) ∙ word-stored h full few))
+    (λ (l : leb (length xs) 1024 ≡ false).
+    let many = rw (h .counted) at (leb-false (length xs) 1024 l) in
+    opened-long s (take size stored) (rw (length-take-le size stored (omega (arith, cut .most)), cut .many many) (omega arith))
+    ∙ sym (opened-long s xs (omega (arith, leb-false (length xs) 1024 l))))
+    (either (leb (length xs) 1024)))
+
+pub line-opened : (s : Shape) {line stored symbols : List ℕ} {count size : ℕ} {r : Opening} → Stored line stored count → length stored ≡ 1024 → Cut count size
+    → Tells (openedBy (wayOf 0) s (take size stored)) symbols r → Tells (broughtBy s (contentOf line)) symbols r
+line-opened s {symbols = symbols} {r = r} h full cut = subst (λ (o : Opened). Tells o symbols r) (brought-cut s h full cut)
+
+-- ---- the phases
+-- a line that is no word line
+module _ (t : Tally) (line : List ℕ) {r : Judged} where
+  pub headed-shape-names : {b : Bool} → t .phase ≡ ShapeNames → b ≡ sameBytes line namesShape → r ≡ named (t .session) b ShapeValues → r ≡ headed t line
+  unfolding headed
+  headed-shape-names h s e = rw (h, ← s) e
+
+  pub headed-shape-values : t .phase ≡ ShapeValues → length line < 16384 → r ≡ shaped (t .session) (contentOf line) → r ≡ headed t line
+  unfolding headed
+  headed-shape-values h l e = rw (h, short-content line l) e
+
+  pub headed-word-names : {b : Bool} → t .phase ≡ WordNames → b ≡ sameBytes line namesWord → r ≡ named (t .session) b Words → r ≡ headed t line
+  unfolding headed
+  headed-word-names h s e = rw (h, ← s) e
+
+  pub headed-words : t .phase ≡ Words → r ≡ passed Words (t .session) → r ≡ headed t line
+  unfolding headed
+  headed-words h e = rw h e
+
+  pub headed-ended : t .phase ≡ Ended → r ≡ passed Ended (t .session) → r ≡ headed t line
+  unfolding headed
+  headed-ended h e = rw h e
+
+-- in every other phase it is judged so
+pub judged-head : (t : Tally) (line : List ℕ) (p : Phase) → t .phase ≡ p → judgedIn p (t .session) line ≡ headedIn p (t .session) line → judgedOf t line ≡ headed t line
+unfolding judgedOf headed
+judged-head t line p h e = rw h e
+
+pub judged-words : (t : Tally) (line : List ℕ) → t .phase ≡ Words → length line < 16384 → judgedOf t line ≡ worded (t .session) (contentOf line)
+unfolding judgedOf
+judged-words t line h l = rw (h, short-content line l)

@@ -1,0 +1,4 @@
+pub mod Judges
+pub mod Looks
+pub mod Figures
+pub mod Standards

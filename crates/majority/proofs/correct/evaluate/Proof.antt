@@ -1,0 +1,38 @@
+-- `majority::correct::evaluate` meets its contract. The loop's invariant is the contract for the first x errors.
+use Prim.Native.Nat.{_-_, _<_, _≤_}
+use Rattle.gtb.specs.Square.{at}
+use Rattle.correction.specs.Steps.{Gathered}
+use Rattle.majority.specs.Steps.{votedIn}
+use native.Mathlib.Nat.{le-antisymm}
+use native.Mathlib.Omega.{arith}
+use borrow.Author.Needs.{needs}
+use Rattle.correction.proofs.Listing.{gathered-none, gathered-more}
+use Rattle.majority.proofs.correct.evaluate.Statement.{statement}
+use Rattle.majority.proofs.correct.evaluate.Tie as tie
+
+abbrev Inv-loop : tie.InvT-loop
+Inv-loop shape syn places count errors₀ x₀ errors x = (x ≤ count) × Gathered 8 (λ y. votedIn shape syn (at places y)) x errors
+
+abbrev μ-loop : tie.MeasureT-loop
+μ-loop shape syn places count errors₀ x₀ errors x = count - x
+
+loop-holds : tie.Need-loop-holds Inv-loop μ-loop
+loop-holds c = (search needs, gathered-none _ _ _ (c .pre .1))
+
+-- the lists have 8 entries
+inside : (c : tie.In-loop Inv-loop μ-loop) → c .before .loop .x < 8
+inside c = omega (arith, c .before .before .pre .2 .few)
+
+vote-requires : tie.Need-vote-requires Inv-loop μ-loop
+vote-requires c κs =
+    let p = c .before .before .before .pre in
+    (p .0, p .2 .below (c .before .before .loop .x) (c .before .loop-test .taken))
+
+loop-again : tie.Need-loop-again Inv-loop μ-loop
+loop-again c = (search needs, gathered-more (c .vote .result) (inside (c .before .before)) (c .vote .ensures) (c .before .before .before .loop .inv .1))
+
+returns : tie.Need-returns Inv-loop μ-loop
+returns c = rw (le-antisymm (c .before .loop .inv .0) (c .loop-test .left)) at (c .before .loop .inv .1)
+
+pub evaluate-spec : {M : Type 1} → statement M
+evaluate-spec = tie.close (tie.spec Inv-loop μ-loop loop-holds (λ c. omega (arith, inside c)) (λ c. inside c) vote-requires (λ c. omega (arith, inside (c .before .before))) (λ c. inside (c .before .before)) (λ c. search needs) (λ c. search needs) loop-again returns)
