@@ -33,7 +33,7 @@ fn sizes_match(shape: Shape, symbols: usize, scratch: usize, word: usize) -> boo
     word == word_length(shape)
 }
 
-// The tests of both entries, the last one on the symbols that come in. Past the first two the scratch is cleared.
+// The tests of both entries, the last one on the symbols that come in. Past tests 1, 18 and 2 the scratch is cleared.
 fn test(shape: Shape, symbols: &[u32], scratch: &mut [u32], word: &[u32], given: &[u32]) -> Status
     ensures { λ r. ⌜ Tested shape (now (symbols .entry)) (now (scratch .entry)) (now (word .entry)) (now (given .entry)) (now (scratch .exit)) r ⌝ }
 {
