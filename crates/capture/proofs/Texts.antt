@@ -107,8 +107,7 @@ counting-begins old at calls = record { size = refl; short = omega arith; left =
 
 pub counting-passes : {old calls out : List ℕ} {at next f : ℕ} → f < length calls → getD calls f 0 ≡ 0 → Counting old at calls out next f
     → Counting old at calls out next (f + 1)
-counting-passes {calls = calls} {f = f} l e h =
-    record { size = h .size; short = omega arith; left = λ new r p. h .left new r (rw (calls-none f calls l e) p) }
+counting-passes {calls = calls} {f = f} l e h = record { size = h .size; short = omega arith; left = λ new r p. h .left new r (rw (calls-none f calls l e) p) }
 
 pub counting-writes : {old calls out out′ : List ℕ} {at next next′ f : ℕ} → f < length calls → f < 2 ^ 32 → getD calls f 0 < 2 ^ 32 → (getD calls f 0 ≡ 0 → ⊥)
     → next + 22 ≤ length out → Put out next (countText f (getD calls f 0)) out′ next′ → Counting old at calls out next f
@@ -141,7 +140,5 @@ pub held-none : {buffer line : List ℕ} {held : ℕ} → LineSoFar buffer held 
 held-none {buffer} {line} {held} h =
     ⊎-elim
     (λ s. rw (← h .kept (ltb-true held 16384 s), length-take-le held buffer (omega (arith, ltb-true held 16384 s, h .size))))
-    (λ s.
-    let far = ltb-false held 16384 s in
-    ne-eqb held 0 (λ e. omega arith) ∙ sym (ne-eqb (length line) 0 (λ e. omega (arith, h .long far))))
+    (λ s. let far = ltb-false held 16384 s in ne-eqb held 0 (λ e. omega arith) ∙ sym (ne-eqb (length line) 0 (λ e. omega (arith, h .long far))))
     (either (ltb held 16384))

@@ -11,7 +11,7 @@ returns-2 : tie.Need-returns-2
 returns-2 c = extended-over _ (c .before .before .before .before .pre) (c .before .if1 .left) (c .if2 .taken)
 
 returns-3 : tie.Need-returns-3
-returns-3 c = extended-put _ (c .before .before .before .before .before .before .before .before .pre) (c .before .before .before .before .before .if1 .left) (c .before .before .before .before .if2 .left) (c .before .before .put-text .ensures)
+returns-3 c = let at-if = c .before .before .before .before in extended-put _ (at-if .before .before .before .before .pre) (at-if .before .if1 .left) (at-if .if2 .left) (c .before .before .put-text .ensures)
 
 pub append-spec : {M : Type 1} → statement M
 append-spec = tie.close (tie.spec returns returns-2 (λ c κs. search needs) (λ c. search needs) returns-3)

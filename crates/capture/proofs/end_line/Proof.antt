@@ -8,17 +8,17 @@ use Rattle.capture.proofs.end_line.Statement.{statement}
 use Rattle.capture.proofs.end_line.Tie as tie
 
 slice-aggregate-judge : tie.Need-slice-aggregate-judge
-slice-aggregate-judge c = sym (length-take-le _ _ (omega (arith, c .before .before .before .before .before .pre .1, c .before .before .before .before .before .pre .2)))
+slice-aggregate-judge c = let start = c .before .before .before .before .before in sym (length-take-le _ _ (omega (arith, start .pre .1, start .pre .2)))
 
 judge-requires : tie.Need-judge-requires
 judge-requires c κs =
-    let asked = c .before .before .before .before .before .pre in
-    (asked .0, rw (length-take-le (c .before .before .before .before .before .args .end) (c .before .before .before .before .before .args .line .now) (omega (arith, asked .1, asked .2))) (asked .2), asked .3 .new)
+    let start = c .before .before .before .before .before in
+    (start .pre .0, rw (length-take-le (start .args .end) (start .args .line .now) (omega (arith, start .pre .1, start .pre .2))) (start .pre .2), start .pre .3 .new)
 
 returns : tie.Need-returns
 returns c =
-    let put = c .before .before .put-answer .ensures in
-    line-ended _ (c .before .before .before .before .before .before .before .before .before .before .before .pre .0) (c .before .before .before .before .before .judge .ensures ∙ sym (c .before .before .before .before .before .before .before .before .before .before .before .pre .3 .sure)) (put .0) (put .1)
+    let asked = c .before .before .before .before .before .before .before .before .before .before .before .pre in
+    line-ended _ (asked .0) (c .before .before .before .before .before .judge .ensures ∙ sym (asked .3 .sure)) (c .before .before .put-answer .ensures .0) (c .before .before .put-answer .ensures .1)
 
 pub end-line-spec : {M : Type 1} → statement M
 end-line-spec = tie.close (tie.spec slice-aggregate-judge judge-requires (λ c κs. search needs) (λ c. search needs) returns)

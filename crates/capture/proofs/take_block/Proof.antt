@@ -11,25 +11,35 @@ use Rattle.capture.proofs.take_block.Statement.{statement}
 use Rattle.capture.proofs.take_block.Tie as tie
 
 abbrev Inv-loop : tie.InvT-loop
-Inv-loop block line₀ out₀ reader₀ values₀ symbols₀ from₀ line out reader values symbols from =
-    Reading reader₀ line₀ block line out reader from × (length values ≡ 1024) × (length symbols ≡ 900)
+Inv-loop block line₀ out₀ reader₀ values₀ symbols₀ from₀ line out reader values symbols from = Reading reader₀ line₀ block line out reader from × (length values ≡ 1024) × (length symbols ≡ 900)
 
 abbrev μ-loop : tie.MeasureT-loop
 μ-loop block line₀ out₀ reader₀ values₀ symbols₀ from₀ line out reader values symbols from = length block - from
 
--- the place where the turn began
-abbrev turn : tie.Else1 Inv-loop μ-loop → tie.At-loop Inv-loop μ-loop
-turn c = c .before .before .before .before .before .before .before
+-- where the search for a newline had its answer
+abbrev at-find : tie.Else1 Inv-loop μ-loop → tie.After-find-newline Inv-loop μ-loop
+at-find c = c .before .before .before .before .before .before
+
+abbrev start : tie.Else1 Inv-loop μ-loop → tie.Start Inv-loop μ-loop
+start c = at-find c .before .before .before .before .before
+
+-- where the line's end was known, from the look at the line
+abbrev at-end : tie.After-symbols2 Inv-loop μ-loop → tie.After-line-end Inv-loop μ-loop
+at-end c = c .before .before .before .before .before .before .before .before
 
 -- there is a newline
-more : (c : tie.Else1 Inv-loop μ-loop) → c .before .before .before .before .before .before .find-newline .result < length (turn c .before .before .before .before .args .block .now)
-more c = omega (arith, c .before .before .before .before .before .before .find-newline .ensures .high, c .if1 .left)
+more : (c : tie.Else1 Inv-loop μ-loop) → at-find c .find-newline .result < length (start c .args .block .now)
+more c = omega (arith, at-find c .find-newline .ensures .high, c .if1 .left)
+
+-- less is left behind it
+less : (c : tie.Else1 Inv-loop μ-loop) → length (start c .args .block .now) - (at-find c .find-newline .result + 1) < length (start c .args .block .now) - at-find c .before .loop .from
+less c = omega (arith, more c, at-find c .find-newline .ensures .low)
 
 -- its line's answer has room
-room : (c : tie.Else1 Inv-loop μ-loop) → turn c .loop .reader .at + 40 ≤ length (turn c .loop .out)
+room : (c : tie.Else1 Inv-loop μ-loop) → at-find c .before .loop .reader .at + 40 ≤ length (at-find c .before .loop .out)
 room c =
-    let inv = turn c .loop .inv .0 in
-    omega (arith, inv .few, inv .out-size, c .before .before .before .before .before .before .find-newline .ensures .low, more c, turn c .before .before .before .before .pre .1)
+    let inv = at-find c .before .loop .inv .0 in
+    omega (arith, inv .few, inv .out-size, at-find c .find-newline .ensures .low, more c, start c .pre .1)
 
 loop-holds : tie.Need-loop-holds Inv-loop μ-loop
 loop-holds c =
@@ -41,47 +51,45 @@ append-requires c κs = c .before .before .before .loop .inv .0 .buffer-size
 
 returns : tie.Need-returns Inv-loop μ-loop
 returns c =
-    let taken = block-taken (c .before .before .before .before .before .before .before .loop .inv .0) (c .before .before .before .before .before .before .find-newline .ensures) (c .before .before .before .append .ensures) (c .if1 .taken) (c .before .before .before .before .before .before .before .before .before .before .before .pre .1) in
+    let found = c .before .before .before .before .before .before in
+    let taken = block-taken (found .before .loop .inv .0) (found .find-newline .ensures) (c .before .before .before .append .ensures) (c .if1 .taken) (found .before .before .before .before .before .pre .1) in
     record { fed = taken .fed; figures = taken .figures; within = taken .within; line = taken .line; size = taken .size }
 
 add-from : tie.Need-add-from Inv-loop μ-loop
-add-from c = omega (arith, more c, c .before .before .before .before .before .before .before .before .before .before .before .pre .1)
+add-from c = omega (arith, more c, start c .pre .1)
 
 glance-requires : tie.Need-glance-requires Inv-loop μ-loop
 glance-requires c κs =
     let at = c .before .before .before .before .before .before .before in
-    (refl, at .before .before .before .append .ensures .size, end-few (c .before .before .before .before .before .before .line-end .ensures), turn at .loop .inv .1, turn at .loop .inv .2)
+    (refl, at .before .before .before .append .ensures .size, end-few (c .before .before .before .before .before .before .line-end .ensures), at-find at .before .loop .inv .1, at-find at .before .loop .inv .2)
 
 put-line-requires : tie.Need-put-line-requires Inv-loop μ-loop
-put-line-requires c κs = room (c .before .before .before .before .before .before .before .before .before .before .before .before .before)
-
-loop-less : tie.Need-loop-less Inv-loop μ-loop
-loop-less c = omega (arith, more (c .before .before .before .before .before .before .before .before .before .before .before .before .before .before .before .before), c .before .before .before .before .before .before .before .before .before .before .before .before .before .before .before .before .before .before .before .before .before .before .find-newline .ensures .low)
+put-line-requires c κs = room (at-end (c .before .before .before .before) .before)
 
 -- the outcome was known
 loop-again : tie.Need-loop-again Inv-loop μ-loop
 loop-again c =
-    let at = c .before .before .before .before .before .before .before .before .before .before .before .before .before .before .before .before in
-    let inv = turn at .loop .inv in
+    let ended = at-end (c .before .before .before .before .before .before .before) in
+    let at = ended .before in
+    let inv = at-find at .before .loop .inv in
     let glance = c .before .before .before .before .before .before .before .before .glance in
     let put = c .before .before .put-line .ensures in
-    (reading-on (inv .0) (at .before .before .before .before .before .before .find-newline .ensures) (at .before .before .before .append .ensures) (more at) (c .before .before .before .before .before .before .before .before .before .before .before .before .before .before .before .line-end .ensures) (line-ended _ (inv .0 .figures) (foretold-known (glance .ensures .0) (c .before .before .before .before .before .seen .given .1)) (put .0) (put .1)), glance .ensures .1, glance .kept .1 .1 .1 .1 .1 .0 ∙ inv .2)
+    (reading-on (inv .0) (at-find at .find-newline .ensures) (at .before .before .before .append .ensures) (more at) (ended .line-end .ensures) (line-ended _ (inv .0 .figures) (foretold-known (glance .ensures .0) (c .before .before .before .before .before .seen .given .1)) (put .0) (put .1)), glance .ensures .1, glance .kept .1 .1 .1 .1 .1 .0 ∙ inv .2)
 
 end-line-requires : tie.Need-end-line-requires Inv-loop μ-loop
 end-line-requires c κs =
-    let at = c .before .before .before .before .before .before .before .before .before .before .before .before .before in
-    (turn at .loop .inv .0 .figures, at .before .before .before .append .ensures .size, end-few (c .before .before .before .before .before .before .before .before .before .before .before .before .line-end .ensures), c .before .before .before .before .before .glance .ensures .0, room at)
-
-loop-less-2 : tie.Need-loop-less-2 Inv-loop μ-loop
-loop-less-2 c = omega (arith, more (c .before .before .before .before .before .before .before .before .before .before .before .before .before .before .before .before), c .before .before .before .before .before .before .before .before .before .before .before .before .before .before .before .before .before .before .before .before .before .before .find-newline .ensures .low)
+    let ended = at-end (c .before .before .before .before) in
+    let at = ended .before in
+    (at-find at .before .loop .inv .0 .figures, at .before .before .before .append .ensures .size, end-few (ended .line-end .ensures), c .before .before .before .before .before .glance .ensures .0, room at)
 
 -- the line was judged
 loop-again-2 : tie.Need-loop-again-2 Inv-loop μ-loop
 loop-again-2 c =
-    let at = c .before .before .before .before .before .before .before .before .before .before .before .before .before .before .before .before in
-    let inv = turn at .loop .inv in
+    let ended = at-end (c .before .before .before .before .before .before .before) in
+    let at = ended .before in
+    let inv = at-find at .before .loop .inv in
     let glance = c .before .before .before .before .before .before .before .before .glance in
-    (reading-on (inv .0) (at .before .before .before .before .before .before .find-newline .ensures) (at .before .before .before .append .ensures) (more at) (c .before .before .before .before .before .before .before .before .before .before .before .before .before .before .before .line-end .ensures) (c .before .before .end-line .ensures), glance .ensures .1, glance .kept .1 .1 .1 .1 .1 .0 ∙ inv .2)
+    (reading-on (inv .0) (at-find at .find-newline .ensures) (at .before .before .before .append .ensures) (more at) (ended .line-end .ensures) (c .before .before .end-line .ensures), glance .ensures .1, glance .kept .1 .1 .1 .1 .1 .0 ∙ inv .2)
 
 pub take-block-spec : {M : Type 1} → statement M
-take-block-spec = tie.close (tie.spec Inv-loop μ-loop loop-holds (λ c κs. (c .loop .inv .0 .low, le-refl _)) (λ c. search needs) (λ c. search needs) (λ c. search needs) append-requires (λ c. search needs) (λ c. search needs) returns add-from (λ c κs. search needs) (λ c. search needs) glance-requires (λ c. search needs) put-line-requires loop-less loop-again (λ c. search needs) end-line-requires loop-less-2 loop-again-2)
+take-block-spec = tie.close (tie.spec Inv-loop μ-loop loop-holds (λ c κs. (c .loop .inv .0 .low, le-refl _)) (λ c. search needs) (λ c. search needs) (λ c. search needs) append-requires (λ c. search needs) (λ c. search needs) returns add-from (λ c κs. search needs) (λ c. search needs) glance-requires (λ c. search needs) put-line-requires (λ c. less (at-end (c .before .before .before .before .before .before .before) .before)) loop-again (λ c. search needs) end-line-requires (λ c. less (at-end (c .before .before .before .before .before .before .before) .before)) loop-again-2)

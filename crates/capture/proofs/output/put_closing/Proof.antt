@@ -7,16 +7,16 @@ use Rattle.capture.proofs.output.put_closing.Tie as tie
 
 returns : tie.Need-returns
 returns c =
-    let start = c .before .before .before .before .before .before .before .before in
-    closed-by (λ line same. closing-in (start .args .tally) line (c .before .before .before .before .before .enum-told2 .given .1) ∙ rw (← same, c .before .before .before .before .if1 .taken)) (c .before .before .put-calls .ensures)
+    let at-if = c .before .before .before .before in
+    closed-by (λ line same. closing-in (at-if .before .before .before .before .args .tally) line (at-if .before .enum-told2 .given .1) ∙ rw (← same, at-if .if1 .taken)) (c .before .before .put-calls .ensures)
 
 returns-2 : tie.Need-returns-2
 returns-2 c = closed-by (λ line same. closing-in (c .before .before .before .args .tally) line (c .enum-told .given .1)) (appended-none _ 0)
 
 returns-3 : tie.Need-returns-3
 returns-3 c =
-    let start = c .before .before .before .before .before .before .before .before .before .before .before .before in
-    closed-by (λ line same. closing-in (start .args .tally) line (c .before .before .before .before .before .before .before .before .before .enum-told2 .given .1) ∙ rw (← same, c .before .before .before .before .before .before .before .before .if1 .left))
+    let at-if = c .before .before .before .before .before .before .before .before in
+    closed-by (λ line same. closing-in (at-if .before .before .before .before .args .tally) line (at-if .before .enum-told2 .given .1) ∙ rw (← same, at-if .if1 .left))
     (appended-both (c .before .before .before .before .before .before .put-line .ensures .0) (c .before .before .put-calls2 .ensures))
 
 returns-4 : tie.Need-returns-4

@@ -20,15 +20,12 @@ counts c = owned-counts _ _ (c .good .1 .1 .0)
 
 loop-again : tie.Need-loop-again Inv-loop μ-loop
 loop-again c =
-    let start = c .before .before .before .before in
-    let all = counts start in
+    let all = counts (c .before .before .before .before) in
     let f = c .before .before .loop .f in
     let inv = c .before .before .loop .inv .1 in (
       omega arith,
       ⊎-elim
-          (λ w.
-          rw (w .5, w .6)
-          (counting-writes (omega arith) (omega arith) (all .below f) (w .0 .taken) (omega arith) (w .2 .ensures) inv))
+          (λ w. rw (w .5, w .6) (counting-writes (omega arith) (omega arith) (all .below f) (w .0 .taken) (omega arith) (w .2 .ensures) inv))
           (λ w. rw (w .1, w .2) (counting-passes (omega arith) (w .0 .left) inv))
           (c .if1 .came),
     )
