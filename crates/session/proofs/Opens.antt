@@ -90,10 +90,7 @@ tells-front {part = part} {r = r} h rest = record {
 
 module _ (way : ℕ) (s : Shape) {word word′ : List ℕ} {found : Decoded} (read : Reading (wayOf way) s word word′ found) where
   pub opens-refused : {e : Refusal} {symbols : List ℕ} → found ≡ decoded.Refused e → Opens (wayOf way) s word word′ symbols (opening.Refused e)
-  opens-refused {e} h = record {
-    tells = tells-refused (rw (sym (read .answer) ∙ h));
-    restored = λ number c k is. absurd (no-page e number c k is);
-  }
+  opens-refused {e} h = record { tells = tells-refused (rw (sym (read .answer) ∙ h)); restored = λ number c k is. absurd (no-page e number c k is) }
 
   module _ {k : ℕ} (h : found ≡ decoded.Corrected k) where
     answered : wayOf way .answer s word ≡ decoded.Corrected k
@@ -128,10 +125,7 @@ module _ (way : ℕ) (σ : Session) (word copied : List ℕ) {loaded left symbol
 
   pub copy-refused : {e : Refusal} {r : Arrived} → found ≡ opening.Refused e → (r .session ≡ σ) × (r .outcome ≡ Refused e) → Deciding (wayOf way) σ word word r
   unfolding outcomeOf sessionAfter
-  copy-refused h answer = record {
-    settled = rw (← brings h) (record { outcome = answer .1; session = answer .0 });
-    wordLeft = rw (answer .1);
-  }
+  copy-refused h answer = record { settled = rw (← brings h) (record { outcome = answer .1; session = answer .0 }); wordLeft = rw (answer .1) }
 
   module _ {number c k : ℕ} (h : found ≡ opening.Page number c k) {r : Arrived} (settled : Settling σ (Page number (take (2 + c - 2) (drop 2 symbols)) k) r) where
     decides : {word′ : List ℕ} → word′ ≡ cond (isAccepted (r .outcome)) left word → Deciding (wayOf way) σ word word′ r

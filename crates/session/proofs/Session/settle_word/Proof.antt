@@ -9,31 +9,31 @@ use Rattle.session.proofs.Arrive.{length-scratch, arriving-bad, settled
 use Rattle.session.proofs.Session.settle_word.Statement.{statement}
 use Rattle.session.proofs.Session.settle_word.Tie as tie
 
-room : (c : tie.After-word-length) → c .word-length .result ≤ 961
-room c = omega (arith, c .word-length .ensures, sizes _ (c .before .before .before .before .pre .lawful) .word)
+-- where the word's length was tested
+abbrev at-test : tie.After-settle-copy-arg → tie.Else1
+at-test c = c .before .before .before .before .before .before .before
+
+room : (c : tie.After-settle-copy-arg) → at-test c .before .word-length .result ≤ 961
+room c = omega (arith, at-test c .before .word-length .ensures, sizes _ (at-test c .before .before .before .before .before .pre .lawful) .word)
 
 returns : tie.Need-returns
 returns c = arriving-bad (settled-word (c .before .before .before .before .before .before .pre) _ _ (λ e. c .before .if1 .taken (e ∙ sym (c .before .before .word-length .ensures)))) length-scratch (c .refused .ensures)
 
 returns-2 : tie.Need-returns-2
 returns-2 c =
-    arriving-bad
-    (settled-scratch (c .before .before .before .before .before .before .before .before .pre) _ _ (c .before .before .before .if1 .left ∙ c .before .before .before .before .word-length .ensures) (λ e. c .before .if2 .taken (e ∙ sym (c .before .before .scratch-length .ensures))))
-    length-scratch (c .refused2 .ensures)
-
-array-borrow-prefix-copied : tie.Need-array-borrow-prefix-copied
-array-borrow-prefix-copied c = room (c .before .before .before .before .before .before .before .before)
-
-slice-aggregate-settle-copy : tie.Need-slice-aggregate-settle-copy
-slice-aggregate-settle-copy c = sym (length-take-le _ _ (room (c .before .before .before .before .before .before .before .before .before)))
+    let tested = c .before .before .before in
+    let bad = settled-scratch (tested .before .before .before .before .before .pre) _ _ (tested .if1 .left ∙ tested .before .word-length .ensures) (λ e. c .before .if2 .taken (e ∙ sym (c .before .before .scratch-length .ensures))) in
+    arriving-bad bad length-scratch (c .refused2 .ensures)
 
 settle-copy-requires : tie.Need-settle-copy-requires
-settle-copy-requires c κs = (c .before .before .before .before .before .before .before .before .before .before .before .before .before .pre, length-take-le _ _ (room (c .before .before .before .before .before .before .before .before .before)) ∙ sym (c .before .before .before .before .before .before .before .before .if1 .left))
+settle-copy-requires c κs = (at-test (c .before) .before .before .before .before .before .pre, length-take-le _ _ (room (c .before)) ∙ sym (at-test (c .before) .if1 .left))
 
 returns-3 : tie.Need-returns-3
 returns-3 c =
-    settled-both (c .before .before .before .before .before .before .before .before .before .before .before .before .before .before .before .before .before .pre) _ _ (c .before .before .before .before .before .before .before .before .before .before .before .before .if1 .left ∙ c .before .before .before .before .before .before .before .before .before .before .before .before .before .word-length .ensures) (c .before .before .before .before .before .before .before .before .before .before .if2 .left ∙ c .before .before .before .before .before .before .before .before .before .before .before .scratch-length .ensures)
-    (c .before .before .before .before .before .before .before .before .clear .ensures) (c .before .before .before .settle-copy .ensures)
+    let at-clear = c .before .before .before .before .before .before .before .before in
+    let tested = at-clear .before .before .before .before in
+    settled-both (tested .before .before .before .before .before .pre) _ _ (tested .if1 .left ∙ tested .before .word-length .ensures) (at-clear .before .before .if2 .left ∙ at-clear .before .before .before .scratch-length .ensures)
+    (at-clear .clear .ensures) (c .before .before .before .settle-copy .ensures)
 
 pub settle-word-spec : {M : Type 1} → statement M
-settle-word-spec = tie.close (tie.spec (λ c κs. search needs) (λ c κs. search needs) returns (λ c κs. search needs) (λ c κs. search needs) returns-2 (λ c κs. search needs) array-borrow-prefix-copied slice-aggregate-settle-copy settle-copy-requires (λ c. search needs) (λ c. search needs) returns-3)
+settle-word-spec = tie.close (tie.spec (λ c κs. search needs) (λ c κs. search needs) returns (λ c κs. search needs) (λ c κs. search needs) returns-2 (λ c κs. search needs) (λ c. room c) (λ c. sym (length-take-le _ _ (room (c .before)))) settle-copy-requires (λ c. search needs) (λ c. search needs) returns-3)
