@@ -13,7 +13,7 @@ returns : tie.Need-returns
 returns c = extraction-refused _ _ _ _ _ _ _ (c .before .before .before .before .before .test .ensures) (c .before .tested .given .1)
 
 returns-2 : tie.Need-returns-2
-returns-2 c = extraction-done _ _ _ _ _ _ _ (c .before .before .before .before .before .before .before .before .test .ensures) (c .before .before .before .before .enum-told .given .1) (c .before .before .gather .ensures)
+returns-2 c = let told = c .before .before .before .before in extraction-done _ _ _ _ _ _ _ (told .before .before .before .before .test .ensures) (told .enum-told .given .1) (c .before .before .gather .ensures)
 
 pub extract-spec : {M : Type 1} → statement M
 extract-spec = tie.close (tie.spec (λ c κs. search needs) (λ c. search needs) (λ c. search needs) gather-requires (λ c. search needs) (λ c. search needs) returns (λ c. search needs) (λ c. search needs) returns-2)
