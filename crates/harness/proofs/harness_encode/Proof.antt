@@ -10,8 +10,8 @@ returns c = unshaped (c .before .if1 .taken) (c .refused .ensures) (refl, refl)
 
 returns-2 : tie.Need-returns-2
 returns-2 c =
-    let called = c .before .before .before .before .before .encode in
-    shaped (c .before .before .before .before .before .before .before .before .before .if1 .left) (c .before .before .before .before .before .before .before .before .load-shape .ensures) (record { answer = called .result; holds = called .ensures; crossed = c .status .ensures })
+    let at-encode = c .before .before .before .before .before in
+    shaped (at-encode .before .before .before .before .if1 .left) (at-encode .before .before .before .load-shape .ensures) (record { answer = at-encode .encode .result; holds = at-encode .encode .ensures; crossed = c .status .ensures })
 
 pub harness-encode-spec : {M : Type 1} → statement M
 harness-encode-spec = tie.close (tie.spec (λ c κs. search needs) returns (λ c κs. search needs) (λ c κs. search needs) (λ c κs. search needs) (λ c. search needs) (λ c. search needs) returns-2)

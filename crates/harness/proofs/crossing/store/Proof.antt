@@ -18,28 +18,32 @@ slice-aggregate-store-shape c = sym (length-take-le 10 (c .before .before .befor
 store-shape-requires : tie.Need-store-shape-requires
 store-shape-requires c κs = length-take-le 10 (c .before .before .before .before .before .args .values .now) (omega arith)
 
+-- where the function began, and where the shape was stored
+abbrev start : tie.After-store-shape → tie.Start
+start c = c .before .before .before .before .before .before
+
+abbrev at-shape : tie.After-store-taken → tie.After-store-shape
+at-shape c = c .before .before .before .before
+
 -- the shape's values are ten
 ten : (c : tie.After-store-shape) → length (c .store-shape .last .1 .0) ≡ 10
-ten c = c .store-shape .kept .1 .0 ∙ length-take-le 10 (c .before .before .before .before .before .before .args .values .now) (omega arith)
+ten c = c .store-shape .kept .1 .0 ∙ length-take-le 10 (start c .args .values .now) (omega arith)
 
 slice-write-values-2 : tie.Need-slice-write-values-2
 slice-write-values-2 c =
     let head = c .before .before in
-    let start = head .before .before .before .before .before .before in
-    omega (arith, paged-size (start .args .values .now) (head .store-shape .last .1 .0) (start .args .session) (start .pre) (ten head))
+    omega (arith, paged-size (start head .args .values .now) (head .store-shape .last .1 .0) (start head .args .session) (start head .pre) (ten head))
 
 part-store-taken-end : tie.Need-part-store-taken-end
 part-store-taken-end c =
     let head = c .before .before in
-    let start = head .before .before .before .before .before .before in
-    omega (arith, figured-size (start .args .values .now) (head .store-shape .last .1 .0) (start .args .session) (start .pre) (ten head))
+    omega (arith, figured-size (start head .args .values .now) (head .store-shape .last .1 .0) (start head .args .session) (start head .pre) (ten head))
 
 -- all values are still there
-all-begun : (c : tie.After-store-taken) → length (begun (c .before .before .before .before .before .before .before .before .before .before .args .values .now) (c .before .before .before .before .store-shape .last .1 .0) (c .before .before .before .before .before .before .before .before .before .before .args .session) (c .store-taken .last .1 .0)) ≡ 1292
+all-begun : (c : tie.After-store-taken) → length (begun (start (at-shape c) .args .values .now) (at-shape c .store-shape .last .1 .0) (start (at-shape c) .args .session) (c .store-taken .last .1 .0)) ≡ 1292
 all-begun c =
-    let head = c .before .before .before .before in
-    let start = head .before .before .before .before .before .before in
-    begun-size (start .args .values .now) (head .store-shape .last .1 .0) (start .args .session) (start .pre) (ten head) (c .store-taken .last .1 .0) (c .store-taken .kept .1 .0)
+    let head = at-shape c in
+    begun-size (start head .args .values .now) (head .store-shape .last .1 .0) (start head .args .session) (start head .pre) (ten head) (c .store-taken .last .1 .0) (c .store-taken .kept .1 .0)
 
 sub-copy : tie.Need-sub-copy
 sub-copy c = omega (arith, all-begun (c .before .before .before))
@@ -50,28 +54,25 @@ part-copy-start c = omega (arith, all-begun (c .before .before .before))
 copy-requires : tie.Need-copy-requires
 copy-requires c κs =
     let marks = c .before .before .before .before in
-    let head = marks .before .before .before .before in
-    let start = head .before .before .before .before .before .before in
+    let head = at-shape marks in
     le-of-eq
-    (counts (start .args .session .calls) _ (start .good .0 .1 .1 .1 .1 .0) .size
-    ∙ sym (counts-room (start .args .values .now) (head .store-shape .last .1 .0) (start .args .session) (start .pre) (ten head) (marks .store-taken .last .1 .0) (marks .store-taken .kept .1 .0)))
+    (counts (start head .args .session .calls) _ (start head .good .0 .1 .1 .1 .1 .0) .size
+    ∙ sym (counts-room (start head .args .values .now) (head .store-shape .last .1 .0) (start head .args .session) (start head .pre) (ten head) (marks .store-taken .last .1 .0) (marks .store-taken .kept .1 .0)))
 
 same-length : tie.Need-same-length
 same-length c =
     let marks = c .before .before .before .before .before .before .before in
-    let head = marks .before .before .before .before in
-    let start = head .before .before .before .before .before .before in
-    let now = begun (start .args .values .now) (head .store-shape .last .1 .0) (start .args .session) (marks .store-taken .last .1 .0) in
+    let head = at-shape marks in
+    let now = begun (start head .args .values .now) (head .store-shape .last .1 .0) (start head .args .session) (marks .store-taken .last .1 .0) in
     let copied = c .before .before .copy in
-    same-len-mid 1036 (length now - 1036) now (copied .last .1 .0) (copied .kept .1 .0) ∙ all-begun marks ∙ sym (start .pre)
+    same-len-mid 1036 (length now - 1036) now (copied .last .1 .0) (copied .kept .1 .0) ∙ all-begun marks ∙ sym (start head .pre)
 
 returns : tie.Need-returns
 returns c =
     let marks = c .before .before .before .before .before .before .before in
-    let head = marks .before .before .before .before in
-    let start = head .before .before .before .before .before .before in
-    stored (start .args .values .now) _ (start .args .session) (start .pre) (ten head) _ (marks .store-taken .kept .1 .0) (head .store-shape .ensures) (marks .store-taken .ensures)
-    (counts (start .args .session .calls) _ (start .good .0 .1 .1 .1 .1 .0) .size) (c .before .before .copy .ensures)
+    let head = at-shape marks in
+    stored (start head .args .values .now) _ (start head .args .session) (start head .pre) (ten head) _ (marks .store-taken .kept .1 .0) (head .store-shape .ensures) (marks .store-taken .ensures)
+    (counts (start head .args .session .calls) _ (start head .good .0 .1 .1 .1 .1 .0) .size) (c .before .before .copy .ensures)
 
 pub store-spec : {M : Type 1} → statement M
 store-spec = tie.close (tie.spec (λ c. search needs) slice-aggregate-store-shape store-shape-requires (λ c. search needs) slice-write-values-2 (λ c. search needs) (λ c. search needs) part-store-taken-end (λ c κs. search needs) (λ c. search needs) sub-copy part-copy-start (λ c. search needs) copy-requires same-length returns)
