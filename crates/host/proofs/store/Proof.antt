@@ -17,14 +17,10 @@ abbrev μ-loop : tie.MeasureT-loop
 μ-loop symbols bytes₀ i₀ i-end bytes i = length symbols - i
 
 loop-again : tie.Need-loop-again Inv-loop μ-loop
-loop-again c = (
-  search needs,
-  search needs,
-  search needs,
-  stored (c .before .before .before .before .before .before .before .before .before .args .symbols .now) (c .before .before .before .before .before .before .loop .bytes)
-      (c .before .before .before .before .before .before .loop .i) (c .before .before .put-symbol .ensures) (c .before .before .before .before .before .before .loop .inv .3)
-      (omega arith) (omega arith),
-)
+loop-again c =
+    let turn = c .before .before .before .before .before .before in
+    let more = stored (turn .before .before .before .args .symbols .now) (turn .loop .bytes) (turn .loop .i) (c .before .before .put-symbol .ensures) (turn .loop .inv .3) (omega arith) (omega arith) in
+    (search needs, search needs, search needs, more)
 
 returns : tie.Need-returns Inv-loop μ-loop
 returns c = all-stored _ _ (c .before .loop .i) (c .before .loop .inv .3) (omega arith) (omega arith)
