@@ -7,7 +7,9 @@ use Rattle.command.proofs.shown.put_lowest.Statement.{statement}
 use Rattle.command.proofs.shown.put_lowest.Tie as tie
 
 returns : tie.Need-returns
-returns c = rw (lowest-some (c .before .before .before .before .before .before .before .before .before .before .before .args .lowest) (omega arith)) (put-both (omega arith) (c .before .before .before .before .before .before .put-text .ensures) (c .before .before .put-number .ensures))
+returns c =
+    let at-text = c .before .before .before .before .before .before in
+    rw (lowest-some (at-text .before .before .before .before .before .args .lowest) (omega arith)) (put-both (omega arith) (at-text .put-text .ensures) (c .before .before .put-number .ensures))
 
 returns-2 : tie.Need-returns-2
 returns-2 c = rw (lowest-none (c .before .before .before .before .before .before .before .args .lowest) (omega arith)) (c .before .before .put-text2 .ensures)
