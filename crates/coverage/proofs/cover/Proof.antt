@@ -18,7 +18,8 @@ returns-2 c = refusing _ _ (rw (sym (c .before .before .before .status .ensures)
 returns-3 : tie.Need-returns-3
 unfolding coverOf
 returns-3 c =
-    covering (c .before .before .before .before .before .before .before .before .before .before .before .args .t1) _ (rw (sym (c .before .before .before .before .before .before .before .before .before .status .ensures) ∙ c .before .before .before .before .before .before .before .enum-told .given .1, eq-eqb _ 256 (c .before .before .before .before .before .before .if1 .left))) (c .before .before .mark .ensures)
+    let at-if = c .before .before .before .before .before .before in
+    covering (at-if .before .before .before .before .before .args .t1) _ (rw (sym (at-if .before .before .before .status .ensures) ∙ at-if .before .enum-told .given .1, eq-eqb _ 256 (at-if .if1 .left))) (c .before .before .mark .ensures)
 
 pub cover-spec : {M : Type 1} → statement M
 cover-spec = tie.close (tie.spec (λ c κs. search needs) (λ c. search needs) returns (λ c. search needs) returns-2 (λ c κs. search needs) (λ c. search needs) returns-3)
