@@ -14,7 +14,7 @@ unfolding outcomeName
 returns-2 c = rw (c .before .before .before .before .before .if2 .taken) (c .before .before .put-text2 .ensures)
 
 returns-3 : tie.Need-returns-3
-returns-3 c = rw (name-refused (c .before .before .before .before .before .before .before .before .args .kind) (c .before .before .before .before .before .before .if1 .left) (c .before .before .before .before .before .if2 .left)) (c .before .before .put-text3 .ensures)
+returns-3 c = let at-if = c .before .before .before .before .before in rw (name-refused (at-if .before .before .before .args .kind) (at-if .before .if1 .left) (at-if .if2 .left)) (c .before .before .put-text3 .ensures)
 
 pub put-kind-spec : {M : Type 1} → statement M
 put-kind-spec = tie.close (tie.spec (λ c. search needs) (λ c κs. search needs) (λ c. search needs) returns (λ c. search needs) (λ c κs. search needs) (λ c. search needs) returns-2 (λ c. search needs) (λ c κs. search needs) (λ c. search needs) returns-3)
