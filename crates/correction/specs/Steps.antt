@@ -12,7 +12,7 @@ use Rattle.gtb.specs.declared.Refusal.{Refusal}
 use Rattle.gtb.specs.declared.Status.{Status}
 use Rattle.gtb.specs.declared.Status.the-variants as status
 use Rattle.gtb.specs.Shape.{lawful, shapeRefusal, wordLength, slopeOf}
-use Rattle.gtb.specs.Square.{lineOf, at, silentTest, Word, Syndromes}
+use Rattle.gtb.specs.Square.{lineOf, at, Word, Syndromes}
 use Rattle.gtb.specs.Answer.{unless}
 use Rattle.gtb.specs.Lent.{wordStatus}
 use Rattle.correction.specs.declared.Decoded.{Decoded}
@@ -51,10 +51,6 @@ pub record Lists (s : Shape) (error : ℕ → ℕ) (k : ℕ) (places errors : Li
 -- these corrections taken off the word: it is mended by the error that they are
 pub record Mends (s : Shape) (k : ℕ) (places errors w w′ : List ℕ) : Type 0 where
   pub mends : (error : ℕ → ℕ) → Lists s error k places errors → w′ ≡ mended s w error
-
--- these corrections tried on a table: r says whether they silence every check of its word
-pub record Silences (s : Shape) (k : ℕ) (places errors syn : List ℕ) (r : Bool) : Type 0 where
-  pub silent : (error : ℕ → ℕ) → Lists s error k places errors → (w : List ℕ) → Syndromes s w syn → r ≡ silentTest s (at (mended s w error))
 
 -- the reader accepts the word, and these corrections restore it
 pub record Corrections (reader : Reader) (s : Shape) (w : List ℕ) (k : ℕ) (places errors : List ℕ) : Type 0 where

@@ -7,7 +7,7 @@ ghost use lib.ListN.{length};
 ghost use Rattle.gtb.specs.Shape.{Lawful, wordLength};
 ghost use Rattle.correction.specs.Error.{checkOf};
 ghost use Rattle.correction.specs.Shipped.{Tabled};
-ghost use Rattle.correction.specs.Steps.{quiet, Toggled, Within, Cancelled, Silences};
+ghost use Rattle.correction.specs.Steps.{quiet, Toggled, Within, Cancelled};
 
 // The n checks on position j.
 fn cancel_one(shape: Shape, table: &[u8], syn: &mut [u32; 248], j: usize, error: u32)
@@ -38,6 +38,21 @@ pub fn cancel_by(
     }
 }
 
+// The same without a table.
+pub fn cancel(
+    shape: Shape,
+    syn: &mut [u32; 248],
+    places: &[usize; 8],
+    errors: &[u32; 8],
+    count: usize,
+)
+    requires { ⌜ Lawful shape × (length (now syn) ≡ 248) × Within shape count (now places) ⌝ }
+    ensures { λ _. ⌜ Cancelled shape count (now (places .entry)) (now (errors .entry)) (now (syn .entry)) (now (syn .exit)) ⌝ }
+{
+    let none = [0u8; 1];
+    cancel_by(shape, &none, syn, places, errors, count);
+}
+
 // Every check is silent. One value gathers the bits of them all, so that the loop has no branch.
 pub fn is_silent(shape: Shape, syn: &[u32; 248]) -> bool
     requires { ⌜ Lawful shape ⌝ }
@@ -51,35 +66,4 @@ pub fn is_silent(shape: Shape, syn: &[u32; 248]) -> bool
         bits |= syn[e];
     }
     bits == 0
-}
-
-// The corrections are tried on `syn`: every check is silent then.
-pub fn silences_by(
-    shape: Shape,
-    table: &[u8],
-    syn: &mut [u32; 248],
-    places: &[usize; 8],
-    errors: &[u32; 8],
-    count: usize,
-) -> bool
-    requires { ⌜ Lawful shape × Tabled shape (now table) × (length (now syn) ≡ 248) × Within shape count (now places) ⌝ }
-    ensures { λ r. ⌜ Silences shape count (now (places .entry)) (now (errors .entry)) (now (syn .entry)) r ⌝ }
-{
-    cancel_by(shape, table, syn, places, errors, count);
-    is_silent(shape, syn)
-}
-
-// The same without a table.
-pub fn silences(
-    shape: Shape,
-    syn: &mut [u32; 248],
-    places: &[usize; 8],
-    errors: &[u32; 8],
-    count: usize,
-) -> bool
-    requires { ⌜ Lawful shape × (length (now syn) ≡ 248) × Within shape count (now places) ⌝ }
-    ensures { λ r. ⌜ Silences shape count (now (places .entry)) (now (errors .entry)) (now (syn .entry)) r ⌝ }
-{
-    let none = [0u8; 1];
-    silences_by(shape, &none, syn, places, errors, count)
 }

@@ -16,10 +16,10 @@ use Rattle.gtb.specs.Shape.{Lawful, wordLength}
 use Rattle.gtb.specs.Square.{lineOf, at, Syndromes}
 use Rattle.gtb.proofs.Bounds.{bounds}
 use Rattle.correction.specs.Reading.{changesBy, restoredBy, acceptedBy}
-use Rattle.correction.specs.Steps.{Lists, Listed, Gathered, Silences, Found}
+use Rattle.correction.specs.Steps.{quiet, Lists, Listed, Gathered, Cancelled, Found}
 use Rattle.correction.proofs.Listing.{within, listed-lists, lists-cong}
 use Rattle.correction.proofs.Readings.{too-many, found-none, found-few}
-use Rattle.correction.proofs.Tables.{shown}
+use Rattle.correction.proofs.Tables.{shown, silent-by}
 use Rattle.decoder.specs.Decode.{located, alone, errorAt, clean}
 use Rattle.decoder.specs.Steps.{judged, shares, aloneAmong, errorAmong}
 
@@ -64,18 +64,18 @@ module _ (s : Shape) (h : Lawful s) (w syn : List ℕ) (y : Syndromes s w syn) w
         (listed-lists s (errorAmong s syn places k) l m)
 
     -- test 4 by the table after the corrections
-    correctable-by : {r : Bool} → Silences s k places errors syn r → k < s .n → acceptedBy clean s w ≡ r
+    correctable-by : {new : List ℕ} → Cancelled s k places errors syn new → k < s .n → acceptedBy clean s w ≡ quiet s new
     unfolding acceptedBy restoredBy
     correctable-by t lk =
-        ap₂ (λ (a b : Bool). a && b) (le-leb (changesBy clean s w) (s .n - 1) (omega (arith, counts-located, l .counted))) (sym (t .silent _ errors-listed w y))
+        ap₂ (λ (a b : Bool). a && b) (le-leb (changesBy clean s w) (s .n - 1) (omega (arith, counts-located, l .counted))) (silent-by errors-listed y t h)
 
 -- ---- what `find` gives
 pub found-many : {s : Shape} {syn places errors : List ℕ} → Lawful s → s .n ≤ count (wordLength s) (judged s syn) → Found clean s (s .n) true syn places errors (s .n)
 found-many {s} {syn} h many = found-none (λ whole w hw y. uncorrectable s h w syn y many)
 
-module _ {s : Shape} {syn places errors : List ℕ} {k : ℕ} {r : Bool} (h : Lawful s) (lk : k < s .n) (l : Listed (judged s syn) (wordLength s) k places)
-    (m : Gathered 8 (λ x. errorAmong s syn places k (at places x)) k errors) (t : Silences s k places errors syn r) where
-  pub found-corrections : r ≡ true → Found clean s (s .n) true syn places errors k
+module _ {s : Shape} {syn places errors new : List ℕ} {k : ℕ} (h : Lawful s) (lk : k < s .n) (l : Listed (judged s syn) (wordLength s) k places)
+    (m : Gathered 8 (λ x. errorAmong s syn places k (at places x)) k errors) (t : Cancelled s k places errors syn new) where
+  pub found-corrections : quiet s new ≡ true → Found clean s (s .n) true syn places errors k
   unfolding restoredBy
   found-corrections e =
       found-few lk (within h lk l)
@@ -87,5 +87,5 @@ module _ {s : Shape} {syn places errors : List ℕ} {k : ℕ} {r : Bool} (h : La
         word = refl;
       })
 
-  pub found-loud : r ≡ false → Found clean s (s .n) true syn places errors (s .n)
+  pub found-loud : quiet s new ≡ false → Found clean s (s .n) true syn places errors (s .n)
   found-loud e = found-none (λ whole w hw y. correctable-by s h w syn y l m t lk ∙ e)

@@ -3,8 +3,8 @@ use crate::error::evaluate;
 use crate::locate::locate;
 use correction::Decoded;
 use correction::apply;
+use correction::cancel::cancel_by;
 use correction::cancel::is_silent;
-use correction::cancel::silences_by;
 use correction::shipped::is_shipped;
 use correction::table::check_numbers;
 use gtb::Refusal;
@@ -35,7 +35,8 @@ fn find_by(
         return n;
     }
     evaluate(shape, table, syn, places, count, errors);
-    if silences_by(shape, table, syn, places, errors, count) {
+    cancel_by(shape, table, syn, places, errors, count);
+    if is_silent(shape, syn) {
         return count;
     }
     n

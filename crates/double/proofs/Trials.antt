@@ -1,15 +1,16 @@
 -- A pair as a list of two corrections: tried on the table, and taken off the word.
-use mathlib.Core.Path.{_≡_, refl}
+use mathlib.Core.Path.{_≡_, refl, sym, _∙_}
 use mathlib.Core.Bool.{Bool, true}
 use mathlib.Core.List.{List}
 use Prim.Native.Nat.{ℕ, zero, suc, _<_}
 use native.Mathlib.Omega.{arith}
 use Rattle.gtb.specs.declared.Shape.{Shape}
-use Rattle.gtb.specs.Shape.{wordLength}
+use Rattle.gtb.specs.Shape.{Lawful, wordLength}
 use Rattle.gtb.specs.Square.{at, Word, Syndromes}
 use Rattle.distance.specs.Distance.{Near}
 use Rattle.correction.specs.Error.{mended}
-use Rattle.correction.specs.Steps.{Within, Silences, Mends}
+use Rattle.correction.specs.Steps.{quiet, Within, Cancelled, Mends}
+use Rattle.correction.proofs.Tables.{silent-by}
 use Rattle.correction.proofs.Near.{error-near}
 use Rattle.double.specs.declared.Pair.{Pair}
 use Rattle.double.specs.Steps.{pairOf, without, Tried, Proposed, pairChanges}
@@ -28,14 +29,14 @@ module _ (s : Shape) (places errors : List ℕ) (la : at places 0 < wordLength s
       below (suc zero) l = lb
       below (suc (suc x)) l = absurd (omega arith)
 
-  pub pair-tried : {syn : List ℕ} {works : Bool} → Silences s 2 places errors syn works
+  pub pair-tried : {syn new : List ℕ} {works : Bool} → Lawful s → Cancelled s 2 places errors syn new → works ≡ quiet s new
       → Tried s syn (at places 0) (at errors 0) (at places 1) (at errors 1) (asPair works places errors)
-  pair-tried t = record {
+  pair-tried h t e = record {
     place-a = refl;
     value-x = refl;
     place-b = refl;
     value-y = refl;
-    works = t .silent _ (pair-lists s places errors la lb);
+    works = λ w y. e ∙ sym (silent-by (pair-lists s places errors la lb) y t h);
   }
 
   pub pair-taken : {w w′ : List ℕ} → Mends s 2 places errors w w′ → w′ ≡ mended s w (pairOf (at places 0) (at errors 0) (at places 1) (at errors 1))

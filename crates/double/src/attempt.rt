@@ -3,7 +3,8 @@ use crate::Pair;
 use crate::lines::cross;
 use crate::lines::first_line;
 use crate::lines::last_line;
-use correction::cancel::silences;
+use correction::cancel::cancel;
+use correction::cancel::is_silent;
 use gtb::Shape;
 ghost use mathlib.Core.Path.{_≡_};
 ghost use mathlib.Core.Bool.{cond};
@@ -22,7 +23,8 @@ fn test_pair(shape: Shape, syn: &[u32; 248], a: usize, x: u32, b: usize, y: u32)
     let places = [a, b, 0, 0, 0, 0, 0, 0];
     let errors = [x, y, 0, 0, 0, 0, 0, 0];
     let mut left = *syn;
-    let works = silences(shape, &mut left, &places, &errors, 2);
+    cancel(shape, &mut left, &places, &errors, 2);
+    let works = is_silent(shape, &left);
     Pair {
         works: works,
         a: a,

@@ -19,9 +19,9 @@ use Rattle.gtb.proofs.Bounds.{bounds}
 use Rattle.distance.specs.Distance.{Near}
 use Rattle.correction.specs.Error.{onCheck, mended}
 use Rattle.correction.specs.Reading.{changesBy, restoredBy, acceptedBy}
-use Rattle.correction.specs.Steps.{Lists, Listed, Gathered, Silences, Found}
+use Rattle.correction.specs.Steps.{quiet, Lists, Listed, Gathered, Cancelled, Found}
 use Rattle.correction.proofs.Listing.{within, listed-lists, lists-cong, when-nonzero}
-use Rattle.correction.proofs.Tables.{shown}
+use Rattle.correction.proofs.Tables.{shown, silent-by}
 use Rattle.correction.proofs.Near.{error-near}
 use Rattle.correction.proofs.Readings.{too-many, still-loud, found-none, found-few}
 use Rattle.majority.specs.Majority.{votedAt, vote}
@@ -68,21 +68,21 @@ pub found-many : {s : Shape} {syn places errors : List ℕ} (loud : Bool) → La
 found-many {s} {syn} loud h many =
     found-none (λ every w hw y. not-elected s h w syn y (omega (arith, count-cong (wordLength s) _ _ (λ j lj. foundIn-all s syn loud every j))))
 
-module _ {s : Shape} {syn places errors : List ℕ} {k : ℕ} {r : Bool} (loud : Bool) (h : Lawful s) (lk : k < tooMany s) (l : Listed (foundIn s syn loud) (wordLength s) k places)
-    (m : Gathered 8 (λ x. votedIn s syn (at places x)) k errors) (t : Silences s k places errors syn r) where
+module _ {s : Shape} {syn places errors new : List ℕ} {k : ℕ} (loud : Bool) (h : Lawful s) (lk : k < tooMany s) (l : Listed (foundIn s syn loud) (wordLength s) k places)
+    (m : Gathered 8 (λ x. votedIn s syn (at places x)) k errors) (t : Cancelled s k places errors syn new) where
   -- the list holds them
   part-listed : Lists s (part s syn loud) k places errors
   part-listed = listed-lists s (votedIn s syn) l m
 
   -- where they silence every check they are at most n/2 errors on a codeword, so the vote finds just these
-  part-near : r ≡ true → (w : List ℕ) → Word s w → Syndromes s w syn → Near s (s .n / 2) w (mended s w (part s syn loud)) k
+  part-near : quiet s new ≡ true → (w : List ℕ) → Word s w → Syndromes s w syn → Near s (s .n / 2) w (mended s w (part s syn loud)) k
   part-near e w hw y =
       let number : count (wordLength s) (λ j. not (eqb (part s syn loud j) 0)) ≡ k = count-cong (wordLength s) _ _ (λ j lj. part-nonzero s syn loud j) ∙ l .counted in
       rw number at (error-near s w (part s syn loud) (s .n / 2) hw
       (λ j lj. when-lt (s .b) (foundIn s syn loud j) (votedIn s syn j) (rw (voted-in s h w syn y j lj) (vote-narrow s w hw j))) (omega arith)
-      (sym (t .silent _ part-listed w y) ∙ e))
+      (silent-by part-listed y t h ∙ e))
 
-  pub found-changes : r ≡ true → Found vote s (tooMany s) (not loud) syn places errors k
+  pub found-changes : quiet s new ≡ true → Found vote s (tooMany s) (not loud) syn places errors k
   found-changes e =
       found-few lk (within h (omega (arith, bounds s h .n2)) l)
       (λ w hw y.
@@ -90,9 +90,9 @@ module _ {s : Shape} {syn places errors : List ℕ} {k : ℕ} {r : Bool} (loud :
       record { error = part s syn loud; listed = part-listed; accepted = g .accepted; changed = g .changed; word = g .word })
 
   -- it leaves a check that is not silent
-  pub found-loud : r ≡ false → Found vote s (tooMany s) (not loud) syn places errors (tooMany s)
+  pub found-loud : quiet s new ≡ false → Found vote s (tooMany s) (not loud) syn places errors (tooMany s)
   unfolding restoredBy
   found-loud e =
       found-none
       (λ every w hw y.
-      still-loud vote s w (sym (t .silent _ (lists-cong (λ j lj. sym (voted-in s h w syn y j lj) ∙ whole s syn loud every j) part-listed) w y) ∙ e))
+      still-loud vote s w (silent-by (lists-cong (λ j lj. sym (voted-in s h w syn y j lj) ∙ whole s syn loud every j) part-listed) y t h ∙ e))

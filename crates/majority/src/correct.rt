@@ -3,8 +3,8 @@ use crate::locate::locate;
 use crate::vote::vote;
 use correction::Decoded;
 use correction::apply;
+use correction::cancel::cancel;
 use correction::cancel::is_silent;
-use correction::cancel::silences;
 use gtb::Refusal;
 use gtb::Shape;
 ghost use mathlib.Core.Path.{_≡_};
@@ -50,7 +50,8 @@ fn find(
         return limit;
     }
     evaluate(shape, syn, places, count, errors);
-    if silences(shape, syn, places, errors, count) {
+    cancel(shape, syn, places, errors, count);
+    if is_silent(shape, syn) {
         return count;
     }
     limit

@@ -1,4 +1,5 @@
 -- `decoder::correct::find_by` meets its contract. What holds of the list, the errors and the table gives what the contract says of every word with these syndromes (Reading.antt).
+use mathlib.Core.Path.{sym, _∙_}
 use borrow.Author.Needs.{needs}
 use Rattle.gtb.specs.Shape.{wordLength}
 use Rattle.correction.specs.Steps.{Within, Listed}
@@ -30,23 +31,23 @@ evaluate-requires c κs =
     let p = start e .pre in
     (p .0, p .1, p .4, inside e)
 
-silences-by-requires : tie.Need-silences-by-requires
-silences-by-requires c κs =
+cancel-by-requires : tie.Need-cancel-by-requires
+cancel-by-requires c κs =
     let e = c .before .before .before .before .before .before .before in
     let p = start e .pre in
     (p .0, p .1, p .2, inside e)
 
 returns-2 : tie.Need-returns-2
 returns-2 c =
-    let m = c .before .before .before .before .before in
+    let m = c .before .before .before .before .before .before .before in
     let e = m .before .before .before .before in
-    found-corrections (start e .pre .0) (e .if1 .left) (listed e) (m .evaluate .ensures) (c .before .silences-by .ensures) (c .if2 .taken)
+    found-corrections (start e .pre .0) (e .if1 .left) (listed e) (m .evaluate .ensures) (c .before .before .before .cancel-by .ensures) (sym (c .before .is-silent .ensures) ∙ c .if2 .taken)
 
 returns-3 : tie.Need-returns-3
 returns-3 c =
-    let m = c .before .before .before .before .before in
+    let m = c .before .before .before .before .before .before .before in
     let e = m .before .before .before .before in
-    found-loud (start e .pre .0) (e .if1 .left) (listed e) (m .evaluate .ensures) (c .before .silences-by .ensures) (c .if2 .left)
+    found-loud (start e .pre .0) (e .if1 .left) (listed e) (m .evaluate .ensures) (c .before .before .before .cancel-by .ensures) (sym (c .before .is-silent .ensures) ∙ c .if2 .left)
 
 pub find-by-spec : {M : Type 1} → statement M
-find-by-spec = tie.close (tie.spec (λ c. search needs) locate-requires returns evaluate-requires silences-by-requires returns-2 returns-3)
+find-by-spec = tie.close (tie.spec (λ c. search needs) locate-requires returns evaluate-requires cancel-by-requires (λ c κs. search needs) returns-2 returns-3)
