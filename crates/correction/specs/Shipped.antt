@@ -1,6 +1,6 @@
 -- The shipped shape and the table of its check numbers (request N11).
 use mathlib.Core.Path.{_≡_}
-use mathlib.Core.Bool.{Bool, _&&_}
+use mathlib.Core.Bool.{Bool, true, _&&_}
 use mathlib.Core.List.{List}
 use Prim.Native.Nat.{ℕ, zero, suc, _+_, _*_, _/_, _%_, _<_}
 use lib.Dec.{eqb}
@@ -24,6 +24,6 @@ pub record CheckNumbers (table : List ℕ) : Type 0 where
   pub size : length table ≡ 1156
   pub number : (j t : ℕ) → j < 289 → t < 4 → at table (4 * j + t) ≡ t * 17 + shippedLine t j
 
--- a lent table: one of 1,156 numbers has the shape's, any other is none
-pub record Tabled (s : Shape) (table : List ℕ) : Type 0 where
-  pub number : length table ≡ 1156 → (j t : ℕ) → j < wordLength s → t < s .n → (4 * j + t < 1156) × (at table (4 * j + t) ≡ checkOf s j t)
+-- a lent table, if there is one: the shape's check numbers
+pub record Tabled (s : Shape) (tabled : Bool) (table : List ℕ) : Type 0 where
+  pub number : tabled ≡ true → (j t : ℕ) → j < wordLength s → t < s .n → (4 * j + t < length table) × (at table (4 * j + t) ≡ checkOf s j t)

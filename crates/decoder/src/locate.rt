@@ -5,6 +5,7 @@ use correction::checks::put_shifts;
 use correction::shipped::number_by;
 use gtb::Shape;
 ghost use mathlib.Core.Path.{_≡_};
+ghost use mathlib.Core.Bool.{false};
 ghost use Prim.Native.Nat.{_+_, _*_, _<_, _≤_};
 ghost use lib.ListN.{length};
 ghost use Rattle.gtb.specs.Shape.{Lawful, wordLength};
@@ -15,11 +16,11 @@ ghost use Rattle.correction.specs.Steps.{Shifts, Listed, Scanned};
 ghost use Rattle.decoder.specs.Steps.{judged, Judges, PassedOver};
 
 // The shifts of a row, where no table is lent: with one there is no need of them.
-pub fn shifts_by(shape: Shape, table: &[u8], row: usize, shifts: &mut [usize; 8])
+pub fn shifts_by(shape: Shape, tabled: bool, row: usize, shifts: &mut [usize; 8])
     requires { ⌜ Lawful shape × (row < shape .q) × (length (now shifts) ≡ 8) ⌝ }
-    ensures { λ _. ⌜ ((length (now (table .entry)) ≡ 1156 → ⊥) → Shifts shape row (shape .n) (now (shifts .exit))) ⌝ }
+    ensures { λ _. ⌜ (tabled ≡ false → Shifts shape row (shape .n) (now (shifts .exit))) ⌝ }
 {
-    if table.len() == 1156 {
+    if tabled {
         return;
     }
     put_shifts(shape, row, shifts);
@@ -28,19 +29,20 @@ pub fn shifts_by(shape: Shape, table: &[u8], row: usize, shifts: &mut [usize; 8]
 // The number of a position's check in a direction from 1 on.
 fn check_in_row(
     shape: Shape,
+    tabled: bool,
     table: &[u8],
     shifts: &[usize; 8],
     t: usize,
     row: usize,
     column: usize,
 ) -> usize
-    requires { ⌜ Lawful shape × Tabled shape (now table) × ((length (now table) ≡ 1156 → ⊥) → Shifts shape row (shape .n) (now shifts))
+    requires { ⌜ Lawful shape × Tabled shape tabled (now table) × (tabled ≡ false → Shifts shape row (shape .n) (now shifts))
         × (1 ≤ t) × (t < shape .n) × (row < shape .q) × (column < shape .q) ⌝ }
     ensures { λ r. ⌜ r ≡ checkOf shape (row * shape .q + column) t ⌝ }
 {
     let q = shape.q as usize;
-    if table.len() == 1156 {
-        return number_by(shape, table, t, row * q + column);
+    if tabled {
+        return number_by(shape, tabled, table, t, row * q + column);
     }
     t * q + gtb::add_mod(column, shifts[t], q)
 }
@@ -55,6 +57,7 @@ pub struct Judged {
 // the row first, whose value `own` is, up to the first silent one.
 pub fn judge(
     shape: Shape,
+    tabled: bool,
     table: &[u8],
     syn: &[u32; 248],
     own: u32,
@@ -62,7 +65,7 @@ pub fn judge(
     row: usize,
     column: usize,
 ) -> Judged
-    requires { ⌜ Lawful shape × Tabled shape (now table) × ((length (now table) ≡ 1156 → ⊥) → Shifts shape row (shape .n) (now shifts))
+    requires { ⌜ Lawful shape × Tabled shape tabled (now table) × (tabled ≡ false → Shifts shape row (shape .n) (now shifts))
         × (own ≡ at (now syn) row) × (row < shape .q) × (column < shape .q) ⌝ }
     ensures { λ r. ⌜ Judges shape (now (syn .entry)) (row * shape .q + column) r ⌝ }
 {
@@ -74,7 +77,7 @@ pub fn judge(
     }
     let n = shape.n as usize;
     for t in 1..n {
-        let check = check_in_row(shape, table, shifts, t, row, column);
+        let check = check_in_row(shape, tabled, table, shifts, t, row, column);
         if syn[check] == 0 {
             let looked = t as u32 + 1;
             return Judged {
@@ -92,6 +95,7 @@ pub fn judge(
 // The position in this row and column joins the list if it is located.
 fn keep(
     shape: Shape,
+    tabled: bool,
     table: &[u8],
     syn: &[u32; 248],
     own: u32,
@@ -101,12 +105,12 @@ fn keep(
     places: &mut [usize; 8],
     count: usize,
 ) -> usize
-    requires { ⌜ Lawful shape × Tabled shape (now table) × ((length (now table) ≡ 1156 → ⊥) → Shifts shape row (shape .n) (now shifts))
+    requires { ⌜ Lawful shape × Tabled shape tabled (now table) × (tabled ≡ false → Shifts shape row (shape .n) (now shifts))
         × (own ≡ at (now syn) row) × (row < shape .q) × (column < shape .q) × (count < shape .n) × Listed (judged shape (now syn)) (row * shape .q + column) count (now places) ⌝ }
     ensures { λ r. ⌜ Listed (judged shape (now (syn .entry))) (row * shape .q + column + 1) r (now (places .exit)) ⌝ }
 {
     let q = shape.q as usize;
-    let judged = judge(shape, table, syn, own, shifts, row, column);
+    let judged = judge(shape, tabled, table, syn, own, shifts, row, column);
     if judged.located {
         places[count] = row * q + column;
         return count + 1;
@@ -117,13 +121,14 @@ fn keep(
 // One row. One whose own check is silent is passed over as a whole: its positions are judged with one look.
 fn scan_row(
     shape: Shape,
+    tabled: bool,
     table: &[u8],
     syn: &[u32; 248],
     row: usize,
     places: &mut [usize; 8],
     count: usize,
 ) -> usize
-    requires { ⌜ Lawful shape × Tabled shape (now table) × (row < shape .q) × (count < shape .n) × Listed (judged shape (now syn)) (row * shape .q) count (now places) ⌝ }
+    requires { ⌜ Lawful shape × Tabled shape tabled (now table) × (row < shape .q) × (count < shape .n) × Listed (judged shape (now syn)) (row * shape .q) count (now places) ⌝ }
     ensures { λ r. ⌜ Scanned (judged shape (now (syn .entry))) (shape .n) (row * shape .q + shape .q) r (now (places .exit))
         × (at (now (syn .entry)) row ≡ 0 → PassedOver shape (now (syn .entry)) row) ⌝ }
 {
@@ -134,10 +139,21 @@ fn scan_row(
     let q = shape.q as usize;
     let n = shape.n as usize;
     let mut shifts = [0usize; 8];
-    shifts_by(shape, table, row, &mut shifts);
+    shifts_by(shape, tabled, row, &mut shifts);
     let mut found = count;
     for c in 0..q {
-        found = keep(shape, table, syn, check, &shifts, row, c, places, found);
+        found = keep(
+            shape,
+            tabled,
+            table,
+            syn,
+            check,
+            &shifts,
+            row,
+            c,
+            places,
+            found,
+        );
         if n <= found {
             return n;
         }
@@ -146,15 +162,21 @@ fn scan_row(
 }
 
 // The whole word: the number of located positions, or n if there are more than n - 1.
-pub fn locate(shape: Shape, table: &[u8], syn: &[u32; 248], places: &mut [usize; 8]) -> usize
-    requires { ⌜ Lawful shape × Tabled shape (now table) × (length (now places) ≡ 8) ⌝ }
+pub fn locate(
+    shape: Shape,
+    tabled: bool,
+    table: &[u8],
+    syn: &[u32; 248],
+    places: &mut [usize; 8],
+) -> usize
+    requires { ⌜ Lawful shape × Tabled shape tabled (now table) × (length (now places) ≡ 8) ⌝ }
     ensures { λ r. ⌜ Scanned (judged shape (now (syn .entry))) (shape .n) (wordLength shape) r (now (places .exit)) ⌝ }
 {
     let q = shape.q as usize;
     let n = shape.n as usize;
     let mut found = 0;
     for row in 0..q {
-        found = scan_row(shape, table, syn, row, places, found);
+        found = scan_row(shape, tabled, table, syn, row, places, found);
         if n <= found {
             return n;
         }

@@ -14,16 +14,23 @@ ghost use Rattle.decoder.specs.Looking.{lookedAt};
 ghost use Rattle.decoder.specs.Steps.{lookedIn};
 
 // One row of the list.
-fn note_row(shape: Shape, table: &[u8], syn: &[u32; 248], row: usize, looked: &mut [u32])
-    requires { ⌜ Lawful shape × Tabled shape (now table) × (row < shape .q) × Gathered (wordLength shape) (lookedIn shape (now syn)) (row * shape .q) (now looked) ⌝ }
+fn note_row(
+    shape: Shape,
+    tabled: bool,
+    table: &[u8],
+    syn: &[u32; 248],
+    row: usize,
+    looked: &mut [u32],
+)
+    requires { ⌜ Lawful shape × Tabled shape tabled (now table) × (row < shape .q) × Gathered (wordLength shape) (lookedIn shape (now syn)) (row * shape .q) (now looked) ⌝ }
     ensures { λ _. ⌜ Gathered (wordLength shape) (lookedIn shape (now (syn .entry))) (row * shape .q + shape .q) (now (looked .exit)) ⌝ }
 {
     let q = shape.q as usize;
     let own = syn[row];
     let mut shifts = [0usize; 8];
-    shifts_by(shape, table, row, &mut shifts);
+    shifts_by(shape, tabled, row, &mut shifts);
     for c in 0..q {
-        let judged = judge(shape, table, syn, own, &shifts, row, c);
+        let judged = judge(shape, tabled, table, syn, own, &shifts, row, c);
         looked[row * q + c] = judged.looked;
     }
 }
@@ -37,6 +44,6 @@ pub fn note(shape: Shape, word: &[u32], looked: &mut [u32])
     let syn = syndrome::syndromes(shape, word);
     let q = shape.q as usize;
     for row in 0..q {
-        note_row(shape, &none, &syn, row, looked);
+        note_row(shape, false, &none, &syn, row, looked);
     }
 }

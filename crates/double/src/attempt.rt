@@ -3,7 +3,7 @@ use crate::Pair;
 use crate::lines::cross;
 use crate::lines::first_line;
 use crate::lines::last_line;
-use correction::cancel::cancel;
+use correction::cancel::cancel_by;
 use correction::cancel::is_silent;
 use gtb::Shape;
 ghost use mathlib.Core.Path.{_≡_};
@@ -23,7 +23,8 @@ fn test_pair(shape: Shape, syn: &[u32; 248], a: usize, x: u32, b: usize, y: u32)
     let places = [a, b, 0, 0, 0, 0, 0, 0];
     let errors = [x, y, 0, 0, 0, 0, 0, 0];
     let mut left = *syn;
-    cancel(shape, &mut left, &places, &errors, 2);
+    let none = [0u8; 1];
+    cancel_by(shape, false, &none, &mut left, &places, &errors, 2);
     let works = is_silent(shape, &left);
     Pair {
         works: works,

@@ -3,7 +3,7 @@ use crate::locate::locate;
 use crate::vote::vote;
 use correction::Decoded;
 use correction::apply;
-use correction::cancel::cancel;
+use correction::cancel::cancel_by;
 use correction::cancel::is_silent;
 use gtb::Refusal;
 use gtb::Shape;
@@ -50,7 +50,8 @@ fn find(
         return limit;
     }
     evaluate(shape, syn, places, count, errors);
-    cancel(shape, syn, places, errors, count);
+    let none = [0u8; 1];
+    cancel_by(shape, false, &none, syn, places, errors, count);
     if is_silent(shape, syn) {
         return count;
     }

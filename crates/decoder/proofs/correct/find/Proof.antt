@@ -1,6 +1,5 @@
 -- `decoder::correct::find` meets its contract: it is the search, with the table or without.
 use mathlib.Core.Path.{sym, _∙_}
-use native.Mathlib.Omega.{arith}
 use borrow.Author.Needs.{needs}
 use Rattle.correction.proofs.Tabulated.{tabled, untabled}
 use Rattle.decoder.proofs.correct.find.Statement.{statement}
@@ -13,8 +12,5 @@ find-by-requires c κs =
     let p = t .before .before .pre in
     (p .0, tabled _ (sym (t .before .is-shipped .ensures) ∙ t .if1 .taken) _ (n .check-numbers .ensures), p .1, p .2, p .3)
 
-find-by-requires-2 : tie.Need-find-by-requires-2
-find-by-requires-2 c κs = let p = c .before .before .before .before .before .before .pre in (p .0, untabled _ _ (λ e. omega arith), p .1, p .2, p .3)
-
 pub find-spec : {M : Type 1} → statement M
-find-spec = tie.close (tie.spec (λ c κs. search needs) (λ c κs. search needs) (λ c. search needs) find-by-requires (λ c. search needs) (λ c. search needs) find-by-requires-2 (λ c. search needs))
+find-spec = tie.close (tie.spec (λ c κs. search needs) (λ c κs. search needs) (λ c. search needs) find-by-requires (λ c. search needs) (λ c. search needs) (λ c κs. search (needs, untabled)) (λ c. search needs))

@@ -6,6 +6,7 @@ use Rattle.gtb.specs.Shape.{wordLength}
 use Rattle.correction.specs.Steps.{Gathered}
 use Rattle.decoder.specs.Steps.{lookedIn}
 use Rattle.correction.proofs.Rows.{next-row}
+use Rattle.correction.proofs.Tabulated.{untabled}
 use Rattle.correction.proofs.Listing.{gathered-none}
 use Rattle.decoder.proofs.Looks.{noted-all}
 use Rattle.decoder.proofs.looking.note.Statement.{statement}
@@ -32,4 +33,4 @@ returns c =
     noted-all (y .before .before .before .pre .0) (y .syndromes .ensures) (rw (le-antisymm (l .loop .inv .0) (c .loop-test .left)) at (l .loop .inv .1))
 
 pub note-spec : {M : Type 1} → statement M
-note-spec = tie.close (tie.spec Inv-loop μ-loop (λ c κs. search needs) (λ c. search needs) loop-holds (λ c. search needs) (λ c κs. search needs) (λ c. search needs) (λ c. search needs) loop-again (λ c. search needs) returns)
+note-spec = tie.close (tie.spec Inv-loop μ-loop (λ c κs. search needs) (λ c. search needs) loop-holds (λ c. search needs) (λ c κs. search (needs, untabled)) (λ c. search needs) (λ c. search needs) loop-again (λ c. search needs) returns)

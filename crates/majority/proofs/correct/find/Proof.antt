@@ -5,6 +5,7 @@ use borrow.Author.Needs.{needs}
 use Rattle.gtb.specs.Shape.{wordLength}
 use Rattle.gtb.proofs.Bounds.{bounds}
 use Rattle.correction.specs.Steps.{Within, Listed}
+use Rattle.correction.proofs.Tabulated.{untabled}
 use Rattle.correction.proofs.Listing.{within}
 use Rattle.majority.specs.Steps.{foundIn}
 use Rattle.majority.proofs.Reading.{found-many, found-changes, found-loud}
@@ -36,23 +37,23 @@ evaluate-requires c κs =
     let p = start e .pre in
     (p .0, p .3, inside e)
 
-cancel-requires : tie.Need-cancel-requires
-cancel-requires c κs =
-    let e = c .before .before .before .before .before .before .before in
+cancel-by-requires : tie.Need-cancel-by-requires
+cancel-by-requires c κs =
+    let e = c .before .before .before .before .before .before .before .before in
     let p = start e .pre in
-    (p .0, p .1, inside e)
+    (p .0, untabled _ _, p .1, inside e)
 
 returns-2 : tie.Need-returns-2
 returns-2 c =
-    let m = c .before .before .before .before .before .before .before in
+    let m = c .before .before .before .before .before .before .before .before in
     let e = m .before .before .before .before in
-    found-changes (start e .args .loud) (start e .pre .0) (e .if1 .left) (listed e) (m .evaluate .ensures) (c .before .before .before .cancel .ensures) (sym (c .before .is-silent .ensures) ∙ c .if2 .taken)
+    found-changes (start e .args .loud) (start e .pre .0) (e .if1 .left) (listed e) (m .evaluate .ensures) (c .before .before .before .cancel-by .ensures) (sym (c .before .is-silent .ensures) ∙ c .if2 .taken)
 
 returns-3 : tie.Need-returns-3
 returns-3 c =
-    let m = c .before .before .before .before .before .before .before in
+    let m = c .before .before .before .before .before .before .before .before in
     let e = m .before .before .before .before in
-    found-loud (start e .args .loud) (start e .pre .0) (e .if1 .left) (listed e) (m .evaluate .ensures) (c .before .before .before .cancel .ensures) (sym (c .before .is-silent .ensures) ∙ c .if2 .left)
+    found-loud (start e .args .loud) (start e .pre .0) (e .if1 .left) (listed e) (m .evaluate .ensures) (c .before .before .before .cancel-by .ensures) (sym (c .before .is-silent .ensures) ∙ c .if2 .left)
 
 pub find-spec : {M : Type 1} → statement M
-find-spec = tie.close (tie.spec (λ c. search needs) add-limit locate-requires returns evaluate-requires cancel-requires (λ c κs. search needs) returns-2 returns-3)
+find-spec = tie.close (tie.spec (λ c. search needs) add-limit locate-requires returns evaluate-requires (λ c. search needs) cancel-by-requires (λ c κs. search needs) returns-2 returns-3)

@@ -47,7 +47,7 @@ is-clean-by-requires-2 : tie.Need-is-clean-by-requires-2
 is-clean-by-requires-2 c κs =
     let e = c .before .before .before .before .before .before .before .before .before in
     let p = e .before .before .before .before .before .before .pre in
-    (p .0, untabled _ _ (λ x. omega arith), p .3 .size, inside e)
+    (p .0, untabled _ _, p .3 .size, inside e)
 
 returns-3 : tie.Need-returns-3
 returns-3 c =
