@@ -11,6 +11,7 @@ use borrow.Author.Tests.{eqb-true}
 use lib.Dec.{eqb}
 use lib.ListN.{length, set, length-set}
 use lib.Seq.{getD-set-same, getD-set-other}
+use Rattle.parity.specs.Lists.{Begins}
 use Rattle.parity.specs.Xor.{_⊕_, xorSum, when}
 use Rattle.parity.specs.Count.{bit, count, any}
 use Rattle.parity.proofs.Xors.{zero-r}
@@ -21,7 +22,7 @@ use Rattle.gtb.specs.declared.Shape.{Shape}
 use Rattle.gtb.specs.Shape.{Lawful, wordLength}
 use Rattle.gtb.specs.Square.{at}
 use Rattle.gtb.proofs.Bounds.{bounds}
-use Rattle.correction.specs.Steps.{Gathered, Within, Lists, Listed, Scanned}
+use Rattle.correction.specs.Steps.{Within, Lists, Listed, Scanned}
 
 -- before the first number
 pub listed-none : (p : ℕ → Bool) (places : List ℕ) → length places ≡ 8 → Listed p 0 0 places
@@ -98,17 +99,6 @@ count-grows p {m} {m′} l =
 pub scanned-many : {p : ℕ → Bool} {n : ℕ} {places : List ℕ} (m : ℕ) {m′ : ℕ} → m ≤ m′ → n ≤ count m p → Scanned p n m′ n places
 scanned-many {p} m l h = record { few = λ l′. absurd (omega arith); many = λ l′. omega (arith, count-grows p l) }
 
--- ---- values put into a list, one after the other
-pub gathered-none : (room : ℕ) (f : ℕ → ℕ) (values : List ℕ) → length values ≡ room → Gathered room f 0 values
-gathered-none room f values e = record { size = e; value = λ x l. absurd (not-suc-le-zero l) }
-
-pub gathered-more : {room : ℕ} {f : ℕ → ℕ} {m : ℕ} {values : List ℕ} (v : ℕ) → m < room → v ≡ f m → Gathered room f m values → Gathered room f (m + 1) (set values m v)
-gathered-more {room} {f} {m} {values} v l e h = record {
-  size = length-set values m v ∙ h .size;
-  value = below-more (λ x. at (set values m v) x ≡ f x) m (λ x lx. getD-set-other values m x v 0 (ne-of-lt lx) ∙ h .value x lx)
-      (getD-set-same values m v 0 (rw (h .size) l) ∙ e);
-}
-
 -- ---- the values at the places that pass a test are an error
 when-swap : (a b : Bool) (x : ℕ) → when a (when b x) ≡ when b (when a x)
 unfolding when
@@ -116,13 +106,13 @@ when-swap true b x = refl
 when-swap false true x = refl
 when-swap false false x = refl
 
-pub listed-lists : (s : Shape) {p : ℕ → Bool} (f : ℕ → ℕ) {k : ℕ} {places errors : List ℕ} → Listed p (wordLength s) k places → Gathered 8 (λ x. f (at places x)) k errors
+pub listed-lists : (s : Shape) {p : ℕ → Bool} (f : ℕ → ℕ) {k : ℕ} {places errors : List ℕ} → Listed p (wordLength s) k places → Begins 8 k (λ x. f (at places x)) errors
     → Lists s (λ j. when (p j) (f j)) k places errors
 listed-lists s {p} f {k} {places} l m = record {
   sums = λ g.
       cong (wordLength s) _ _ (λ j lj. when-swap (g j) (p j) (f j))
       ∙ l .sums (λ j. when (g j) (f j))
-      ∙ cong k _ _ (λ x lx. ap (when (g (at places x))) (sym (m .value x lx)));
+      ∙ cong k _ _ (λ x lx. ap (when (g (at places x))) (sym (m .entry x lx)));
 }
 
 pub lists-cong : {s : Shape} {error error′ : ℕ → ℕ} {k : ℕ} {places errors : List ℕ} → ((j : ℕ) → j < wordLength s → error′ j ≡ error j)

@@ -34,11 +34,6 @@ pub record Corrects (reader : Reader) (s : Shape) (w w′ : List ℕ) (r : Decod
 abbrev pub quiet : Shape → List ℕ → Bool
 quiet s syn = all (s .n * s .q) (λ e. eqb (at syn e) 0)
 
--- the first m of a list with room for so many values are f 0 .. f (m - 1)
-pub record Gathered (room : ℕ) (f : ℕ → ℕ) (m : ℕ) (values : List ℕ) : Type 0 where
-  pub size : length values ≡ room
-  pub value : (x : ℕ) → x < m → at values x ≡ f x
-
 -- the first k of 8 places are positions of the word
 pub record Within (s : Shape) (k : ℕ) (places : List ℕ) : Type 0 where
   pub few : k ≤ 8

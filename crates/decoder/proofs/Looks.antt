@@ -7,7 +7,7 @@ use native.Mathlib.Nat.{not-suc-le-zero}
 use native.Mathlib.Omega.{arith}
 use lib.Dec.{eqb}
 use Rattle.parity.specs.Count.{all, lowestNot}
-use Rattle.parity.specs.Lists.{tabulate}
+use Rattle.parity.specs.Lists.{tabulate, Begins}
 use Rattle.parity.proofs.Tests.{all-no, all-intro, all-cong}
 use Rattle.parity.proofs.Lowest.{lowest-is, lowest-cong}
 use Rattle.parity.proofs.Lists.{is-tabulate}
@@ -16,7 +16,6 @@ use Rattle.gtb.specs.Shape.{Lawful, wordLength}
 use Rattle.gtb.specs.Square.{at, Syndromes}
 use Rattle.gtb.proofs.Bounds.{bounds}
 use Rattle.correction.specs.Error.{checkOf}
-use Rattle.correction.specs.Steps.{Gathered}
 use Rattle.correction.proofs.Tables.{shown}
 use Rattle.decoder.specs.declared.locate.Judged.{Judged}
 use Rattle.decoder.specs.Decode.{located}
@@ -69,7 +68,7 @@ looked-shown s h w syn y j lj = λ i.
     cond (all-cong (s .n) _ _ (λ t lt. ap (λ (x : ℕ). not (eqb x 0)) (shown s h w syn y j t lj lt)) i) (s .n)
     (lowest-cong (s .n) _ _ (λ t lt. ap (λ (x : ℕ). not (eqb x 0)) (shown s h w syn y j t lj lt)) i + 1)
 
-pub noted-all : {s : Shape} {w syn looked : List ℕ} → Lawful s → Syndromes s w syn → Gathered (wordLength s) (lookedIn s syn) (wordLength s) looked
+pub noted-all : {s : Shape} {w syn looked : List ℕ} → Lawful s → Syndromes s w syn → Begins (wordLength s) (wordLength s) (lookedIn s syn) looked
     → looked ≡ tabulate (wordLength s) (lookedAt s (at w))
 noted-all {s} {w} {syn} {looked} h y n =
-    is-tabulate (wordLength s) (lookedAt s (at w)) looked (n .size) (λ j l. n .value j l ∙ looked-shown s h w syn y j l)
+    is-tabulate (wordLength s) (lookedAt s (at w)) looked (n .size) (λ j l. n .entry j l ∙ looked-shown s h w syn y j l)

@@ -6,6 +6,7 @@ use Prim.Native.Nat.{ℕ, _-_, _<_, _≤_}
 use native.Mathlib.Omega.{arith}
 use lib.Dec.{eqb}
 use borrow.Author.Tests.{le-leb}
+use Rattle.parity.specs.Lists.{Begins}
 use Rattle.parity.specs.Xor.{when}
 use Rattle.parity.specs.Count.{count}
 use Rattle.parity.proofs.First.{first-cong}
@@ -16,7 +17,7 @@ use Rattle.gtb.specs.Shape.{Lawful, wordLength}
 use Rattle.gtb.specs.Square.{lineOf, at, Syndromes}
 use Rattle.gtb.proofs.Bounds.{bounds}
 use Rattle.correction.specs.Reading.{changesBy, restoredBy, acceptedBy}
-use Rattle.correction.specs.Steps.{quiet, Lists, Listed, Gathered, Cancelled, Found}
+use Rattle.correction.specs.Steps.{quiet, Lists, Listed, Cancelled, Found}
 use Rattle.correction.proofs.Listing.{within, listed-lists, lists-cong}
 use Rattle.correction.proofs.Readings.{too-many, found-none, found-few}
 use Rattle.correction.proofs.Tables.{shown, silent-by}
@@ -41,7 +42,7 @@ module _ (s : Shape) (h : Lawful s) (w syn : List ℕ) (y : Syndromes s w syn) w
   uncorrectable : s .n ≤ count (wordLength s) (judged s syn) → acceptedBy clean s w ≡ false
   uncorrectable many = let b = bounds s h in too-many clean s w (omega (arith, counts-located))
 
-  module _ {k : ℕ} {places errors : List ℕ} (l : Listed (judged s syn) (wordLength s) k places) (m : Gathered 8 (λ x. errorAmong s syn places k (at places x)) k errors) where
+  module _ {k : ℕ} {places errors : List ℕ} (l : Listed (judged s syn) (wordLength s) k places) (m : Begins 8 k (λ x. errorAmong s syn places k (at places x)) errors) where
     -- the list holds all located positions
     alone-among : (j t : ℕ) → aloneAmong s places k j t ≡ alone s (at w) j t
     unfolding aloneAmong alone shares
@@ -74,7 +75,7 @@ pub found-many : {s : Shape} {syn places errors : List ℕ} → Lawful s → s .
 found-many {s} {syn} h many = found-none (λ whole w hw y. uncorrectable s h w syn y many)
 
 module _ {s : Shape} {syn places errors new : List ℕ} {k : ℕ} (h : Lawful s) (lk : k < s .n) (l : Listed (judged s syn) (wordLength s) k places)
-    (m : Gathered 8 (λ x. errorAmong s syn places k (at places x)) k errors) (t : Cancelled s k places errors syn new) where
+    (m : Begins 8 k (λ x. errorAmong s syn places k (at places x)) errors) (t : Cancelled s k places errors syn new) where
   pub found-corrections : quiet s new ≡ true → Found clean s (s .n) true syn places errors k
   unfolding restoredBy
   found-corrections e =

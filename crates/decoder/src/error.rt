@@ -4,9 +4,10 @@ use gtb::Shape;
 ghost use mathlib.Core.Path.{_≡_};
 ghost use Prim.Native.Nat.{_<_};
 ghost use lib.ListN.{length};
+ghost use Rattle.parity.specs.Lists.{Begins};
 ghost use Rattle.gtb.specs.Shape.{Lawful, wordLength};
 ghost use Rattle.gtb.specs.Square.{at};
-ghost use Rattle.correction.specs.Steps.{Within, Gathered};
+ghost use Rattle.correction.specs.Steps.{Within};
 ghost use Rattle.correction.specs.Shipped.{Tabled};
 ghost use Rattle.decoder.specs.Steps.{shares, aloneAmong, errorAmong};
 
@@ -75,7 +76,7 @@ pub fn evaluate(
     errors: &mut [u32; 8],
 )
     requires { ⌜ Lawful shape × Tabled shape tabled (now table) × (length (now errors) ≡ 8) × Within shape count (now places) ⌝ }
-    ensures { λ _. ⌜ Gathered 8 (λ x. errorAmong shape (now (syn .entry)) (now (places .entry)) count (at (now (places .entry)) x)) count (now (errors .exit)) ⌝ }
+    ensures { λ _. ⌜ Begins 8 count (λ x. errorAmong shape (now (syn .entry)) (now (places .entry)) count (at (now (places .entry)) x)) (now (errors .exit)) ⌝ }
 {
     for x in 0..count {
         errors[x] = error_of(shape, tabled, table, syn, places, count, places[x]);

@@ -5,11 +5,10 @@ use gtb::Shape;
 ghost use mathlib.Core.Path.{_≡_};
 ghost use Prim.Native.Nat.{_+_, _*_, _<_};
 ghost use lib.ListN.{length};
-ghost use Rattle.parity.specs.Lists.{tabulate};
+ghost use Rattle.parity.specs.Lists.{tabulate, Begins};
 ghost use Rattle.gtb.specs.Shape.{Lawful, wordLength};
 ghost use Rattle.gtb.specs.Square.{at};
 ghost use Rattle.correction.specs.Shipped.{Tabled};
-ghost use Rattle.correction.specs.Steps.{Gathered};
 ghost use Rattle.decoder.specs.Looking.{lookedAt};
 ghost use Rattle.decoder.specs.Steps.{lookedIn};
 
@@ -22,8 +21,8 @@ fn note_row(
     row: usize,
     looked: &mut [u32],
 )
-    requires { ⌜ Lawful shape × Tabled shape tabled (now table) × (row < shape .q) × Gathered (wordLength shape) (lookedIn shape (now syn)) (row * shape .q) (now looked) ⌝ }
-    ensures { λ _. ⌜ Gathered (wordLength shape) (lookedIn shape (now (syn .entry))) (row * shape .q + shape .q) (now (looked .exit)) ⌝ }
+    requires { ⌜ Lawful shape × Tabled shape tabled (now table) × (row < shape .q) × Begins (wordLength shape) (row * shape .q) (lookedIn shape (now syn)) (now looked) ⌝ }
+    ensures { λ _. ⌜ Begins (wordLength shape) (row * shape .q + shape .q) (lookedIn shape (now (syn .entry))) (now (looked .exit)) ⌝ }
 {
     let q = shape.q as usize;
     let own = syn[row];

@@ -7,6 +7,7 @@ use Prim.Native.Nat.{ℕ, _/_, _<_, _≤_}
 use native.Mathlib.Omega.{arith}
 use lib.Dec.{eqb}
 use borrow.Author.Tests.{not-true}
+use Rattle.parity.specs.Lists.{Begins}
 use Rattle.parity.specs.Xor.{when}
 use Rattle.parity.specs.Count.{count}
 use Rattle.parity.proofs.Xors.{when-lt}
@@ -19,7 +20,7 @@ use Rattle.gtb.proofs.Bounds.{bounds}
 use Rattle.distance.specs.Distance.{Near}
 use Rattle.correction.specs.Error.{onCheck, mended}
 use Rattle.correction.specs.Reading.{changesBy, restoredBy, acceptedBy}
-use Rattle.correction.specs.Steps.{quiet, Lists, Listed, Gathered, Cancelled, Found}
+use Rattle.correction.specs.Steps.{quiet, Lists, Listed, Cancelled, Found}
 use Rattle.correction.proofs.Listing.{within, listed-lists, lists-cong, when-nonzero}
 use Rattle.correction.proofs.Tables.{shown, silent-by}
 use Rattle.correction.proofs.Near.{error-near}
@@ -69,7 +70,7 @@ found-many {s} {syn} loud h many =
     found-none (λ every w hw y. not-elected s h w syn y (omega (arith, count-cong (wordLength s) _ _ (λ j lj. foundIn-all s syn loud every j))))
 
 module _ {s : Shape} {syn places errors new : List ℕ} {k : ℕ} (loud : Bool) (h : Lawful s) (lk : k < tooMany s) (l : Listed (foundIn s syn loud) (wordLength s) k places)
-    (m : Gathered 8 (λ x. votedIn s syn (at places x)) k errors) (t : Cancelled s k places errors syn new) where
+    (m : Begins 8 k (λ x. votedIn s syn (at places x)) errors) (t : Cancelled s k places errors syn new) where
   -- the list holds them
   part-listed : Lists s (part s syn loud) k places errors
   part-listed = listed-lists s (votedIn s syn) l m

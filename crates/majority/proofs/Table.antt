@@ -9,13 +9,14 @@ use lib.Arith.{digits-div}
 use lib.Dec.{eqb, ltb}
 use borrow.Author.Count.{below-none, below-more}
 use borrow.Author.Tests.{eq-eqb, ne-eqb}
+use Rattle.parity.specs.Lists.{Begins}
 use Rattle.parity.specs.Count.{bit}
 use Rattle.parity.proofs.Tests.{and-no-left}
 use Rattle.parity.proofs.Sums.{count-zero, count-more, count-bound}
 use Rattle.parity.proofs.First.{first-at, first-none}
 use Rattle.gtb.specs.declared.Shape.{Shape}
 use Rattle.gtb.specs.Square.{at}
-use Rattle.correction.specs.Steps.{Gathered, Shifts}
+use Rattle.correction.specs.Steps.{Shifts}
 use Rattle.correction.proofs.Listing.{count-grows}
 use Rattle.correction.proofs.Rows.{own-check, shift-check}
 use Rattle.majority.specs.Majority.{shows, majority}
@@ -40,9 +41,9 @@ unfolding shows
 shows-grows t n v x l = count-grows (λ t. eqb (v t) x) l
 
 -- the values of the checks
-pub gathered-vote : (s : Shape) (syn : List ℕ) (j : ℕ) {values : List ℕ} → Gathered 8 (checkIn s syn j) (s .n) values → majority (s .n) (at values) ≡ votedIn s syn j
+pub values-vote : (s : Shape) (syn : List ℕ) (j : ℕ) {values : List ℕ} → Begins 8 (s .n) (checkIn s syn j) values → majority (s .n) (at values) ≡ votedIn s syn j
 unfolding votedIn
-gathered-vote s syn j {values} h = majority-cong (s .n) (at values) (checkIn s syn j) (h .value)
+values-vote s syn j {values} h = majority-cong (s .n) (at values) (checkIn s syn j) (h .entry)
 
 -- ---- the value that prevails
 pub no-zero : (n : ℕ) (v : ℕ → ℕ) (x : ℕ) → x ≡ 0 → false ≡ prevailing n v x

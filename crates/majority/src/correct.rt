@@ -10,9 +10,10 @@ use gtb::Shape;
 ghost use mathlib.Core.Path.{_≡_};
 ghost use mathlib.Core.Bool.{not};
 ghost use lib.ListN.{length};
+ghost use Rattle.parity.specs.Lists.{Begins};
 ghost use Rattle.gtb.specs.Shape.{Lawful};
 ghost use Rattle.gtb.specs.Square.{at, Word, Syndromes};
-ghost use Rattle.correction.specs.Steps.{Within, Gathered, Found, Corrects};
+ghost use Rattle.correction.specs.Steps.{Within, Found, Corrects};
 ghost use Rattle.majority.specs.Majority as rule;
 ghost use Rattle.majority.specs.Steps.{votedIn, tooMany};
 
@@ -25,7 +26,7 @@ fn evaluate(
     errors: &mut [u32; 8],
 )
     requires { ⌜ Lawful shape × (length (now errors) ≡ 8) × Within shape count (now places) ⌝ }
-    ensures { λ _. ⌜ Gathered 8 (λ x. votedIn shape (now (syn .entry)) (at (now (places .entry)) x)) count (now (errors .exit)) ⌝ }
+    ensures { λ _. ⌜ Begins 8 count (λ x. votedIn shape (now (syn .entry)) (at (now (places .entry)) x)) (now (errors .exit)) ⌝ }
 {
     for x in 0..count {
         errors[x] = vote(shape, syn, places[x]);

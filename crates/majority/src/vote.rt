@@ -4,10 +4,10 @@ use gtb::Shape;
 ghost use mathlib.Core.Path.{_≡_};
 ghost use Prim.Native.Nat.{_*_, _<_, _≤_};
 ghost use lib.Dec.{eqb};
+ghost use Rattle.parity.specs.Lists.{Begins};
 ghost use Rattle.parity.specs.Count.{bit};
 ghost use Rattle.gtb.specs.Shape.{Lawful, wordLength};
 ghost use Rattle.gtb.specs.Square.{at};
-ghost use Rattle.correction.specs.Steps.{Gathered};
 ghost use Rattle.majority.specs.Majority.{shows, majority};
 ghost use Rattle.majority.specs.Steps.{checkIn, prevailing, votedIn};
 
@@ -24,7 +24,7 @@ pub fn hit(value: u32, x: u32) -> usize
 // What the n checks on position j show.
 fn gather(shape: Shape, syn: &[u32; 248], j: usize) -> [u32; 8]
     requires { ⌜ Lawful shape × (j < wordLength shape) ⌝ }
-    ensures { λ r. ⌜ Gathered 8 (checkIn shape (now (syn .entry)) j) (shape .n) r ⌝ }
+    ensures { λ r. ⌜ Begins 8 (shape .n) (checkIn shape (now (syn .entry)) j) r ⌝ }
 {
     let n = shape.n as usize;
     let mut values = [0u32; 8];

@@ -8,6 +8,7 @@ use native.Mathlib.Omega.{arith}
 use lib.Dec.{eqb, leb}
 use lib.ListN.{length}
 use borrow.Author.Tests.{le-leb, lt-leb, eq-eqb, ne-eqb, eqb-false, not-true}
+use Rattle.parity.specs.Lists.{Begins}
 use Rattle.parity.specs.Xor.{_⊕_}
 use Rattle.parity.specs.Count.{count, all, any}
 use Rattle.parity.proofs.Xors.{self, zero-l, eq-of-zero}
@@ -19,7 +20,7 @@ use Rattle.gtb.specs.Square.{lineOf, at, syndrome, Silent, Syndromes}
 use Rattle.gtb.proofs.Bounds.{bounds}
 use Rattle.gtb.proofs.Lines.{line-lt}
 use Rattle.correction.specs.Error.{checkOf, weight}
-use Rattle.correction.specs.Steps.{Gathered, Lists, Listed, Cancelled}
+use Rattle.correction.specs.Steps.{Lists, Listed, Cancelled}
 use Rattle.correction.proofs.Listing.{listed-lists, lists-cong, when-nonzero}
 use Rattle.decoder.specs.Damage.{Unmasked}
 use Rattle.verify.specs.Verify.{difference, unmaskedTest}
@@ -57,7 +58,7 @@ pub differ-inside : (s : Shape) {p : ℕ → Bool} {k : ℕ} {places : List ℕ}
 differ-inside s w v ew ev l x lx = (rw ew (l .below x lx), rw ev (l .below x lx))
 
 module _ (s : Shape) (w v : List ℕ) {k : ℕ} {places errors : List ℕ} (h : Lawful s) (l : Listed (differs w v) (wordLength s) k places)
-    (m : Gathered 8 (λ x. difference w v (at places x)) k errors) where
+    (m : Begins 8 k (λ x. difference w v (at places x)) errors) where
   differences-listed : Lists s (difference w v) k places errors
   unfolding differs
   differences-listed = lists-cong (λ j lj. when-nonzero (difference w v j)) (listed-lists s (difference w v) l m)

@@ -12,12 +12,13 @@ ghost use mathlib.Core.Bool.{true, not, _&&_};
 ghost use Prim.Native.Nat.{ℕ, _-_, _≤_, _<_};
 ghost use lib.Dec.{leb};
 ghost use lib.ListN.{length};
+ghost use Rattle.parity.specs.Lists.{Begins};
 ghost use Rattle.parity.specs.Count.{any};
 ghost use Rattle.gtb.specs.Shape.{Lawful, wordLength};
 ghost use Rattle.gtb.specs.Square.{at, silentTest, Syndromes};
 ghost use Rattle.correction.specs.Error.{weight};
 ghost use Rattle.correction.specs.Shipped.{Tabled};
-ghost use Rattle.correction.specs.Steps.{Gathered, Within, Cancelled};
+ghost use Rattle.correction.specs.Steps.{Within, Cancelled};
 ghost use Rattle.verify.specs.Verify.{difference, unmaskedTest, restores};
 ghost use Rattle.verify.specs.Steps.{isMasked};
 
@@ -30,7 +31,7 @@ fn list_differences(
     errors: &mut [u32; 8],
 )
     requires { ⌜ (count ≤ 8) × (length (now errors) ≡ 8) × ((x : ℕ) → x < count → (at (now places) x < length (now received)) × (at (now places) x < length (now proposed))) ⌝ }
-    ensures { λ _. ⌜ Gathered 8 (λ x. difference (now (received .entry)) (now (proposed .entry)) (at (now (places .entry)) x)) count (now (errors .exit)) ⌝ }
+    ensures { λ _. ⌜ Begins 8 count (λ x. difference (now (received .entry)) (now (proposed .entry)) (at (now (places .entry)) x)) (now (errors .exit)) ⌝ }
 {
     for x in 0..count {
         let j = places[x];

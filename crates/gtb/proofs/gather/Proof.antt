@@ -5,12 +5,12 @@ use native.Mathlib.Omega.{arith}
 use borrow.Author.Needs.{needs}
 use Rattle.gtb.proofs.Bounds.{bounds}
 use Rattle.gtb.proofs.Sizes.{sizes, Lower, lower}
-use Rattle.gtb.proofs.Gathers.{Gathered, gathered-none, gathered-more, gathered-all}
+use Rattle.gtb.proofs.Gathers.{RowsGathered, gathered-none, gathered-more, gathered-all}
 use Rattle.gtb.proofs.gather.Statement.{statement}
 use Rattle.gtb.proofs.gather.Tie as tie
 
 abbrev Inv-loop : tie.InvT-loop
-Inv-loop word symbols₀ q m rows p i₀ symbols i = (i ≤ rows) × Gathered q m p i word symbols₀ symbols
+Inv-loop word symbols₀ q m rows p i₀ symbols i = (i ≤ rows) × RowsGathered q m p i word symbols₀ symbols
 
 abbrev μ-loop : tie.MeasureT-loop
 μ-loop word symbols₀ q m rows p i₀ symbols i = rows - i

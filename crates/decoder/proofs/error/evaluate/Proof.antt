@@ -1,23 +1,23 @@
 -- `decoder::error::evaluate` meets its contract. The loop's invariant is the contract for the first x errors.
 use Prim.Native.Nat.{_-_, _<_, _≤_}
+use Rattle.parity.specs.Lists.{Begins}
 use Rattle.gtb.specs.Square.{at}
-use Rattle.correction.specs.Steps.{Gathered}
 use Rattle.decoder.specs.Steps.{errorAmong}
 use native.Mathlib.Nat.{le-antisymm}
 use native.Mathlib.Omega.{arith}
 use borrow.Author.Needs.{needs}
-use Rattle.correction.proofs.Listing.{gathered-none, gathered-more}
+use Rattle.parity.proofs.Writes.{begins-none, begins-more}
 use Rattle.decoder.proofs.error.evaluate.Statement.{statement}
 use Rattle.decoder.proofs.error.evaluate.Tie as tie
 
 abbrev Inv-loop : tie.InvT-loop
-Inv-loop shape tabled table syn places count errors₀ x₀ errors x = (x ≤ count) × Gathered 8 (λ y. errorAmong shape syn places count (at places y)) x errors
+Inv-loop shape tabled table syn places count errors₀ x₀ errors x = (x ≤ count) × Begins 8 x (λ y. errorAmong shape syn places count (at places y)) errors
 
 abbrev μ-loop : tie.MeasureT-loop
 μ-loop shape tabled table syn places count errors₀ x₀ errors x = count - x
 
 loop-holds : tie.Need-loop-holds Inv-loop μ-loop
-loop-holds c = (search needs, gathered-none _ _ _ (c .before .pre .2))
+loop-holds c = (search needs, begins-none (c .before .pre .2))
 
 -- the lists have 8 entries
 inside : (c : tie.In-loop Inv-loop μ-loop) → c .before .loop .x < 8
@@ -29,7 +29,7 @@ error-of-requires c κs =
     (p .0, p .1, p .3 .below (c .before .before .loop .x) (c .before .loop-test .taken), p .3)
 
 loop-again : tie.Need-loop-again Inv-loop μ-loop
-loop-again c = (search needs, gathered-more (c .error-of .result) (inside (c .before .before)) (c .error-of .ensures) (c .before .before .before .loop .inv .1))
+loop-again c = (search needs, begins-more (c .error-of .result) (inside (c .before .before)) (c .error-of .ensures) (c .before .before .before .loop .inv .1))
 
 returns : tie.Need-returns Inv-loop μ-loop
 returns c = rw (le-antisymm (c .before .loop .inv .0) (c .loop-test .left)) at (c .before .loop .inv .1)

@@ -2,18 +2,18 @@
 use Prim.Native.Nat.{_-_, _*_, _≤_}
 use native.Mathlib.Nat.{zero-mul, le-antisymm}
 use borrow.Author.Needs.{needs}
+use Rattle.parity.specs.Lists.{Begins}
 use Rattle.gtb.specs.Shape.{wordLength}
-use Rattle.correction.specs.Steps.{Gathered}
 use Rattle.decoder.specs.Steps.{lookedIn}
 use Rattle.correction.proofs.Rows.{next-row}
 use Rattle.correction.proofs.Tabulated.{untabled}
-use Rattle.correction.proofs.Listing.{gathered-none}
+use Rattle.parity.proofs.Writes.{begins-none}
 use Rattle.decoder.proofs.Looks.{noted-all}
 use Rattle.decoder.proofs.looking.note.Statement.{statement}
 use Rattle.decoder.proofs.looking.note.Tie as tie
 
 abbrev Inv-loop : tie.InvT-loop
-Inv-loop shape word looked₀ none syn q row₀ looked row = (row ≤ q) × Gathered (wordLength shape) (lookedIn shape syn) (row * q) looked
+Inv-loop shape word looked₀ none syn q row₀ looked row = (row ≤ q) × Begins (wordLength shape) (row * q) (lookedIn shape syn) looked
 
 abbrev μ-loop : tie.MeasureT-loop
 μ-loop shape word looked₀ none syn q row₀ looked row = q - row
@@ -21,7 +21,7 @@ abbrev μ-loop : tie.MeasureT-loop
 loop-holds : tie.Need-loop-holds Inv-loop μ-loop
 loop-holds c =
     let s = c .before .before .before .before in
-    (search needs, rw (zero-mul (s .args .shape .q)) (gathered-none _ _ _ (s .pre .2)))
+    (search needs, rw (zero-mul (s .args .shape .q)) (begins-none (s .pre .2)))
 
 loop-again : tie.Need-loop-again Inv-loop μ-loop
 loop-again c = (search needs, rw next-row (c .before .before .note-row .ensures))

@@ -4,18 +4,18 @@ use Prim.Native.Nat.{_-_, _+_, _*_, _<_, _≤_}
 use native.Mathlib.Nat.{add-zero, add-assoc, le-antisymm, lt-of-lt-of-le}
 use native.Mathlib.Omega.{arith}
 use borrow.Author.Needs.{needs}
+use Rattle.parity.specs.Lists.{Begins}
 use Rattle.gtb.specs.Shape.{wordLength}
 use Rattle.gtb.proofs.Bounds.{bounds}
 use Rattle.gtb.proofs.Turns.{square-le}
-use Rattle.correction.specs.Steps.{Gathered}
 use Rattle.decoder.specs.Steps.{lookedIn}
 use Rattle.correction.proofs.Rows.{in-word}
-use Rattle.correction.proofs.Listing.{gathered-more}
+use Rattle.parity.proofs.Writes.{begins-more}
 use Rattle.decoder.proofs.looking.note_row.Statement.{statement}
 use Rattle.decoder.proofs.looking.note_row.Tie as tie
 
 abbrev Inv-loop : tie.InvT-loop
-Inv-loop shape tabled table syn row looked₀ q own shifts c₀ looked c = (c ≤ q) × Gathered (wordLength shape) (lookedIn shape syn) (row * q + c) looked
+Inv-loop shape tabled table syn row looked₀ q own shifts c₀ looked c = (c ≤ q) × Begins (wordLength shape) (row * q + c) (lookedIn shape syn) looked
 
 abbrev μ-loop : tie.MeasureT-loop
 μ-loop shape tabled table syn row looked₀ q own shifts c₀ looked c = q - c
@@ -52,7 +52,7 @@ slice-write-looked : tie.Need-slice-write-looked Inv-loop μ-loop
 slice-write-looked c = rw (c .before .before .before .loop .inv .1 .size) (place c)
 
 loop-again : tie.Need-loop-again Inv-loop μ-loop
-loop-again c = (search needs, rw (← add-assoc) (gathered-more _ (place c) (c .judge .ensures .looked) (c .before .before .before .loop .inv .1)))
+loop-again c = (search needs, rw (← add-assoc) (begins-more _ (place c) (c .judge .ensures .looked) (c .before .before .before .loop .inv .1)))
 
 returns : tie.Need-returns Inv-loop μ-loop
 returns c = rw (le-antisymm (c .before .loop .inv .0) (c .loop-test .left)) at (c .before .loop .inv .1)

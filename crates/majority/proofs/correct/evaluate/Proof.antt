@@ -1,23 +1,23 @@
 -- `majority::correct::evaluate` meets its contract. The loop's invariant is the contract for the first x errors.
 use Prim.Native.Nat.{_-_, _<_, _≤_}
+use Rattle.parity.specs.Lists.{Begins}
 use Rattle.gtb.specs.Square.{at}
-use Rattle.correction.specs.Steps.{Gathered}
 use Rattle.majority.specs.Steps.{votedIn}
 use native.Mathlib.Nat.{le-antisymm}
 use native.Mathlib.Omega.{arith}
 use borrow.Author.Needs.{needs}
-use Rattle.correction.proofs.Listing.{gathered-none, gathered-more}
+use Rattle.parity.proofs.Writes.{begins-none, begins-more}
 use Rattle.majority.proofs.correct.evaluate.Statement.{statement}
 use Rattle.majority.proofs.correct.evaluate.Tie as tie
 
 abbrev Inv-loop : tie.InvT-loop
-Inv-loop shape syn places count errors₀ x₀ errors x = (x ≤ count) × Gathered 8 (λ y. votedIn shape syn (at places y)) x errors
+Inv-loop shape syn places count errors₀ x₀ errors x = (x ≤ count) × Begins 8 x (λ y. votedIn shape syn (at places y)) errors
 
 abbrev μ-loop : tie.MeasureT-loop
 μ-loop shape syn places count errors₀ x₀ errors x = count - x
 
 loop-holds : tie.Need-loop-holds Inv-loop μ-loop
-loop-holds c = (search needs, gathered-none _ _ _ (c .pre .1))
+loop-holds c = (search needs, begins-none (c .pre .1))
 
 -- the lists have 8 entries
 inside : (c : tie.In-loop Inv-loop μ-loop) → c .before .loop .x < 8
@@ -29,7 +29,7 @@ vote-requires c κs =
     (p .0, p .2 .below (c .before .before .loop .x) (c .before .loop-test .taken))
 
 loop-again : tie.Need-loop-again Inv-loop μ-loop
-loop-again c = (search needs, gathered-more (c .vote .result) (inside (c .before .before)) (c .vote .ensures) (c .before .before .before .loop .inv .1))
+loop-again c = (search needs, begins-more (c .vote .result) (inside (c .before .before)) (c .vote .ensures) (c .before .before .before .loop .inv .1))
 
 returns : tie.Need-returns Inv-loop μ-loop
 returns c = rw (le-antisymm (c .before .loop .inv .0) (c .loop-test .left)) at (c .before .loop .inv .1)

@@ -4,16 +4,16 @@ use Prim.Native.Nat.{_-_, _<_, _≤_}
 use native.Mathlib.Nat.{le-antisymm}
 use native.Mathlib.Omega.{arith}
 use borrow.Author.Needs.{needs}
+use Rattle.parity.specs.Lists.{Begins}
 use Rattle.gtb.proofs.Bounds.{bounds}
 use Rattle.correction.proofs.CheckNumbers.{check-fits}
-use Rattle.correction.specs.Steps.{Gathered}
-use Rattle.correction.proofs.Listing.{gathered-none, gathered-more}
+use Rattle.parity.proofs.Writes.{begins-none, begins-more}
 use Rattle.majority.specs.Steps.{checkIn}
 use Rattle.majority.proofs.vote.gather.Statement.{statement}
 use Rattle.majority.proofs.vote.gather.Tie as tie
 
 abbrev Inv-loop : tie.InvT-loop
-Inv-loop shape syn j n values₀ t₀ values t = (t ≤ n) × Gathered 8 (checkIn shape syn j) t values
+Inv-loop shape syn j n values₀ t₀ values t = (t ≤ n) × Begins 8 t (checkIn shape syn j) values
 
 abbrev μ-loop : tie.MeasureT-loop
 μ-loop shape syn j n values₀ t₀ values t = n - t
@@ -28,10 +28,10 @@ room : (c : tie.After-check-number Inv-loop μ-loop) → c .before .before .loop
 room c = omega (arith, bounds (c .before .before .before .before .args .shape) (c .before .before .before .before .pre .0) .n8)
 
 loop-again : tie.Need-loop-again Inv-loop μ-loop
-loop-again c = (search needs, gathered-more _ (room (c .before)) (rw (c .before .check-number .ensures)) (c .before .before .before .loop .inv .1))
+loop-again c = (search needs, begins-more _ (room (c .before)) (rw (c .before .check-number .ensures)) (c .before .before .before .loop .inv .1))
 
 returns : tie.Need-returns Inv-loop μ-loop
 returns c = rw (le-antisymm (c .before .loop .inv .0) (c .loop-test .left)) at (c .before .loop .inv .1)
 
 pub gather-spec : {M : Type 1} → statement M
-gather-spec = tie.close (tie.spec Inv-loop μ-loop (λ c. search needs) (λ c. (search needs, gathered-none _ _ _ refl)) (λ c κs. search needs) (λ c. omega (arith, inside c)) (λ c. inside c) (λ c. omega (arith, room (c .before))) (λ c. room (c .before)) (λ c. search needs) (λ c. search needs) loop-again returns)
+gather-spec = tie.close (tie.spec Inv-loop μ-loop (λ c. search needs) (λ c. (search needs, begins-none refl)) (λ c κs. search needs) (λ c. omega (arith, inside c)) (λ c. inside c) (λ c. omega (arith, room (c .before))) (λ c. room (c .before)) (λ c. search needs) (λ c. search needs) loop-again returns)

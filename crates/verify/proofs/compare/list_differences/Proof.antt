@@ -2,10 +2,10 @@
 use mathlib.Core.Path.{refl}
 use Prim.Native.Nat.{_-_, _<_, _≤_}
 use lib.ListN.{length}
+use Rattle.parity.specs.Lists.{Begins}
 use Rattle.parity.specs.Xor.{_⊕_}
 use Rattle.gtb.specs.Square.{at}
-use Rattle.correction.specs.Steps.{Gathered}
-use Rattle.correction.proofs.Listing.{gathered-none, gathered-more}
+use Rattle.parity.proofs.Writes.{begins-none, begins-more}
 use Rattle.verify.specs.Verify.{difference}
 use native.Mathlib.Nat.{le-antisymm}
 use native.Mathlib.Omega.{arith}
@@ -14,13 +14,13 @@ use Rattle.verify.proofs.compare.list_differences.Statement.{statement}
 use Rattle.verify.proofs.compare.list_differences.Tie as tie
 
 abbrev Inv-loop : tie.InvT-loop
-Inv-loop received proposed places count errors₀ x₀ errors x = (x ≤ count) × Gathered 8 (λ y. difference received proposed (at places y)) x errors
+Inv-loop received proposed places count errors₀ x₀ errors x = (x ≤ count) × Begins 8 x (λ y. difference received proposed (at places y)) errors
 
 abbrev μ-loop : tie.MeasureT-loop
 μ-loop received proposed places count errors₀ x₀ errors x = count - x
 
 loop-holds : tie.Need-loop-holds Inv-loop μ-loop
-loop-holds c = (search needs, gathered-none _ _ _ (c .pre .1))
+loop-holds c = (search needs, begins-none (c .pre .1))
 
 -- the lists have 8 entries
 inside : (c : tie.In-loop Inv-loop μ-loop) → c .before .loop .x < 8
@@ -37,7 +37,7 @@ mul-errors-3 c = omega (arith, inside (c .before .before .before))
 
 loop-again : tie.Need-loop-again Inv-loop μ-loop
 unfolding _⊕_
-loop-again c = (search needs, gathered-more _ (inside (c .before .before .before)) refl (c .before .before .before .before .loop .inv .1))
+loop-again c = (search needs, begins-more _ (inside (c .before .before .before)) refl (c .before .before .before .before .loop .inv .1))
 
 returns : tie.Need-returns Inv-loop μ-loop
 returns c = rw (le-antisymm (c .before .loop .inv .0) (c .loop-test .left)) at (c .before .loop .inv .1)
