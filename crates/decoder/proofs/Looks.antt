@@ -17,7 +17,7 @@ use Rattle.gtb.specs.Square.{at, Syndromes}
 use Rattle.gtb.proofs.Bounds.{bounds}
 use Rattle.correction.specs.Error.{checkOf}
 use Rattle.correction.proofs.Tables.{shown}
-use Rattle.decoder.specs.declared.locate.Judged.{Judged}
+use Rattle.decoder.specs.declared.locate.Judgement.{Judgement}
 use Rattle.decoder.specs.Decode.{located}
 use Rattle.decoder.specs.Looking.{lookedAt}
 use Rattle.decoder.specs.Steps.{judged, lookedIn, Judges, PassedOver}
@@ -33,7 +33,7 @@ looks-first n p t l before fails =
     rw (all-no n p t l fails) (ap (λ (k : ℕ). k + 1) (lowest-is n p t (record { upto = omega arith; below = before; fails = λ _. fails })))
 
 module _ (s : Shape) (syn : List ℕ) (j : ℕ) where
-  pub judges-first : {r : Judged} (t : ℕ) → t < s .n → ((u : ℕ) → u < t → not (eqb (at syn (checkOf s j u)) 0) ≡ true)
+  pub judges-first : {r : Judgement} (t : ℕ) → t < s .n → ((u : ℕ) → u < t → not (eqb (at syn (checkOf s j u)) 0) ≡ true)
       → not (eqb (at syn (checkOf s j t)) 0) ≡ false → r .located ≡ false → r .looked ≡ t + 1 → Judges s syn j r
   unfolding judged lookedIn
   judges-first t l before fails lost is = record {
@@ -41,7 +41,7 @@ module _ (s : Shape) (syn : List ℕ) (j : ℕ) where
     looked = is ∙ sym (looks-first (s .n) _ t l before fails);
   }
 
-  pub judges-all : {r : Judged} → ((u : ℕ) → u < s .n → not (eqb (at syn (checkOf s j u)) 0) ≡ true) → r .located ≡ true → r .looked ≡ s .n → Judges s syn j r
+  pub judges-all : {r : Judgement} → ((u : ℕ) → u < s .n → not (eqb (at syn (checkOf s j u)) 0) ≡ true) → r .located ≡ true → r .looked ≡ s .n → Judges s syn j r
   unfolding judged lookedIn
   judges-all each found is = record {
     located = found ∙ sym (all-intro (s .n) _ each);
@@ -50,7 +50,7 @@ module _ (s : Shape) (syn : List ℕ) (j : ℕ) where
 
 -- ---- a row whose own check is silent
 module _ (s : Shape) (h : Lawful s) (syn : List ℕ) (row : ℕ) (z : at syn row ≡ 0) where
-  pub one-look : {r : Judged} (c : ℕ) → c < s .q → r .located ≡ false → r .looked ≡ 1 → Judges s syn (row * s .q + c) r
+  pub one-look : {r : Judgement} (c : ℕ) → c < s .q → r .located ≡ false → r .looked ≡ 1 → Judges s syn (row * s .q + c) r
   one-look c l lost is =
       judges-first s syn (row * s .q + c) 0 (omega (arith, bounds s h .n2)) (λ u lu. absurd (not-suc-le-zero lu)) (silent syn (own-check s row l) z) lost is
 

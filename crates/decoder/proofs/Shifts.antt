@@ -8,7 +8,7 @@ use borrow.Author.Count.{below-more}
 use lib.Dec.{eqb}
 use Rattle.gtb.specs.declared.Shape.{Shape}
 use Rattle.gtb.specs.Square.{at}
-use Rattle.decoder.specs.declared.locate.Judged.{Judged}
+use Rattle.decoder.specs.declared.locate.Judgement.{Judgement}
 use Rattle.decoder.specs.Steps.{Judges}
 use Rattle.correction.specs.Error.{checkOf}
 use Rattle.correction.proofs.Rows.{own-check}
@@ -35,9 +35,9 @@ module _ (s : Shape) (syn : List ℕ) (row c : ℕ) (lc : c < s .q) (ne : at syn
   loud-check l (suc u) lu = loud syn {x = checkOf s (row * s .q + c) (suc u)} refl (l .loud (suc u) lu (omega arith))
 
   -- `judge`: the first silent check, or none
-  pub judges-silent : (t : ℕ) {x : ℕ} {r : Judged} → t < s .n → Loud s syn (row * s .q + c) t → x ≡ checkOf s (row * s .q + c) t
+  pub judges-silent : (t : ℕ) {x : ℕ} {r : Judgement} → t < s .n → Loud s syn (row * s .q + c) t → x ≡ checkOf s (row * s .q + c) t
       → at syn x ≡ 0 → r .located ≡ false → r .looked ≡ t + 1 → Judges s syn (row * s .q + c) r
   judges-silent t lt l e z lost is = judges-first s syn (row * s .q + c) t lt (loud-check l) (silent syn e z) lost is
 
-  pub judges-loud : {r : Judged} → Loud s syn (row * s .q + c) (s .n) → r .located ≡ true → r .looked ≡ s .n → Judges s syn (row * s .q + c) r
+  pub judges-loud : {r : Judgement} → Loud s syn (row * s .q + c) (s .n) → r .located ≡ true → r .looked ≡ s .n → Judges s syn (row * s .q + c) r
   judges-loud l found is = judges-all s syn (row * s .q + c) (loud-check l) found is

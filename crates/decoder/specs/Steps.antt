@@ -8,7 +8,7 @@ use Rattle.parity.specs.Count.{any, all, lowestNot, firstValue}
 use Rattle.gtb.specs.declared.Shape.{Shape}
 use Rattle.gtb.specs.Square.{lineOf, at}
 use Rattle.correction.specs.Error.{checkOf}
-use Rattle.decoder.specs.declared.locate.Judged.{Judged}
+use Rattle.decoder.specs.declared.locate.Judgement.{Judgement}
 
 -- `located` by the table: all n checks on position j are nonzero
 unfoldable pub judged : Shape → List ℕ → ℕ → Bool
@@ -19,7 +19,7 @@ unfoldable pub lookedIn : Shape → List ℕ → ℕ → ℕ
 lookedIn s syn j = cond (judged s syn j) (s .n) (lowestNot (s .n) (λ t. not (eqb (at syn (checkOf s j t)) 0)) + 1)
 
 -- the judging of one position
-pub record Judges (s : Shape) (syn : List ℕ) (j : ℕ) (r : Judged) : Type 0 where
+pub record Judges (s : Shape) (syn : List ℕ) (j : ℕ) (r : Judgement) : Type 0 where
   pub located : r .located ≡ judged s syn j
   pub looked : r .looked ≡ lookedIn s syn j
 

@@ -48,7 +48,7 @@ fn check_in_row(
 }
 
 // What is known of a position once it is judged: whether it is located, and how many of its checks were looked at.
-pub struct Judged {
+pub struct Judgement {
     pub located: bool,
     pub looked: u32,
 }
@@ -64,13 +64,13 @@ pub fn judge(
     shifts: &[usize; 8],
     row: usize,
     column: usize,
-) -> Judged
+) -> Judgement
     requires { ⌜ Lawful shape × Tabled shape tabled (now table) × (tabled ≡ false → Shifts shape row (shape .n) (now shifts))
         × (own ≡ at (now syn) row) × (row < shape .q) × (column < shape .q) ⌝ }
     ensures { λ r. ⌜ Judges shape (now (syn .entry)) (row * shape .q + column) r ⌝ }
 {
     if own == 0 {
-        return Judged {
+        return Judgement {
             located: false,
             looked: 1,
         };
@@ -80,13 +80,13 @@ pub fn judge(
         let check = check_in_row(shape, tabled, table, shifts, t, row, column);
         if syn[check] == 0 {
             let looked = t as u32 + 1;
-            return Judged {
+            return Judgement {
                 located: false,
                 looked: looked,
             };
         }
     }
-    Judged {
+    Judgement {
         located: true,
         looked: shape.n,
     }

@@ -18,7 +18,7 @@ use Rattle.gtb.proofs.Lines.{share-one}
 use Rattle.gtb.proofs.Rows.{syndrome-width}
 use Rattle.distance.specs.Distance.{Near}
 use Rattle.double.specs.declared.Pair.{Pair}
-use Rattle.double.specs.Steps.{pairOf, FirstLine, LastLine, Crosses, Tried, Parts, Proposed, Attempted, Found}
+use Rattle.double.specs.Steps.{pairOf, FirstLine, LastLine, Crosses, Tried, Parts, Proposed, Attempted, FoundTwo}
 use Rattle.double.proofs.Attempts.{Holds, turned, support, shows-none, ends, error-right, tried-works}
 
 -- the value of the first line, and of the last if it is another
@@ -157,11 +157,11 @@ two-part s law n3 w v k near first second third = ⊎-elim by-none (λ (e : (p :
         (part-or-share s w v h 1))
         (part-or-share s w v h 0)
 
-pub found-early : {s : Shape} {syn : List ℕ} {t u : ℕ} {p : Pair} → Attempted s syn t u p → p .works ≡ true → Found s syn p
+pub found-early : {s : Shape} {syn : List ℕ} {t u : ℕ} {p : Pair} → Attempted s syn t u p → p .works ≡ true → FoundTwo s syn p
 found-early h works = record { proposed = h .proposed; fails = λ no. absurd (clash works no) }
 
 pub found-last : {s : Shape} {syn : List ℕ} {one two p : Pair} → Lawful s → 2 < s .n → Attempted s syn 0 1 one → one .works ≡ false
-    → Attempted s syn 0 2 two → two .works ≡ false → Attempted s syn 1 2 p → Found s syn p
+    → Attempted s syn 0 2 two → two .works ≡ false → Attempted s syn 1 2 p → FoundTwo s syn p
 found-last {s} law n3 one no-one two no-two last = record {
   proposed = last .proposed;
   fails = λ no w v k y near. two-part s law n3 w v k near (one .fails no-one w v k y near) (two .fails no-two w v k y near) (last .fails no w v k y near);

@@ -66,7 +66,7 @@ pub record Attempted (s : Shape) (syn : List ℕ) (t u : ℕ) (p : Pair) : Type 
   pub fails : p .works ≡ false → (w v : List ℕ) (k : ℕ) → Syndromes s w syn → Near s 2 w v k → Parts s w v t → Parts s w v u → ⊥
 
 -- found, if at most two symbols are wrong
-pub record Found (s : Shape) (syn : List ℕ) (p : Pair) : Type 0 where
+pub record FoundTwo (s : Shape) (syn : List ℕ) (p : Pair) : Type 0 where
   pub proposed : Proposed s syn p
   pub fails : p .works ≡ false → (w v : List ℕ) (k : ℕ) → Syndromes s w syn → Near s 2 w v k → ⊥
 

@@ -13,7 +13,7 @@ ghost use lib.Dec.{eqb};
 ghost use lib.ListN.{length};
 ghost use Rattle.gtb.specs.Shape.{Lawful, wordLength};
 ghost use Rattle.gtb.specs.Square.{at};
-ghost use Rattle.double.specs.Steps.{Tried, Attempted, Found};
+ghost use Rattle.double.specs.Steps.{Tried, Attempted, FoundTwo};
 
 // The corrections are tried on a copy of the table.
 fn test_pair(shape: Shape, syn: &[u32; 248], a: usize, x: u32, b: usize, y: u32) -> Pair
@@ -82,7 +82,7 @@ fn attempt(shape: Shape, syn: &[u32; 248], t: usize, u: usize) -> Pair
 // Two positions share a line in at most one of three directions, so two of these part them.
 pub fn find(shape: Shape, syn: &[u32; 248]) -> Pair
     requires { ⌜ Lawful shape × (length (now syn) ≡ 248) × (2 < shape .n) ⌝ }
-    ensures { λ r. ⌜ Found shape (now (syn .entry)) r ⌝ }
+    ensures { λ r. ⌜ FoundTwo shape (now (syn .entry)) r ⌝ }
 {
     let first = attempt(shape, syn, 0, 1);
     if first.works {
