@@ -28,11 +28,10 @@ inside c =
 returns : tie.Need-returns Inv-loop μ-loop
 unfolding errorAmong
 returns c =
-    ap (at (c .before .before .before .before .before .before .before .before .args .syn .now)) (c .before .number-by .ensures)
+    let at-loop = c .before .before .before .before .before in
+    ap (at (at-loop .before .before .before .args .syn .now)) (c .before .number-by .ensures)
     ∙ sym
-    (first-at _ _ _ (c .before .before .before .before .before .loop .t) (c .before .before .before .before .loop-test .taken)
-    (c .before .before .before .before .before .loop .inv .1)
-    (sym (c .before .before .before .is-alone .ensures) ∙ c .before .before .if1 .taken))
+    (first-at _ _ _ (at-loop .loop .t) (c .before .before .before .before .loop-test .taken) (at-loop .loop .inv .1) (sym (c .before .before .before .is-alone .ensures) ∙ c .before .before .if1 .taken))
 
 loop-again : tie.Need-loop-again Inv-loop μ-loop
 loop-again c = (search needs, below-more _ _ (c .before .before .before .loop .inv .1) (sym (c .before .is-alone .ensures) ∙ c .if1 .left))

@@ -38,15 +38,15 @@ judge-requires c κs =
     (s .pre .0, s .pre .1, l .before .shifts-by .ensures, refl, s .pre .2, c .before .loop-test .taken)
 
 -- the position is in the word, and small
-place : (c : tie.After-judge Inv-loop μ-loop) → c .before .before .before .before .before .before .before .before .before .before .args .row * c .before .before .before .before .before .before .before .before .before .before .args .shape .q + c .before .before .before .loop .c < wordLength (c .before .before .before .before .before .before .before .before .before .before .args .shape)
-place c =
-    let s = c .before .before .before .before .before .before .before .before .before .before in
-    in-word (s .args .shape) (s .pre .2) (c .before .before .loop-test .taken)
+module _ (c : tie.After-judge Inv-loop μ-loop) where
+  abbrev start : tie.Start Inv-loop μ-loop
+  start = c .before .before .before .before .before .before .before .before .before .before
 
-small : (c : tie.After-judge Inv-loop μ-loop) → c .before .before .before .before .before .before .before .before .before .before .args .row * c .before .before .before .before .before .before .before .before .before .before .args .shape .q + c .before .before .before .loop .c < 961
-small c =
-    let s = c .before .before .before .before .before .before .before .before .before .before in
-    lt-of-lt-of-le (place c) (square-le (s .args .shape .q) (bounds (s .args .shape) (s .pre .0) .q31))
+  place : start .args .row * start .args .shape .q + c .before .before .before .loop .c < wordLength (start .args .shape)
+  place = in-word (start .args .shape) (start .pre .2) (c .before .before .loop-test .taken)
+
+  small : start .args .row * start .args .shape .q + c .before .before .before .loop .c < 961
+  small = lt-of-lt-of-le place (square-le (start .args .shape .q) (bounds (start .args .shape) (start .pre .0) .q31))
 
 slice-write-looked : tie.Need-slice-write-looked Inv-loop μ-loop
 slice-write-looked c = rw (c .before .before .before .loop .inv .1 .size) (place c)

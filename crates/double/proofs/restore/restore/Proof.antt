@@ -17,14 +17,16 @@ returns c =
 
 returns-2 : tie.Need-returns-2
 returns-2 c =
-    let (law, n3, hw) = c .before .before .before .before .before .before .before .before .before .before .pre in
-    leaves two-meant _ law (le-leb 3 _ n3) _ hw (λ v k. c .before .before .find .ensures .fails (not-true _ (c .if2 .taken)) _ v k (c .before .before .before .before .before .before .before .syndromes .ensures))
+    let at-syndromes = c .before .before .before .before .before .before .before in
+    let (law, n3, hw) = at-syndromes .before .before .before .pre in
+    leaves two-meant _ law (le-leb 3 _ n3) _ hw (λ v k. c .before .before .find .ensures .fails (not-true _ (c .if2 .taken)) _ v k (at-syndromes .syndromes .ensures))
 
 returns-3 : tie.Need-returns-3
 returns-3 c =
-    let (law, n3, hw) = c .before .before .before .before .before .before .before .before .before .before .before .before .before .before .before .pre in
+    let at-syndromes = c .before .before .before .before .before .before .before .before .before .before .before .before in
+    let (law, n3, hw) = at-syndromes .before .before .before .pre in
     rw (c .before .before .before .before .changed .ensures, c .before .before .take-off .ensures)
-    (takes two-meant _ law (le-leb 3 _ n3) _ (pair-near (c .before .before .before .before .before .before .before .find .ensures .proposed) hw (c .before .before .before .before .before .before .before .before .before .before .before .before .syndromes .ensures) (not-false _ (c .before .before .before .before .before .if2 .left))))
+    (takes two-meant _ law (le-leb 3 _ n3) _ (pair-near (c .before .before .before .before .before .before .before .find .ensures .proposed) hw (at-syndromes .syndromes .ensures) (not-false _ (c .before .before .before .before .before .if2 .left))))
 
 pub restore-spec : {M : Type 1} → statement M
 restore-spec = tie.close (tie.spec (λ c κs. search needs) (λ c κs. search needs) (λ c. search needs) returns (λ c κs. search needs) (λ c. search needs) returns-2 (λ c κs. search needs) (λ c κs. search needs) (λ c. search needs) returns-3)

@@ -13,7 +13,7 @@ returns : tie.Need-returns
 returns c = let p = c .before .before .before .before .before .before .before .pre in uncorrected _ _ _ (c .before .find .ensures .many refl (omega (arith, c .if1 .taken)) _ (p .1) (p .2))
 
 apply-requires : tie.Need-apply-requires
-apply-requires c κs = (c .before .before .before .before .before .before .before .before .before .before .pre .1 .size, c .before .before .before .before .find .ensures .within (omega (arith, c .before .before .before .if1 .left)))
+apply-requires c κs = let at-find = c .before .before .before .before in (at-find .before .before .before .before .before .before .pre .1 .size, at-find .find .ensures .within (omega (arith, c .before .before .before .if1 .left)))
 
 returns-2 : tie.Need-returns-2
 returns-2 c =
