@@ -100,10 +100,10 @@ fn keep(
     syn: &[u32; 248],
     own: u32,
     shifts: &[usize; 8],
-    row: usize,
-    column: usize,
     places: &mut [usize; 8],
     count: usize,
+    row: usize,
+    column: usize,
 ) -> usize
     requires { ⌜ Lawful shape × Tabled shape tabled (now table) × (tabled ≡ false → Shifts shape row (shape .n) (now shifts))
         × (own ≡ at (now syn) row) × (row < shape .q) × (column < shape .q) × (count < shape .n) × Listed (judged shape (now syn)) (row * shape .q + column) count (now places) ⌝ }
@@ -149,10 +149,10 @@ fn scan_row(
             syn,
             check,
             &shifts,
-            row,
-            c,
             places,
             found,
+            row,
+            c,
         );
         if n <= found {
             return n;

@@ -21,4 +21,4 @@ returns c =
     s .pre .1 .number (c .before .if1 .taken) (s .args .j) (s .args .t) (s .pre .3) (s .pre .2) .1
 
 pub number-by-spec : {M : Type 1} → statement M
-number-by-spec = tie.close (tie.spec (λ c. omega (arith, inside c)) (λ c. omega (arith, inside c)) (λ c. inside (c .before)) cast-result returns (λ c κs. search needs) (λ c. search needs))
+number-by-spec = tie.close (tie.spec (λ c. omega (arith, inside c)) (λ c. omega (arith, inside c)) (λ c. omega (arith, inside (c .before))) cast-result returns (λ c κs. search needs) (λ c. search needs))
