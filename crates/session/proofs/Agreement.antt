@@ -42,7 +42,7 @@ readers-agree s law {w} {v} {v′} {k = k} {l = l} a b h g =
     near-unique s law (s .n - 1) (omega (arith, bounds s law .n2)) w v v′ k l (read-near s law a h) (read-near s law b g)
 
 -- the same by the ways that an arrival may name
-way-read : (way : ℕ) (s : Shape) (w : List ℕ) (k : ℕ) → wayOf way .answer s w ≡ Corrected k → Read s w (wayOf way .word s w) (Corrected k)
+pub way-read : (way : ℕ) (s : Shape) (w : List ℕ) (k : ℕ) → wayOf way .answer s w ≡ Corrected k → Read s w (wayOf way .word s w) (Corrected k)
 unfolding wayOf
 way-read zero s w k h = inl (rw h at (decode-meets s w))
 way-read (suc zero) s w k h = inr (inl (rw h at (majority-meets s w)))

@@ -8,6 +8,7 @@ pub mod NoDamage
 pub mod Asked
 pub mod Ways
 pub mod Agreement
+pub mod Left
 pub mod Arrive
 pub mod Opens
 pub mod Machine
