@@ -5,22 +5,25 @@ use mathlib.Core.Bool.{Bool, true, false, cond}
 use mathlib.Core.List.{List, [], _∷_}
 use Prim.Native.Nat.{ℕ, zero, suc, _+_, _<_, _≤_}
 use native.Mathlib.Nat.{add-zero, mul-one, le-refl, le-of-lt, le-trans}
-use lib.ListN.{length, take}
+use lib.ListN.{length, getD, take}
 use lib.Seq.{take-length}
-use borrow.Author.Tests.{eq-eqb, eqb-true}
+use borrow.Author.Tests.{eq-eqb, eqb-true, lt-ltb}
 use Rattle.parity.specs.Count.{bit, sum, count}
 use Rattle.parity.proofs.Tests.{clash, any-intro, any-elim}
 use Rattle.parity.proofs.Sums.{sum-cong, sum-none, sum-const}
 use Rattle.gtb.specs.declared.Shape.{Shape}
 use Rattle.gtb.specs.declared.Refusal.{Refusal}
-use Rattle.gtb.specs.Shape.{Lawful}
+use Rattle.gtb.specs.declared.Status.the-variants.{Done}
+use Rattle.gtb.specs.Shape.{lawful, Lawful}
 use Rattle.session.specs.declared.Session.{Session}
+use Rattle.session.specs.declared.Fresh.{Fresh}
+use Rattle.session.specs.declared.Counted.the-variants.{Calls}
 use Rattle.session.specs.declared.Outcome.{Outcome}
 use Rattle.session.specs.declared.Arrived.{Arrived}
-use Rattle.session.specs.Session.{freshOf, countOf}
+use Rattle.session.specs.Session.{freshOf, freshStatus, Beginning, sessionStatus, countOf, countedOf}
 use Rattle.session.specs.Arrival.{Ways, AllSound, theWays, Opened, Page, Bad, outcomeOf, sessionAfter}
 use Rattle.session.specs.Recording.{Sheet, sheetAt, Recording, tally, Arrival, arrivalAt, openedAt, TurnedDown, Brings, Fits}
-use Rattle.session.specs.Claim.{Run, stop, step, hasNumber, come, Machine, emptyMachine, machineStep, machine, answerAt, EveryList, isTaken, answerTo, Demand3, Claim}
+use Rattle.session.specs.Claim.{Run, stop, step, hasNumber, come, Machine, emptyMachine, machineStep, machine, answerAt, EveryList, isTaken, answerTo, Demand3, ClaimOf, Claim}
 use Rattle.session.proofs.Machine.{fed-counts, weighed, fed-weight, machine-more, held, held-pages}
 use Rattle.session.proofs.Fed.{reply, brought, answersOf, run-answers, run-end, run-reply, every-list}
 use Rattle.session.proofs.Ways.{all-sound}
@@ -176,10 +179,28 @@ module _ (ways : Ways) (s : Shape) (sound : AllSound ways s) (pages : List Sheet
       (length arrivals) (le-refl (length arrivals))
       ∙ total-end (λ p. 1) ∙ sum-const (length pages) 1 ∙ mul-one (length pages)
 
-pub demand3 : (ways : Ways) → Claim ways
-demand3 ways s pages arrivals answers end sound r fits run =
-    let every : EveryList ways s arrivals answers end = every-list ways s sound arrivals answers end run in
+-- what `Session::fresh` gives of a lawful shape
+abbrev pub made : Shape → Fresh
+made s = record { session = freshOf s; status = Done }
+
+pub made-begins : (s : Shape) → Lawful s → Beginning s (made s)
+unfolding freshStatus
+made-begins s legal = record { session = refl; status = rw legal refl; number = rw legal refl }
+
+begins-made : {s : Shape} {begin : Fresh} → Lawful s → Beginning s begin → begin ≡ made s
+unfolding freshStatus
+begins-made {begin = begin} legal b =
+    let status : begin .status ≡ Done = rw legal at (b .status) in
+    λ i. record { session = b .session i; status = status i }
+
+from-made : (ways : Ways) (s : Shape) → AllSound ways s → (pages : List Sheet) (arrivals : List Arrival) (answers : List Outcome) (end : Session)
+    → Recording s pages → Fits ways s pages arrivals → Run ways (freshOf s) arrivals answers end → Demand3 ways s pages (made s) arrivals answers end
+unfolding countedOf sessionStatus
+from-made ways s sound pages arrivals answers end r fits run =
+    let every : EveryList ways s (freshOf s) arrivals answers end = every-list ways s sound arrivals answers end run in
+    let whole : (f : ℕ) → f < 256 → getD (end .calls) f 0 ≡ tally pages (λ p. true) f = λ f l. every .agrees .calls f l ∙ counts-end ways s sound pages r arrivals fits f in
     record {
+      made = refl;
       sofar = λ m l first σ run′. (
         run-answers run′ ∙ take-answers ways (freshOf s) m arrivals ∙ ap (take m) (sym (run-answers run)),
         λ f lf.
@@ -189,7 +210,8 @@ demand3 ways s pages arrivals answers end sound r fits run =
         comes-brought ways s sound pages r arrivals fits m l i li,
         λ b. brought-comes ways s sound pages r arrivals fits m i li (b .0) (b .1) (b .2) (b .3),
       );
-      whole = λ f l. every .agrees .calls f l ∙ counts-end ways s sound pages r arrivals fits f;
+      whole = whole;
+      counted = λ f l. rw (ap lawful (every .shape) ∙ r .lawful, every .consistent, lt-ltb f 256 l) (ap Calls (whole f l));
       answer = λ j l i li k b.
           run-reply ways s sound run j l ∙ ap (reply (held ways s arrivals j)) (sheet-opened ways s sound arrivals pages r j i li k b)
           ∙ ap (λ (known : Bool). answerTo known (sheetAt pages i .number) k) (held-pages ways s arrivals j (le-of-lt l) (sheetAt pages i .number));
@@ -198,13 +220,16 @@ demand3 ways s pages arrivals answers end sound r fits run =
       only = λ others r′ fits′. only-recording ways s sound arrivals pages others r r′ fits fits′;
     }
 
+pub demand3 : (ways : Ways) → Claim ways
+demand3 ways s sound pages arrivals answers begin end r fits b run =
+    let same = begins-made (r .lawful) b in
+    rw same (from-made ways s sound pages arrivals answers end r fits (rw same at run))
+
 -- demand 3 of the ways that there are, with no hypothesis on them left
-pub demand3-ways : (s : Shape) (pages : List Sheet) (arrivals : List Arrival) (answers : List Outcome) (end : Session)
-    → Recording s pages → Fits theWays s pages arrivals → Run theWays (freshOf s) arrivals answers end
-    → Demand3 theWays s pages arrivals answers end
-demand3-ways s pages arrivals answers end r = demand3 theWays s pages arrivals answers end (all-sound s (r .lawful)) r
+pub demand3-ways : (s : Shape) → ClaimOf theWays s
+demand3-ways s pages arrivals answers begin end r = demand3 theWays s (all-sound s (r .lawful)) pages arrivals answers begin end r
 
 -- what holds of every list of arrivals, whether it fits a recording or not
 pub every-list-ways : (s : Shape) → Lawful s → (arrivals : List Arrival) (answers : List Outcome) (end : Session)
-    → Run theWays (freshOf s) arrivals answers end → EveryList theWays s arrivals answers end
+    → Run theWays (freshOf s) arrivals answers end → EveryList theWays s (freshOf s) arrivals answers end
 every-list-ways s legal = every-list theWays s (all-sound s legal)

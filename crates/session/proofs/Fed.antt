@@ -220,12 +220,13 @@ pub run-reply : (ways : Ways) (s : Shape) → AllSound ways s → {arrivals : Li
 run-reply ways s sound {arrivals} run j l = rw (run-answers run) (grown-answer ways s sound arrivals (freshOf s) emptyMachine (fresh-grown s) j l)
 
 pub every-list : (ways : Ways) (s : Shape) → AllSound ways s → (arrivals : List Arrival) (answers : List Outcome) (end : Session)
-    → Run ways (freshOf s) arrivals answers end → EveryList ways s arrivals answers end
+    → Run ways (freshOf s) arrivals answers end → EveryList ways s (freshOf s) arrivals answers end
 every-list ways s sound arrivals answers end run = record {
-  agrees = rw (run-end run) (grown-end ways s sound arrivals (freshOf s) emptyMachine (fresh-grown s) .agrees);
+  agrees = grown .agrees;
   answered = rw (run-answers run) (length-answers ways (freshOf s) arrivals);
-  shape = rw (run-end run) (grown-end ways s sound arrivals (freshOf s) emptyMachine (fresh-grown s) .shape);
-  consistent = rw (run-end run) (grown-end ways s sound arrivals (freshOf s) emptyMachine (fresh-grown s) .consistent);
+  shape = grown .shape;
+  consistent = grown .consistent;
+  few = λ f l. rw (grown .agrees .calls f l) (le-trans (grown .few f) (all-few (machine ways s emptyMachine arrivals .pages)));
   figures = λ m l first σ run′.
       grown-pages s σ (held ways s arrivals m)
       (rw (run-end run′) (grown-end ways s sound (take m arrivals) (freshOf s) emptyMachine (fresh-grown s)))
@@ -236,5 +237,8 @@ every-list ways s sound arrivals answers end run = record {
       subst Sane (refused j l e h .by) (opened-sane ways s sound (arrivalAt arrivals j .way) (arrivalAt arrivals j .word) (arrivalAt arrivals j .scratch)) by;
 }
   where
+    grown : Grown s end (machine ways s emptyMachine arrivals)
+    grown = rw (run-end run) (grown-end ways s sound arrivals (freshOf s) emptyMachine (fresh-grown s))
+
     refused : (j : ℕ) → j < length arrivals → (e : Refusal) → answerAt answers j ≡ Refused e → TurnedDown ways s (arrivalAt arrivals j) e
     refused j l e h = record { by = reply-refused _ _ e (sym (run-reply ways s sound run j l) ∙ h) }

@@ -3,17 +3,20 @@ use mathlib.Core.Path.{_≡_}
 use mathlib.Core.Logic.{_↔_}
 use mathlib.Core.Bool.{Bool, true, false, _||_}
 use mathlib.Core.List.{List, [], _∷_}
-use Prim.Native.Nat.{ℕ, _+_, _<_, _≤_}
+use Prim.Native.Nat.{ℕ, _+_, _*_, _<_, _≤_}
 use lib.Dec.{eqb}
 use lib.ListN.{length, getD, take}
 use Rattle.parity.specs.Count.{any, count, lowestNot}
 use Rattle.gtb.specs.declared.Shape.{Shape}
 use Rattle.gtb.specs.declared.Refusal.{Refusal}
+use Rattle.gtb.specs.declared.Status.the-variants.{Done}
 use Rattle.session.specs.declared.Session.{Session}
+use Rattle.session.specs.declared.Fresh.{Fresh}
+use Rattle.session.specs.declared.Counted.the-variants.{Calls}
 use Rattle.session.specs.declared.Outcome.{Outcome}
 use Rattle.session.specs.declared.Outcome.the-variants.{Taken, Again, Refused}
 use Rattle.session.specs.declared.Arrived.{Arrived}
-use Rattle.session.specs.Session.{Consistent, freshOf, countOf}
+use Rattle.session.specs.Session.{Consistent, Beginning, countOf, countedOf}
 use Rattle.session.specs.Arrival.{bySession, Ways, AllSound, Opened, Page, Bad, opened, Arriving}
 use Rattle.session.specs.Recording.{Sheet, sheetAt, Recording, tally, Arrival, arrivalAt, openedAt, TurnedDown, Brings, Fits}
 
@@ -66,15 +69,17 @@ pub record Agrees (σ : Session) (m : Machine) : Type 0 where
 abbrev pub answerAt : List Outcome → ℕ → Outcome
 answerAt answers j = getD answers j (Refused Refusal.Shape)
 
--- ---- what every list of arrivals from a fresh session on must show
-pub record EveryList (ways : Ways) (s : Shape) (arrivals : List Arrival) (answers : List Outcome) (end : Session) : Type 0 where
+-- ---- what every list of arrivals must show, from a session on that `Session::fresh` made
+pub record EveryList (ways : Ways) (s : Shape) (start : Session) (arrivals : List Arrival) (answers : List Outcome) (end : Session) : Type 0 where
   pub agrees : Agrees end (machine ways s emptyMachine arrivals)
   pub answered : length answers ≡ length arrivals
   -- the session has that shape still, and is consistent
   pub shape : end .shape ≡ s
   pub consistent : Consistent end
+  -- no count is above that of 1,024 pages with nothing but marks for one function
+  pub few : (f : ℕ) → f < 256 → getD (end .calls) f 0 ≤ 1024 * 898
   -- after every arrival the figures are the number of different pages that have come unrefused, and the lowest number that has not
-  pub figures : (m : ℕ) → m ≤ length arrivals → (first : List Outcome) (σ : Session) → Run ways (freshOf s) (take m arrivals) first σ
+  pub figures : (m : ℕ) → m ≤ length arrivals → (first : List Outcome) (σ : Session) → Run ways start (take m arrivals) first σ
       → (σ .pages ≡ count 1024 (come ways s arrivals m)) × (σ .lowest ≡ lowestNot 1024 (come ways s arrivals m))
   -- refused exactly if what was handed in turns it down, by that number, and never by 9 or 11
   pub refused : (j : ℕ) → j < length arrivals → (e : Refusal) → answerAt answers j ≡ Refused e → TurnedDown ways s (arrivalAt arrivals j) e
@@ -99,10 +104,12 @@ pub record SameSheets (pages others : List Sheet) : Type 0 where
   pub there : (i : ℕ) → i < length pages → (j : ℕ) × (j < length others) × (sheetAt others j ≡ sheetAt pages i)
   pub back : (j : ℕ) → j < length others → (i : ℕ) × (i < length pages) × (sheetAt pages i ≡ sheetAt others j)
 
--- what such a list must show
-pub record Demand3 (ways : Ways) (s : Shape) (pages : List Sheet) (arrivals : List Arrival) (answers : List Outcome) (end : Session) : Type 0 where
+-- what such a list must show, from what `Session::fresh` gave on
+pub record Demand3 (ways : Ways) (s : Shape) (pages : List Sheet) (begin : Fresh) (arrivals : List Arrival) (answers : List Outcome) (end : Session) : Type 0 where
+  -- the session was made
+  pub made : begin .status ≡ Done
   -- after every prefix the counts are those of the pages that have come unrefused so far
-  pub sofar : (m : ℕ) → m ≤ length arrivals → (first : List Outcome) (σ : Session) → Run ways (freshOf s) (take m arrivals) first σ
+  pub sofar : (m : ℕ) → m ≤ length arrivals → (first : List Outcome) (σ : Session) → Run ways (begin .session) (take m arrivals) first σ
       → (first ≡ take m answers) × ((f : ℕ) → f < 256 → getD (σ .calls) f 0 ≡ tally pages (λ p. come ways s arrivals m (p .number)) f)
   -- and a page of the recording has come so far exactly if an arrival so far brings it
   pub came : (m : ℕ) → m ≤ length arrivals → (i : ℕ) → i < length pages
@@ -110,18 +117,24 @@ pub record Demand3 (ways : Ways) (s : Shape) (pages : List Sheet) (arrivals : Li
       ↔ ((j : ℕ) × (j < m) × (k : ℕ) × Brings ways s (arrivalAt arrivals j) (sheetAt pages i) k)
   -- at the end the counts are the recording's own
   pub whole : (f : ℕ) → f < 256 → getD (end .calls) f 0 ≡ tally pages (λ p. true) f
+  -- and so a count query answers
+  pub counted : (f : ℕ) → f < 256 → countedOf end f ≡ Calls (tally pages (λ p. true) f)
   -- which answer an arrival that brings a page gets
   pub answer : (j : ℕ) → j < length arrivals → (i : ℕ) → i < length pages → (k : ℕ) → Brings ways s (arrivalAt arrivals j) (sheetAt pages i) k
       → answerAt answers j ≡ answerTo (come ways s arrivals j (sheetAt pages i .number)) (sheetAt pages i .number) k
   -- taken is answered as often as the recording has pages
   pub taken : count (length answers) (λ j. isTaken (answerAt answers j)) ≡ length pages
   -- an arrival that is turned down is answered with that number, and what holds of every list holds of this one
-  pub every : EveryList ways s arrivals answers end
+  pub every : EveryList ways s (begin .session) arrivals answers end
   -- the list fits no other recording of this shape
   pub only : (others : List Sheet) → Recording s others → Fits ways s others arrivals → SameSheets pages others
 
--- the one claim: for every recording, every list of arrivals, each by its own way, that fits it and whatever run of them from a fresh session
+-- for every recording, every list of arrivals, each by its own way, that fits it, and whatever run of them from what `Session::fresh` ensures on
+abbrev pub ClaimOf : Ways → Shape → Type 0
+ClaimOf ways s = (pages : List Sheet) (arrivals : List Arrival) (answers : List Outcome) (begin : Fresh) (end : Session)
+    → Recording s pages → Fits ways s pages arrivals → Beginning s begin → Run ways (begin .session) arrivals answers end
+    → Demand3 ways s pages begin arrivals answers end
+
+-- the one claim, of any ways of reading that are sound
 abbrev pub Claim : Ways → Type 0
-Claim ways = (s : Shape) (pages : List Sheet) (arrivals : List Arrival) (answers : List Outcome) (end : Session)
-    → AllSound ways s → Recording s pages → Fits ways s pages arrivals → Run ways (freshOf s) arrivals answers end
-    → Demand3 ways s pages arrivals answers end
+Claim ways = (s : Shape) → AllSound ways s → ClaimOf ways s
