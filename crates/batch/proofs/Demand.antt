@@ -9,14 +9,15 @@ use lib.ListN.{length, length-append, List·getD-append}
 use lib.Seq.{getD-at}
 use Rattle.gtb.specs.declared.Shape.{Shape}
 use Rattle.session.specs.declared.Session.{Session}
+use Rattle.session.specs.declared.Fresh.{Fresh}
 use Rattle.session.specs.declared.Outcome.{Outcome}
-use Rattle.session.specs.Session.{freshOf}
+use Rattle.session.specs.Session.{Beginning}
 use Rattle.session.specs.Arrival.{theWays}
 use Rattle.session.specs.Recording.{Sheet, Recording, Arrival, nothing, arrivalAt, Fits}
 use Rattle.session.specs.Claim.{Run, stop, Demand3}
 use Rattle.session.proofs.Demand.{demand3-ways}
 use Rattle.session.proofs.Joins.{run-join}
-use Rattle.batch.specs.Batch.{wordsIn, arrivalOf, firstArrivals, arrivalsOf, Batches, none, more}
+use Rattle.batch.specs.Batch.{wordsIn, arrivalOf, firstArrivals, arrivalsOf, Batches, none, more, turned}
 
 -- ---- the arrivals of a run are its words, one each
 module _ (s : Shape) (k : ℕ) (words scratch : List ℕ) where
@@ -44,8 +45,10 @@ module _ (s : Shape) (k : ℕ) (words scratch : List ℕ) where
 pub batches-run : {σ end : Session} {arrivals : List Arrival} {answers : List Outcome} → Batches σ arrivals answers end → Run theWays σ arrivals answers end
 batches-run none = stop
 batches-run (more bundle whole rest) = run-join (bundle .done whole .run) (batches-run rest)
+batches-run (turned {e = e} bundle is rest) = rw (bundle .refused e is .0) at (batches-run rest)
 
 -- so demand 3 holds of them
-pub demand3-batches : (s : Shape) (pages : List Sheet) (arrivals : List Arrival) (answers : List Outcome) (end : Session)
-    → Recording s pages → Fits theWays s pages arrivals → Batches (freshOf s) arrivals answers end → Demand3 theWays s pages arrivals answers end
-demand3-batches s pages arrivals answers end r fits batches = demand3-ways s pages arrivals answers end r fits (batches-run batches)
+pub demand3-batches : (s : Shape) (pages : List Sheet) (arrivals : List Arrival) (answers : List Outcome) (begin : Fresh) (end : Session)
+    → Recording s pages → Fits theWays s pages arrivals → Beginning s begin → Batches (begin .session) arrivals answers end
+    → Demand3 theWays s pages begin arrivals answers end
+demand3-batches s pages arrivals answers begin end r fits made batches = demand3-ways s pages arrivals answers begin end r fits made (batches-run batches)

@@ -83,9 +83,12 @@ pub record Batching (σ : Session) (k : ℕ) (words scratch outcomes words′ sc
   -- otherwise a run of the single arrivals
   pub done : r .status ≡ Done → Arrivals σ k words scratch words′ scratch′ outcomes′ (r .session)
 
--- bundles one after the other, each with its own way and of its own size, none turned down: all their arrivals and answers
+-- bundles one after the other, each with its own way and of its own size: the arrivals and answers of all that are not turned down whole
 pub data Batches : Session → List Arrival → List Outcome → Session → Type 0 where
   none : {σ : Session} → Batches σ [] [] σ
   more : {σ end : Session} {k : ℕ} {words scratch outcomes words′ scratch′ outcomes′ : List ℕ} {r : Delivered} {rest : List Arrival} {answers : List Outcome}
       → (bundle : Batching σ k words scratch outcomes words′ scratch′ outcomes′ r) → (whole : r .status ≡ Done) → Batches (r .session) rest answers end
       → Batches σ (arrivalsOf (σ .shape) k words scratch ++ rest) (bundle .done whole .answers ++ answers) end
+  turned : {σ end : Session} {k : ℕ} {words scratch outcomes words′ scratch′ outcomes′ : List ℕ} {r : Delivered} {e : Refusal} {rest : List Arrival} {answers : List Outcome}
+      → Batching σ k words scratch outcomes words′ scratch′ outcomes′ r → r .status ≡ Refused e → Batches (r .session) rest answers end
+      → Batches σ rest answers end

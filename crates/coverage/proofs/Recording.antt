@@ -18,11 +18,12 @@ use Rattle.parity.proofs.Lists.{at-tabulate, length-tabulate}
 use Rattle.gtb.specs.declared.Shape.{Shape}
 use Rattle.gtb.specs.Shape.{lawful}
 use Rattle.session.specs.declared.Session.{Session}
+use Rattle.session.specs.declared.Fresh.{Fresh}
 use Rattle.session.specs.declared.Outcome.{Outcome}
-use Rattle.session.specs.Session.{isCall, countOf, sessionStatus}
-use Rattle.session.specs.Arrival.{Ways}
-use Rattle.session.specs.Recording.{Sheet, sheetAt, Recording, tally, Arrival}
-use Rattle.session.specs.Claim.{Demand3}
+use Rattle.session.specs.Session.{Beginning, isCall, countOf, sessionStatus}
+use Rattle.session.specs.Arrival.{Ways, theWays}
+use Rattle.session.specs.Recording.{Sheet, sheetAt, Recording, tally, Arrival, Fits}
+use Rattle.session.specs.Claim.{Run, Demand3, ClaimOf}
 use Rattle.coverage.specs.declared.Covered.{Covered}
 use Rattle.coverage.specs.declared.Covered.the-variants.{Functions}
 use Rattle.coverage.specs.Coverage.{isCalled, coverByte, coverBytes, coverCount, coverOf, bytesAfter, Covering, Marked, isMarked, Viewed}
@@ -119,8 +120,8 @@ unfolding bit
 no-is true h = absurd (h refl)
 no-is false h = refl
 
-pub recording-cover : {ways : Ways} {s : Shape} {pages : List Sheet} {arrivals : List Arrival} {answers : List Outcome} {end : Session} {bytes bytes′ : List ℕ} {r : Covered}
-    → Recording s pages → Demand3 ways s pages arrivals answers end → length bytes ≡ 256 → Covering end bytes bytes′ r → Viewed pages bytes′ r
+pub recording-cover : {ways : Ways} {s : Shape} {pages : List Sheet} {begin : Fresh} {arrivals : List Arrival} {answers : List Outcome} {end : Session} {bytes bytes′ : List ℕ} {r : Covered}
+    → Recording s pages → Demand3 ways s pages begin arrivals answers end → length bytes ≡ 256 → Covering end bytes bytes′ r → Viewed pages bytes′ r
 unfolding coverOf sessionStatus coverBytes coverCount
 recording-cover {pages = pages} {end = end} {bytes = bytes} {bytes′ = bytes′} {r = r} recording d size c =
     record { size = rw left (length-tabulate 256 _); yes = λ f l. (λ h. marked-means pages f .0 (yes-is _ (sym (byte f l) ∙ h)), λ m. byte f l ∙ bit-true (marked-means pages f .1 m)); no = λ f l none. byte f l ∙ no-is _ (λ t. none (marked-means pages f .0 t)); number = answer ∙ ap Functions (count-cong 256 _ _ called) }
@@ -136,3 +137,10 @@ recording-cover {pages = pages} {end = end} {bytes = bytes} {bytes′ = bytes′
 
     byte : (f : ℕ) → f < 256 → getD bytes′ f 0 ≡ bit (isMarked pages f)
     byte f l = ap (λ (x : List ℕ). getD x f 0) left ∙ at-tabulate 256 (coverByte (end .calls)) f l ∙ ap bit (called f l)
+
+-- from a recording, a list that fits it and a run to the bytes, if demand 3 is claimed: the crate above shows that
+pub claimed-cover : {s : Shape} → ClaimOf theWays s → {pages : List Sheet} {begin : Fresh} {arrivals : List Arrival} {answers : List Outcome} {end : Session} {bytes bytes′ : List ℕ} {r : Covered}
+    → Recording s pages → Fits theWays s pages arrivals → Beginning s begin → Run theWays (begin .session) arrivals answers end
+    → length bytes ≡ 256 → Covering end bytes bytes′ r → Viewed pages bytes′ r
+claimed-cover claim {pages} {begin} {arrivals} {answers} {end} recording fits made run =
+    recording-cover recording (claim pages arrivals answers begin end recording fits made run)
