@@ -3,3 +3,4 @@ pub mod Outcomes
 pub mod Turns
 pub mod Answers
 pub mod Demand
+pub mod Alikes

@@ -6,22 +6,25 @@ use Prim.Native.Nat.{ℕ, _+_, _-_, _*_, _^_, _<_, _≤_}
 use native.Mathlib.Nat.{mul-le-mul}
 use native.Mathlib.Numerals.{add-one}
 use native.Mathlib.Omega.{arith}
-use lib.Dec.{ltb}
+use lib.Dec.{eqb, ltb}
 use lib.ListN.{length, getD}
 use borrow.Author.Tests.{eq-eqb, lt-ltb}
 use Rattle.parity.proofs.Sums.{sum-cong, sum-le, sum-const}
 use Rattle.gtb.specs.declared.Shape.{Shape}
 use Rattle.gtb.specs.declared.Refusal.{Refusal}
+use Rattle.gtb.specs.declared.Status.{Status}
 use Rattle.gtb.specs.Shape.{lawful, Lawful}
 use Rattle.gtb.specs.Answer.{unless}
+use Rattle.gtb.specs.Alike.{Alike}
 use Rattle.session.specs.declared.Session.{Session}
 use Rattle.session.specs.declared.Fresh.{Fresh}
 use Rattle.session.specs.declared.Outcome.{Outcome}
-use Rattle.session.specs.Session.{Beginning, sessionStatus}
+use Rattle.session.specs.Session.{Beginning, sessionStatus, past}
 use Rattle.session.specs.Arrival.{Ways, theWays}
 use Rattle.session.specs.Recording.{Sheet, Recording, tally, Arrival, Fits}
 use Rattle.session.specs.Claim.{Run, EveryList, Demand3}
 use Rattle.session.proofs.Demand.{demand3-ways}
+use Rattle.session.proofs.Alikes.{resloped, session-status-alike}
 use Rattle.energy.specs.declared.Billed.the-variants.{Picojoules, Refused}
 use Rattle.energy.specs.Energy.{callsOf, millis, roundedUp, due, billOf}
 
@@ -34,6 +37,12 @@ same-millis calls others same prices = sum-cong 255 _ _ (λ f l. ap (λ (x : ℕ
 pub idle-free : (calls : ℕ → ℕ) (price other : ℕ) (prices : List ℕ) → millis calls (price ∷ prices) ≡ millis calls (other ∷ prices)
 unfolding millis
 idle-free calls price other prices = sum-cong 255 _ _ (λ f l. rw (add-one f))
+
+-- nor have the slopes past the first n - 1
+pub bill-alike : (σ : Session) (slopes : List ℕ) → Alike (σ .shape) slopes → (prices : List ℕ) → billOf (resloped σ slopes) prices ≡ billOf σ prices
+unfolding billOf
+bill-alike σ slopes alike prices =
+    ap (λ (t : Status). past t Refused (unless (eqb (length prices) 256) (Refused Refusal.Length) (due (millis (callsOf σ) prices)))) (session-status-alike σ slopes alike)
 
 pub recording-bill : {ways : Ways} {s : Shape} {pages : List Sheet} {begin : Fresh} {arrivals : List Arrival} {answers : List Outcome} {end : Session}
     → Recording s pages → Demand3 ways s pages begin arrivals answers end → (prices : List ℕ) → length prices ≡ 256

@@ -6,4 +6,5 @@ pub mod Numbers
 pub mod Systems
 pub mod Answers
 pub mod Filling
+pub mod Alikes
 pub mod Examples

@@ -26,9 +26,10 @@ use Rattle.session.specs.declared.Arrived.{Arrived}
 use Rattle.session.specs.declared.Counted.the-variants as counted
 use Rattle.session.specs.Session.{consistent, freshOf, freshStatus, sessionStatus, past, countedOf, recorded}
 use Rattle.session.specs.Arrival.{isWay, wayOf, theWays, Opened, Page, Bad, openPage, openWord, opened, arrivalStatus, presented, outcomeOf, outcomeValues, sessionBy, sessionAfter, wordAfter, Arriving}
-use Rattle.session.specs.Recording.{Arrival}
-use Rattle.session.specs.Claim.{Run, stop, step}
-use Rattle.session.proofs.Ways.{all-read}
+use Rattle.session.specs.Recording.{Sheet, Recording, Arrival, arrivalAt, Fits}
+use Rattle.session.specs.Claim.{Run, stop, step, SameSheets}
+use Rattle.session.proofs.Ways.{all-read, all-sound}
+use Rattle.session.proofs.Fits.{only-recording}
 
 -- the session with other slopes
 abbrev pub resloped : Session → List ℕ → Session
@@ -66,21 +67,25 @@ figures-alike : (σ : Session) (slopes : List ℕ) → consistent (resloped σ s
 unfolding consistent
 figures-alike σ slopes = refl
 
-session-status-alike : (σ : Session) (slopes : List ℕ) → Alike (σ .shape) slopes → sessionStatus (resloped σ slopes) ≡ sessionStatus σ
+pub session-status-alike : (σ : Session) (slopes : List ℕ) → Alike (σ .shape) slopes → sessionStatus (resloped σ slopes) ≡ sessionStatus σ
 unfolding sessionStatus
 session-status-alike σ slopes alike = λ i.
     unless (lawful-alike (σ .shape) slopes alike i) (status.Refused (refusal-alike (σ .shape) slopes alike i))
     (unless (figures-alike σ slopes i) (status.Refused Refusal.Figures) status.Done)
 
+pub arrival-status-alike : (σ : Session) (slopes : List ℕ) → Alike (σ .shape) slopes → (way : ℕ)
+    → arrivalStatus theWays (resloped σ slopes) way ≡ arrivalStatus theWays σ way
+unfolding arrivalStatus
+arrival-status-alike σ slopes alike way = λ i.
+    unless (isWay way) (status.Refused Refusal.Shape)
+    (past (session-status-alike σ slopes alike i) status.Refused
+    (unless (all-read way .sameSuits (σ .shape) slopes alike i) (status.Refused Refusal.Directions) status.Done))
+
 presented-alike : (σ : Session) (slopes : List ℕ) → Alike (σ .shape) slopes → (way : ℕ) (word scratch : List ℕ)
     → presented theWays (resloped σ slopes) way word scratch ≡ presented theWays σ way word scratch
-unfolding presented arrivalStatus
+unfolding presented
 presented-alike σ slopes alike way word scratch = λ i.
-    past
-    (unless (isWay way) (status.Refused Refusal.Shape)
-    (past (session-status-alike σ slopes alike i) status.Refused
-    (unless (all-read way .sameSuits (σ .shape) slopes alike i) (status.Refused Refusal.Directions) status.Done)))
-    Bad (opened-alike (σ .shape) slopes alike way word scratch i)
+    past (arrival-status-alike σ slopes alike way i) Bad (opened-alike (σ .shape) slopes alike way word scratch i)
 
 module _ (σ : Session) (slopes : List ℕ) where
   -- what decides is beside the shape
@@ -150,3 +155,11 @@ unfolding countedOf
 count-alike σ slopes alike f = λ i.
     past (session-status-alike σ slopes alike i) counted.Refused
     (unless (ltb f 256) (counted.Refused Refusal.Function) (counted.Calls (getD (σ .calls) f 0)))
+
+-- the list fits no other recording, not even of a shape with other such slopes
+pub only-alike : (s : Shape) (slopes : List ℕ) → Alike s slopes → (arrivals : List Arrival) (pages others : List Sheet)
+    → Recording s pages → Fits theWays s pages arrivals → Recording (reslope s slopes) others → Fits theWays (reslope s slopes) others arrivals
+    → SameSheets pages others
+only-alike s slopes alike arrivals pages others r fits r′ fits′ =
+    only-recording theWays s (reslope s slopes) (all-sound s (r .lawful)) (all-sound (reslope s slopes) (r′ .lawful)) arrivals
+    (λ j. opened-alike s slopes alike (arrivalAt arrivals j .way) (arrivalAt arrivals j .word) (arrivalAt arrivals j .scratch)) pages others r r′ fits fits′

@@ -217,7 +217,7 @@ from-made ways s sound pages arrivals answers end r fits run =
           ∙ ap (λ (known : Bool). answerTo known (sheetAt pages i .number) k) (held-pages ways s arrivals j (le-of-lt l) (sheetAt pages i .number));
       taken = rw (every .answered) (taken-end ways s sound pages r arrivals fits answers end run);
       every = every;
-      only = λ others r′ fits′. only-recording ways s sound arrivals pages others r r′ fits fits′;
+      only = λ others r′ fits′. only-recording ways s s sound sound arrivals (λ j. refl) pages others r r′ fits fits′;
     }
 
 pub demand3 : (ways : Ways) → Claim ways

@@ -1,5 +1,5 @@
 -- What a page of a recording opens to, and that no list fits two recordings that differ in a page.
-use mathlib.Core.Path.{_≡_, refl, ap, _∙_}
+use mathlib.Core.Path.{_≡_, refl, sym, ap, _∙_, subst}
 use mathlib.Core.List.{List}
 use mathlib.Core.Logic.{⊎-elim}
 use Prim.Native.Nat.{ℕ, _<_}
@@ -64,16 +64,18 @@ module _ (ways : Ways) (s : Shape) (sound : AllSound ways s) (arrivals : List Ar
       rw (sheet-opened pages r j (b .0) (b .1) (b .2) (b .3)) (b .0, b .1, refl))
       (fits .each j l)
 
-  -- each page of one recording that the list fits is a page of the other
-  also-there : (pages others : List Sheet) → Recording s pages → Recording s others → Fits ways s pages arrivals → Fits ways s others arrivals
-      → (i : ℕ) → i < length pages → (j : ℕ) × (j < length others) × (sheetAt others j ≡ sheetAt pages i)
-  also-there pages others r r′ fits fits′ i l =
-      let (j, lj, k, b) = fits .every i l in
-      rw (sheet-opened pages r j i l k b) at (fits-from others r′ fits′ j lj)
+-- each page of one recording that the list fits is a page of the other; what is brought is the same under both shapes
+also-there : (ways : Ways) (s s′ : Shape) → AllSound ways s → AllSound ways s′ → (arrivals : List Arrival)
+    → ((j : ℕ) → openedAt ways s′ arrivals j ≡ openedAt ways s arrivals j) → (pages others : List Sheet) → Recording s pages → Recording s′ others
+    → Fits ways s pages arrivals → Fits ways s′ others arrivals → (i : ℕ) → i < length pages → (j : ℕ) × (j < length others) × (sheetAt others j ≡ sheetAt pages i)
+also-there ways s s′ sound sound′ arrivals same pages others r r′ fits fits′ i l =
+    let (j, lj, k, b) = fits .every i l in
+    subst (From others) (same j ∙ sheet-opened ways s sound arrivals pages r j i l k b) (fits-from ways s′ sound′ arrivals others r′ fits′ j lj)
 
-  pub only-recording : (pages others : List Sheet) → Recording s pages → Recording s others → Fits ways s pages arrivals → Fits ways s others arrivals
-      → SameSheets pages others
-  only-recording pages others r r′ fits fits′ = record {
-    there = also-there pages others r r′ fits fits′;
-    back = also-there others pages r′ r fits′ fits;
-  }
+pub only-recording : (ways : Ways) (s s′ : Shape) → AllSound ways s → AllSound ways s′ → (arrivals : List Arrival)
+    → ((j : ℕ) → openedAt ways s′ arrivals j ≡ openedAt ways s arrivals j) → (pages others : List Sheet) → Recording s pages → Recording s′ others
+    → Fits ways s pages arrivals → Fits ways s′ others arrivals → SameSheets pages others
+only-recording ways s s′ sound sound′ arrivals same pages others r r′ fits fits′ = record {
+  there = also-there ways s s′ sound sound′ arrivals same pages others r r′ fits fits′;
+  back = also-there ways s′ s sound′ sound arrivals (λ j. sym (same j)) others pages r′ r fits′ fits;
+}

@@ -2,3 +2,4 @@ pub mod Meaning
 pub mod Table
 pub mod Answers
 pub mod Proposals
+pub mod Alikes
