@@ -24,7 +24,7 @@ use Rattle.session.specs.Session.{freshOf}
 use Rattle.session.specs.Arrival.{theWays}
 use Rattle.session.specs.Recording.{Sheet, sheetAt, Recording, tally, Arrival, TurnedDown, Fits}
 use Rattle.session.specs.Claim.{come, answerAt, answerTo, Demand3}
-use Rattle.session.proofs.Demand.{demand3-ways}
+use Rattle.session.proofs.Demand.{made, made-begins, demand3-ways}
 use Rattle.session.proofs.Progress.{fresh-consistent}
 use Rattle.judge.specs.declared.Phase.the-variants.{Words}
 use Rattle.judge.specs.declared.Tally.{Tally}
@@ -57,8 +57,10 @@ module _ (s : Shape) (pages : List Sheet) (lines : List (List ℕ)) (r : Recordi
   answers = answersTo (freshOf s) lines
 
   -- demand 3 of the readable lines
-  demand : Demand3 theWays s pages arrivals replies (endOf (freshOf s) lines)
-  demand = demand3-ways s pages arrivals replies (endOf (freshOf s) lines) r fits (lines-run s lines (freshOf s) (fresh-shape s) (fresh-consistent s))
+  demand : Demand3 theWays s pages (made s) arrivals replies (endOf (freshOf s) lines)
+  demand =
+      demand3-ways s pages arrivals replies (made s) (endOf (freshOf s) lines) r fits (made-begins s (r .lawful))
+      (lines-run s lines (freshOf s) (fresh-shape s) (fresh-consistent s))
 
   -- and of line i by its place among them
   turned : (i : ℕ) → i < length lines → (xs : List ℕ) (e : Refusal) → lineContent (lineAt lines i) ≡ Spelled xs
