@@ -5,6 +5,7 @@ use mathlib.Core.List.{List}
 use Prim.Native.Nat.{ℕ, _^_, _<_, _≤_}
 use native.Mathlib.Omega.{arith}
 use lib.Dec.{eqb, leb}
+use lib.ListN.{length}
 use borrow.Author.Tests.{le-leb, leb-true, eqb-true, not-false}
 use Rattle.parity.specs.Xor.{_⊕_}
 use Rattle.parity.specs.Count.{count}
@@ -65,6 +66,28 @@ damaged-near s l v e hv he few = record {
   changed = sym (error-size s (damaged v e) v) ∙ count-cong (wordLength s) _ _ (λ j lj. ap (λ (x : ℕ). not (eqb x 0)) (damaged-error s v e (hv .word) he j lj));
   few = few;
 }
+
+-- and back: what two words differ by is an error on one that gives the other
+pub record Damages (s : Shape) (w v : List ℕ) (k : ℕ) : Type 0 where
+  pub error : List ℕ
+  pub word : Word s error
+  pub changed : weight s (at error) ≡ k
+  pub received : w ≡ damaged v error
+
+pub near-damages : {s : Shape} {l k : ℕ} {w v : List ℕ} → Near s l w v k → Damages s w v k
+unfolding weight damaged
+near-damages {s} {l} {k} {w} {v} x =
+    let hv : Word s v = x .codeword .word in
+    record {
+      error = damaged w v;
+      word = damaged-word s w v (x .word) hv;
+      changed = count-cong (wordLength s) _ _ (λ j lj. ap (λ (y : ℕ). not (eqb y 0)) (damaged-at s w v (x .word) hv j lj)) ∙ error-size s w v ∙ x .changed;
+      received =
+          is-tabulate (length v) (λ j. at v j ⊕ at (damaged w v) j) w (x .word .size ∙ sym (hv .size))
+          (λ j lj.
+          let l : j < wordLength s = rw (hv .size) at lj in
+          sym (ap (λ (y : ℕ). at v j ⊕ y) (damaged-at s w v (x .word) hv j l ∙ comm (at w j) (at v j)) ∙ twice (at v j) (at w j)));
+    }
 
 -- ---- the error that a function gives, taken off
 module _ (s : Shape) (w : List ℕ) (error : ℕ → ℕ) where

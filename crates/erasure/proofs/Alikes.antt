@@ -63,9 +63,9 @@ module _ (s : Shape) (slopes : List ℕ) (alike : Alike s slopes) (word places :
       decided = λ is.
           let (answers, cleared) = f .decided (sym (fill-status-alike scratch) ∙ is) in (
             ⊎-elim (λ (x : FilledIn s word places word′ r). inl (filled-alike x))
-            (λ (y : NoWord s word places word′ r ⊎ SeveralWords s word places word′ r).
-            inr (⊎-elim (λ (x : NoWord s word places word′ r). inl (none-alike x)) (λ (x : SeveralWords s word places word′ r). inr (several-alike x)) y))
-            answers,
+                (λ (y : NoWord s word places word′ r ⊎ SeveralWords s word places word′ r).
+                inr (⊎-elim (λ (x : NoWord s word places word′ r). inl (none-alike x)) (λ (x : SeveralWords s word places word′ r). inr (several-alike x)) y))
+                answers,
             cleared,
           );
     }

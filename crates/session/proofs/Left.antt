@@ -1,5 +1,5 @@
--- The word that an arrival leaves: as it came after a refusal, the codeword with the page after taken and again.
-use mathlib.Core.Path.{_≡_, refl, ap, _∙_}
+-- What an arrival that opens as a page brought, and the word that an arrival leaves.
+use mathlib.Core.Path.{_≡_, refl, sym, ap, _∙_}
 use mathlib.Core.Bool.{Bool, true, false, cond, _&&_}
 use mathlib.Core.List.{List}
 use mathlib.Core.Logic.{_⊎_, inl, inr}
@@ -7,6 +7,8 @@ use Prim.Native.Nat.{ℕ, _-_}
 use native.Mathlib.Omega.{arith}
 use lib.Dec.{eqb}
 use lib.ListN.{length, getD}
+use borrow.Author.Tests.{eqb-true}
+use Rattle.parity.proofs.Tests.{and-right}
 use Rattle.gtb.specs.declared.Shape.{Shape}
 use Rattle.gtb.specs.declared.Refusal.{Refusal}
 use Rattle.gtb.specs.declared.Status.{Status}
@@ -20,6 +22,7 @@ use Rattle.correction.specs.declared.Decoded.the-variants as decoded
 use Rattle.page.specs.declared.PageRead.{PageRead}
 use Rattle.page.specs.declared.PageRead.the-variants as page
 use Rattle.page.specs.Page.{pageOf, marksOf}
+use Rattle.page.proofs.Pages.{read-write}
 use Rattle.session.specs.declared.Session.{Session}
 use Rattle.session.specs.declared.Outcome.{Outcome}
 use Rattle.session.specs.declared.Outcome.the-variants.{Taken, Again, Refused}
@@ -28,10 +31,20 @@ use Rattle.session.specs.Session.{past, overflows}
 use Rattle.session.specs.Arrival.{isWay, wayOf, theWays, Opened, Page, Bad, openPage, openWord, opened, arrivalStatus, presented, outcomeOf, wordAfter, Arriving}
 use Rattle.session.specs.Recording.{Sheet, Arrival, Brings}
 use Rattle.session.specs.Left.{Restored, Leaves}
-use Rattle.session.proofs.Ways.{all-sound}
+use Rattle.session.proofs.Ways.{all-read, all-sound}
 use Rattle.session.proofs.Agreement.{way-read, read-near}
 
 -- ---- what a page says of the tests before it
+
+-- the tests were passed, and the word was read to this page
+record ReadPage (number k : ℕ) (marks : List ℕ) (s : Shape) (way : ℕ) (word scratch : List ℕ) : Type 0 where
+  pub known : isWay way ≡ true
+  pub lawful : Lawful s
+  pub room : length scratch ≡ scratchLength s
+  pub answer : wayOf way .answer s word ≡ decoded.Corrected k
+  pub count : ℕ
+  pub page : pageOf s (extractOf s (wayOf way .word s word)) ≡ page.Page number count
+  pub listed : marksOf s (extractOf s (wayOf way .word s word)) ≡ marks
 
 module _ {number k : ℕ} {marks : List ℕ} where
   unless-page : (t : Bool) (e : Refusal) {next : Opened} → unless t (Bad e) next ≡ Page number marks k → (t ≡ true) × (next ≡ Page number marks k)
@@ -43,29 +56,59 @@ module _ {number k : ℕ} {marks : List ℕ} where
   past-page (status.Refused e) h = let z : _≡_ {A = ℕ} 0 1 = cc in absurd (omega arith)
 
   symbols-page : (s : Shape) (symbols : List ℕ) (c : ℕ) (r : PageRead) → openPage s symbols c r ≡ Page number marks k
-      → (m : ℕ) × (r ≡ page.Page number m) × (c ≡ k)
-  symbols-page s symbols c (page.Page p m) h = (m, cc, cc)
+      → (c ≡ k) × (m : ℕ) × (r ≡ page.Page number m) × (marksOf s symbols ≡ marks)
+  symbols-page s symbols c (page.Page p m) h = (cc, m, cc, cc)
   symbols-page s symbols c (page.Refused e) h = let z : _≡_ {A = ℕ} 0 1 = cc in absurd (omega arith)
 
   word-page : (s : Shape) (v : List ℕ) (r : Decoded) → openWord s v r ≡ Page number marks k
-      → (r ≡ decoded.Corrected k) × (m : ℕ) × (pageOf s (extractOf s v) ≡ page.Page number m)
+      → (r ≡ decoded.Corrected k) × (m : ℕ) × (pageOf s (extractOf s v) ≡ page.Page number m) × (marksOf s (extractOf s v) ≡ marks)
   word-page s v (decoded.Corrected c) h =
-      let (m, is, same) = symbols-page s (extractOf s v) c (pageOf s (extractOf s v)) h in
-      (ap decoded.Corrected same, m, is)
+      let (same, m, is, listed) = symbols-page s (extractOf s v) c (pageOf s (extractOf s v)) h in
+      (ap decoded.Corrected same, m, is, listed)
   word-page s v (decoded.Refused e) h = let z : _≡_ {A = ℕ} 0 1 = cc in absurd (omega arith)
 
-  -- the word that was read is the codeword with that page
-  opened-restored : (s : Shape) (way : ℕ) (word scratch : List ℕ) → opened theWays s way word scratch ≡ Page number marks k
-      → Lawful s × Restored s word (wayOf way .word s word) number k
+  opened-page : (s : Shape) (way : ℕ) (word scratch : List ℕ) → opened theWays s way word scratch ≡ Page number marks k → ReadPage number k marks s way word scratch
   unfolding opened
-  opened-restored s way word scratch h =
+  opened-page s way word scratch h =
       let (known, h₁) = unless-page (isWay way) Refusal.Shape h in
       let (law, h₂) = unless-page (lawful s) (shapeRefusal s) h₁ in
       let (suits, h₃) = unless-page (wayOf way .suits s) Refusal.Directions h₂ in
       let (size, h₄) = unless-page (eqb (length word) (wordLength s) && eqb (length scratch) (scratchLength s)) Refusal.Length h₃ in
-      let (read, m, is) = word-page s (wayOf way .word s word) (wayOf way .answer s word) h₄ in
-      let near : Near s (s .n - 1) word (wayOf way .word s word) k = read-near s law (way-read way s word k read) refl in
-      (law, record { codeword = near .codeword; changed = near .changed; marks = m; page = is })
+      let (answer, m, is, listed) = word-page s (wayOf way .word s word) (wayOf way .answer s word) h₄ in
+      record {
+        known = known;
+        lawful = law;
+        room = eqb-true _ _ (and-right (eqb (length word) (wordLength s)) _ size);
+        answer = answer;
+        count = m;
+        page = is;
+        listed = listed;
+      }
+
+  -- the word that was read is the codeword with that page
+  read-restored : {s : Shape} {way : ℕ} {word scratch : List ℕ} → ReadPage number k marks s way word scratch → Restored s word (wayOf way .word s word) number k
+  read-restored {s} {way} {word} r =
+      let near : Near s (s .n - 1) word (wayOf way .word s word) k = read-near s (r .lawful) (way-read way s word k (r .answer)) refl in
+      record { codeword = near .codeword; changed = near .changed; marks = r .count; page = r .page }
+
+-- whatever opens as a page is brought: a stored word of that page with damage that the way allows
+pub opened-brought : (s : Shape) (a : Arrival) (p : Sheet) (k : ℕ) → opened theWays s (a .way) (a .word) (a .scratch) ≡ Page (p .number) (p .marks) k → Brings theWays s a p k
+opened-brought s a p k h =
+    let r = opened-page s (a .way) (a .word) (a .scratch) h in
+    let v : List ℕ = wayOf (a .way) .word s (a .word) in
+    let x = all-read (a .way) .reached s (a .word) k (r .answer) in
+    let (writes, symbols) = read-write s (extractOf s v) (p .number) (r .count) (r .page) in
+    record {
+      known = r .known;
+      stored = v;
+      encodes = record { codeword = x .codeword; information = sym (rw (r .listed) at symbols) };
+      error = x .damages .error;
+      damage = x .damages .word;
+      allowed = x .allowed;
+      changed = x .damages .changed;
+      word = x .damages .received;
+      scratch = r .room;
+    }
 
 -- ---- what an answer says of what was brought
 
@@ -98,17 +141,17 @@ after-accepted (Again number k) w v h = (refl, number, k, inr refl)
 after-accepted (Refused e) w v h = absurd (h e refl)
 
 module _ {σ : Session} {way : ℕ} {word scratch word′ scratch′ : List ℕ} {r : Arrived} (a : Arriving theWays σ way word scratch word′ scratch′ r) where
-  read : (number k : ℕ) → Accepts (r .outcome) number k → Lawful (σ .shape) × Restored (σ .shape) word (wayOf way .word (σ .shape) word) number k
+  read : (number k : ℕ) → Accepts (r .outcome) number k → (marks : List ℕ) × ReadPage number k marks (σ .shape) way word scratch
   unfolding presented
   read number k h =
       let (marks, brought) = accepted-page σ (presented theWays σ way word scratch) number k (rw (a .outcome) at h) in
-      opened-restored (σ .shape) way word scratch (past-page (arrivalStatus theWays σ way) brought)
+      (marks, opened-page (σ .shape) way word scratch (past-page (arrivalStatus theWays σ way) brought))
 
   pub word-left : Leaves (σ .shape) word word′ (r .outcome)
   word-left = record {
     refused = λ e is. rw is at (a .wordLeft);
-    taken = λ number k is. rw (rw is at (a .wordLeft)) (read number k (inl is) .1);
-    again = λ number k is. rw (rw is at (a .wordLeft)) (read number k (inr is) .1);
+    taken = λ number k is. rw (rw is at (a .wordLeft)) (read-restored (read number k (inl is) .1));
+    again = λ number k is. rw (rw is at (a .wordLeft)) (read-restored (read number k (inr is) .1));
   }
 
 -- where the arrival brings a stored word, and is not refused, that one stands there
@@ -117,5 +160,5 @@ pub stored-left : {σ : Session} (a : Arrival) (p : Sheet) (k : ℕ) (b : Brings
 stored-left {σ} a p k b {r = r} h accepted =
     let s = σ .shape in
     let (stands, number, c, is) = after-accepted (r .outcome) (a .word) (wayOf (a .way) .word s (a .word)) accepted in
-    let (answer, word, suits) = all-sound s (read h number c is .0) .sound (a .way) (b .known) .right (b .stored) (b .error) (b .encodes .codeword) (b .damage) (b .allowed) in
+    let (answer, word, suits) = all-sound s (read h number c is .1 .lawful) .sound (a .way) (b .known) .right (b .stored) (b .error) (b .encodes .codeword) (b .damage) (b .allowed) in
     h .wordLeft ∙ stands ∙ ap (wayOf (a .way) .word s) (b .word) ∙ word

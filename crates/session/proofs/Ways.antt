@@ -11,7 +11,7 @@ use Rattle.gtb.specs.declared.Shape.{Shape}
 use Rattle.gtb.specs.Shape.{Lawful}
 use Rattle.distance.specs.Distance.{Near}
 use Rattle.correction.specs.declared.Decoded.{Decoded}
-use Rattle.correction.proofs.Near.{damaged-near}
+use Rattle.correction.proofs.Near.{damaged-near, near-damages}
 use Rattle.decoder.specs.Damage.{Explains}
 use Rattle.decoder.specs.Decode.{Decoding}
 use Rattle.decoder.specs.Decode as decoder
@@ -45,17 +45,24 @@ clean-asked =
     asked decoder.clean Explains _ clean-meant clean-alike refl
     (λ s v e stored word allowed.
     (refl, record { codeword = stored; error = e; word = word; unmasked = allowed .0; changed = refl; few = allowed .1; received = refl }))
+    (λ s w v k fits x. record {
+      codeword = x .codeword;
+      damages = record { error = x .error; word = x .word; changed = x .changed; received = x .received };
+      allowed = (x .unmasked, rw (x .changed) (x .few));
+    })
     (λ s fits. (no-damage-clean s, rw (no-damage-weight s) zero-le))
 
 vote-asked : Asked vote
 vote-asked =
     asked majority.vote (λ s. Near s (s .n / 2)) _ vote-meant vote-alike refl (λ s v e stored word few. (refl, damaged-near s (s .n / 2) v e stored word few))
+    (λ s w v k fits x. let d = near-damages x in record { codeword = x .codeword; damages = d; allowed = rw (d .changed) (x .few) })
     (λ s fits. rw (no-damage-weight s) zero-le)
 
 two-asked : Asked two
 two-asked =
     asked double.two (λ s. Near s 2) _ two-meant two-alike refl
     (λ s v e stored word allowed. (le-leb 3 (s .n) (allowed .0), damaged-near s 2 v e stored word (allowed .1)))
+    (λ s w v k fits x. let d = near-damages x in record { codeword = x .codeword; damages = d; allowed = (leb-true 3 (s .n) fits, rw (d .changed) (x .few)) })
     (λ s fits. (leb-true 3 (s .n) fits, rw (no-damage-weight s) zero-le))
 
 pub all-read : (way : ℕ) → Asked (wayOf way)
