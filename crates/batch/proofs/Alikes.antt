@@ -6,19 +6,18 @@ use Prim.Native.Nat.{ℕ, zero, suc, _+_, _*_, _/_}
 use lib.Dec.{eqb}
 use lib.ListN.{length}
 use borrow.Author.Tests.{ne-eqb}
-use Rattle.parity.specs.Count.{any}
 use Rattle.parity.proofs.Tests.{and-no-right}
 use Rattle.gtb.specs.declared.Shape.{Shape}
 use Rattle.gtb.specs.declared.Refusal.{Refusal}
 use Rattle.gtb.specs.declared.Status.{Status}
 use Rattle.gtb.specs.declared.Status.the-variants.{Done, Refused}
 use Rattle.gtb.specs.Shape.{keptChecks, scratchLength}
-use Rattle.gtb.specs.Answer.{statusNumber, unless}
+use Rattle.gtb.specs.Answer.{unless}
 use Rattle.gtb.specs.Alike.{reslope, Alike}
 use Rattle.gtb.proofs.Kept.{old-scratch}
 use Rattle.session.specs.declared.Session.{Session}
 use Rattle.session.specs.Session.{past}
-use Rattle.session.specs.Arrival.{wayOf, theWays, arrivalStatus, wordAfter}
+use Rattle.session.specs.Arrival.{theWays, arrivalStatus, wordAfter}
 use Rattle.session.specs.Recording.{Arrival}
 use Rattle.session.specs.Claim.{answerAt}
 use Rattle.session.proofs.Ways.{all-read}
@@ -57,7 +56,6 @@ module _ (σ : Session) (slopes : List ℕ) (alike : Alike (σ .shape) slopes) (
       → Batching (resloped σ slopes) k words scratch outcomes words′ scratch′ outcomes′ (record { session = resloped (r .session) slopes; status = r .status })
   batch-alike {outcomes} b = record {
     status = b .status ∙ sym (batch-status-alike outcomes);
-    number = b .number ∙ ap statusNumber (sym (batch-status-alike outcomes));
     refused = λ e is. let (same, left, lent, list) = b .refused e is in (ap (λ (τ : Session). resloped τ slopes) same, left, lent, list);
     done = λ is. arrivals-alike (b .done is);
   }

@@ -12,7 +12,6 @@ use Rattle.gtb.specs.declared.Refusal.{Refusal}
 use Rattle.gtb.specs.declared.Status.{Status}
 use Rattle.gtb.specs.declared.Status.the-variants as status
 use Rattle.gtb.specs.Shape.{lawful, wordLength, scratchLength}
-use Rattle.gtb.specs.Answer.{statusNumber}
 use Rattle.gtb.proofs.Answers.{never-done, never-refused, unless-done}
 use Rattle.session.specs.declared.Session.{Session}
 use Rattle.session.specs.declared.Outcome.{Outcome}
@@ -58,7 +57,6 @@ module _ (σ : Session) (k : ℕ) (words scratch outcomes : List ℕ) where
       → Batching σ k words scratch outcomes words scratch outcomes r
   batching-refused e h same is = record {
     status = is ∙ sym h;
-    number = ap statusNumber (is ∙ sym h);
     refused = λ e′ h′. (same, refl, refl, refl);
     done = λ h′. absurd (never-done e (sym is ∙ h′));
   }
@@ -67,7 +65,6 @@ module _ (σ : Session) (k : ℕ) (words scratch outcomes : List ℕ) where
       → Arrivals σ k words scratch words′ scratch′ outcomes′ (r .session) → Batching σ k words scratch outcomes words′ scratch′ outcomes′ r
   batching-done h is arrivals = record {
     status = is ∙ sym h;
-    number = ap statusNumber (is ∙ sym h);
     refused = λ e h′. absurd (never-refused e (sym is ∙ h′));
     done = λ h′. arrivals;
   }

@@ -11,7 +11,7 @@ use Rattle.gtb.specs.declared.Refusal.{Refusal}
 use Rattle.gtb.specs.declared.Status.{Status}
 use Rattle.gtb.specs.declared.Status.the-variants.{Done, Refused}
 use Rattle.gtb.specs.Shape.{wordLength, scratchLength}
-use Rattle.gtb.specs.Answer.{statusNumber, unless}
+use Rattle.gtb.specs.Answer.{unless}
 use Rattle.session.specs.declared.Session.{Session}
 use Rattle.session.specs.declared.Outcome.{Outcome}
 use Rattle.session.specs.Session.{past}
@@ -76,7 +76,6 @@ pub record Arrivals (σ : Session) (k : ℕ) (words scratch words′ scratch′ 
 -- the call
 pub record Batching (σ : Session) (k : ℕ) (words scratch outcomes words′ scratch′ outcomes′ : List ℕ) (r : Delivered) : Type 0 where
   pub status : r .status ≡ batchStatus σ k words scratch outcomes
-  pub number : statusNumber (r .status) ≡ statusNumber (batchStatus σ k words scratch outcomes)
   -- turned down: nothing has changed
   pub refused : (e : Refusal) → r .status ≡ Refused e
       → (r .session ≡ σ) × (words′ ≡ words) × (scratch′ ≡ scratch) × (outcomes′ ≡ outcomes)

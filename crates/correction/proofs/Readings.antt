@@ -188,7 +188,6 @@ module _ {reader : Reader} {Means : Meaning} (m : Meant reader Means) (s : Shape
   pub meets : (w : List ℕ) → Reads reader Means s w (decodedWord w (restoredBy reader s w) (readOf reader s w)) (readOf reader s w)
   meets w = record {
     answer = refl;
-    number = refl;
     word = refl;
     accepted = λ k h. rw h (read-means w k h);
     none = λ h v k x. let (law, fits) = own-refused w h in corrected-not (reader .refusal) k (sym h ∙ means-read law fits w v k x .0);

@@ -14,7 +14,7 @@ use Rattle.gtb.specs.Answer.{unless}
 use Rattle.correction.specs.declared.Decoded.{Decoded}
 use Rattle.correction.specs.declared.Decoded.the-variants.{Corrected, Refused}
 use Rattle.correction.specs.Error.{mended}
-use Rattle.correction.specs.Answer.{decodedNumber, decodedWord}
+use Rattle.correction.specs.Answer.{decodedWord}
 
 -- which positions it changes and by what, from the symbols of a word; how many it may change; its answer where that leaves no codeword;
 -- and test 16: the shapes that it can be used with
@@ -53,7 +53,6 @@ Meaning = Shape → List ℕ → List ℕ → ℕ → Type 0
 -- reading: the answer and the word by equation, and what they mean; the reader's own refusal means that there is no such codeword
 pub record Reads (reader : Reader) (Means : Meaning) (s : Shape) (w w′ : List ℕ) (r : Decoded) : Type 0 where
   pub answer : r ≡ readOf reader s w
-  pub number : decodedNumber r ≡ decodedNumber (readOf reader s w)
   pub word : w′ ≡ decodedWord w (restoredBy reader s w) r
   pub accepted : (k : ℕ) → r ≡ Corrected k → Means s w w′ k
   pub none : r ≡ Refused (reader .refusal) → (v : List ℕ) (k : ℕ) → Means s w v k → ⊥

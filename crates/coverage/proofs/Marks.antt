@@ -13,7 +13,7 @@ use Rattle.parity.proofs.Writes.{begins-none, begins-more, begins-all}
 use Rattle.gtb.specs.declared.Refusal.{Refusal}
 use Rattle.session.specs.declared.Session.{Session}
 use Rattle.coverage.specs.declared.Covered.the-variants.{Functions, Refused}
-use Rattle.coverage.specs.Coverage.{isCalled, coverByte, coverBytes, coverCount, coverOf, coveredNumber, Covering}
+use Rattle.coverage.specs.Coverage.{isCalled, coverByte, coverBytes, coverCount, coverOf, Covering}
 use Rattle.coverage.specs.Steps.{Marking}
 
 -- no function yet
@@ -55,11 +55,11 @@ cover-small calls = count-bound 256 (isCalled calls)
 
 -- ---- what the viewer answers and leaves
 pub refusing : (σ : Session) (bytes : List ℕ) {e : Refusal} → Refused e ≡ coverOf σ bytes → Covering σ bytes bytes (Refused e)
-refusing σ bytes h = record { answer = h; number = ap coveredNumber h; left = refl }
+refusing σ bytes h = record { answer = h; left = refl }
 
 pub covering : (σ : Session) (bytes : List ℕ) {bytes′ : List ℕ} {covered : ℕ} → coverOf σ bytes ≡ Functions (coverCount (σ .calls))
     → Marking (σ .calls) 256 bytes′ covered → Covering σ bytes bytes′ (Functions covered)
 covering σ bytes {bytes′} {covered} h m =
     let all = marking-all m in
     let is : Functions covered ≡ coverOf σ bytes = ap Functions (all .1) ∙ sym h in
-    record { answer = is; number = ap coveredNumber is; left = all .0 }
+    record { answer = is; left = all .0 }

@@ -51,7 +51,6 @@ bytesAfter σ bytes (Refused e) = bytes
 -- what the viewer answers and leaves
 pub record Covering (σ : Session) (bytes bytes′ : List ℕ) (r : Covered) : Type 0 where
   pub answer : r ≡ coverOf σ bytes
-  pub number : coveredNumber r ≡ coveredNumber (coverOf σ bytes)
   pub left : bytes′ ≡ bytesAfter σ bytes r
 
 -- ---- over a recording

@@ -20,7 +20,7 @@ use Rattle.gtb.specs.declared.Status.{Status}
 use Rattle.gtb.specs.declared.Status.the-variants.{Done, Refused}
 use Rattle.gtb.specs.Shape.{lawful, shapeRefusal, Lawful, wordLength}
 use Rattle.gtb.specs.Square.{lineOf, at, narrow, Codeword}
-use Rattle.gtb.specs.Answer.{statusNumber, unless}
+use Rattle.gtb.specs.Answer.{unless}
 use Rattle.gtb.specs.Lent.{wordStatus}
 use Rattle.gtb.proofs.Bounds.{bounds}
 use Rattle.gtb.proofs.Lines.{line-lt}
@@ -111,7 +111,7 @@ silent-settles s law w v k x t j lt lj z =
 -- ---- the answers of `looked`, one for each way out
 module _ {s : Shape} {w looked : List ℕ} where
   looking : {looked′ : List ℕ} {r : Status} → r ≡ lookingOf s w looked → looked′ ≡ lookedLeft s w looked r → Looking s w looked looked′ r
-  looking h left = record { answer = h; number = ap statusNumber h; left = left }
+  looking h left = record { answer = h; left = left }
 
   pub looking-shape : {e : Refusal} → lawful s ≡ false → e ≡ shapeRefusal s → Looking s w looked looked (Refused e)
   unfolding lookingOf

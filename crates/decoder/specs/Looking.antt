@@ -14,7 +14,7 @@ use Rattle.gtb.specs.declared.Status.{Status}
 use Rattle.gtb.specs.declared.Status.the-variants.{Done, Refused}
 use Rattle.gtb.specs.Shape.{lawful, shapeRefusal, wordLength}
 use Rattle.gtb.specs.Square.{at, narrow}
-use Rattle.gtb.specs.Answer.{statusNumber, unless}
+use Rattle.gtb.specs.Answer.{unless}
 use Rattle.correction.specs.Error.{onCheck}
 use Rattle.decoder.specs.Decode.{located}
 
@@ -44,5 +44,4 @@ lookedLeft s w looked (Refused e) = looked
 
 pub record Looking (s : Shape) (w looked looked′ : List ℕ) (r : Status) : Type 0 where
   pub answer : r ≡ lookingOf s w looked
-  pub number : statusNumber r ≡ statusNumber (lookingOf s w looked)
   pub left : looked′ ≡ lookedLeft s w looked r

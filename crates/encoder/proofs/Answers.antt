@@ -1,5 +1,5 @@
 -- What an entry answers, from its tests, and what then stands in the lent slices.
-use mathlib.Core.Path.{_≡_, refl, sym, ap, _∙_}
+use mathlib.Core.Path.{_≡_, refl, sym, _∙_}
 use mathlib.Core.Bool.{Bool, true, false, _&&_}
 use mathlib.Core.List.{List}
 use Prim.Native.Nat.{ℕ, _+_, _*_, _/_}
@@ -14,7 +14,7 @@ use Rattle.gtb.specs.declared.Status.the-variants.{Done, Refused}
 use Rattle.gtb.specs.Shape.{lawful, shapeRefusal, Lawful, wordLength, infoLength, scratchLength}
 use Rattle.gtb.specs.Square.{narrow}
 use Rattle.gtb.specs.Positions.{extractOf, Encodes}
-use Rattle.gtb.specs.Answer.{statusNumber, scratchAfter}
+use Rattle.gtb.specs.Answer.{scratchAfter}
 use Rattle.gtb.proofs.Kept.{old-scratch}
 use Rattle.gtb.proofs.Answers.{same-refusal, never-done, never-refused, unless-done}
 use Rattle.encoder.specs.Contract.{statusOf, Encoding, Extraction}
@@ -81,7 +81,6 @@ pub encoding-refused : (s : Shape) (symbols scratch word scratch′ : List ℕ) 
     → Encoding s symbols scratch word scratch′ word (Refused e)
 encoding-refused s symbols scratch word scratch′ r e t is = record {
   answer = sym is ∙ t .answer;
-  number = ap statusNumber (sym is ∙ t .answer);
   refused = λ e′ h. (refl, t .refused e′ (is ∙ h));
   done = λ h. absurd (never-done e h);
 }
@@ -90,7 +89,6 @@ pub encoding-done : (s : Shape) (symbols scratch word scratch′ word′ : List 
     → Encoding s symbols scratch word scratch′ word′ Done
 encoding-done s symbols scratch word scratch′ word′ r t is out = record {
   answer = sym is ∙ t .answer;
-  number = ap statusNumber (sym is ∙ t .answer);
   refused = λ e h. absurd (never-refused e h);
   done = λ h. (out, t .done is);
 }
@@ -99,7 +97,6 @@ pub extraction-refused : (s : Shape) (word scratch symbols scratch′ : List ℕ
     → Extraction s word scratch symbols scratch′ symbols (Refused e)
 extraction-refused s word scratch symbols scratch′ r e t is = record {
   answer = sym is ∙ t .answer;
-  number = ap statusNumber (sym is ∙ t .answer);
   refused = λ e′ h. (refl, t .refused e′ (is ∙ h));
   done = λ h. absurd (never-done e h);
 }
@@ -108,7 +105,6 @@ pub extraction-done : (s : Shape) (word scratch symbols scratch′ symbols′ : 
     → Extraction s word scratch symbols scratch′ symbols′ Done
 extraction-done s word scratch symbols scratch′ symbols′ r t is out = record {
   answer = sym is ∙ t .answer;
-  number = ap statusNumber (sym is ∙ t .answer);
   refused = λ e h. absurd (never-refused e h);
   done = λ h. (out, t .done is);
 }

@@ -7,8 +7,7 @@ use session::Session;
 ghost use mathlib.Core.Path.{_≡_};
 ghost use Prim.Native.Nat.{_*_};
 ghost use lib.ListN.{length, getD};
-ghost use Rattle.gtb.specs.Answer.{Answered};
-ghost use Rattle.energy.specs.Energy.{millis, roundedUp, due, billOf, billedNumber};
+ghost use Rattle.energy.specs.Energy.{millis, roundedUp, due, billOf};
 
 // The answer of a bill.
 pub enum Billed {
@@ -18,7 +17,7 @@ pub enum Billed {
 
 // Tests 1, 18, 11, 2, then 19. A price is in thousandths of a picojoule a call; that of function 0 has no bearing.
 pub fn bill(session: Session, prices: &[u32]) -> Billed
-    ensures { λ r. ⌜ Answered billedNumber (billOf session (now (prices .entry))) r ⌝ }
+    ensures { λ r. ⌜ r ≡ billOf session (now (prices .entry)) ⌝ }
 {
     if let Status::Refused(e) = session.status() {
         return Billed::Refused(e);

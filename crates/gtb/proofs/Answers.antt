@@ -14,7 +14,7 @@ use Rattle.gtb.specs.declared.Refusal.{Refusal}
 use Rattle.gtb.specs.declared.Status.{Status}
 use Rattle.gtb.specs.declared.Status.the-variants.{Done, Refused}
 use Rattle.gtb.specs.Shape.{regular, lawful, shapeRefusal}
-use Rattle.gtb.specs.Answer.{refusalNumber, Answered, unless, isEarly, scratchAfter}
+use Rattle.gtb.specs.Answer.{refusalNumber, unless, isEarly, scratchAfter}
 
 -- a refusal names one number only, and is not Done
 pub same-refusal : (e e′ : Refusal) → Refused e ≡ Refused e′ → e ≡ e′
@@ -25,10 +25,6 @@ never-done e h = let z : _≡_ {A = ℕ} 0 1 = cc in omega arith
 
 pub never-refused : (e : Refusal) → Done ≡ Refused e → ⊥
 never-refused e h = let z : _≡_ {A = ℕ} 0 1 = cc in omega arith
-
--- the number follows
-pub answered : {A B : Type 0} (form : A → B) {expected r : A} → r ≡ expected → Answered form expected r
-answered form h = record { answer = h; number = ap form h }
 
 -- an answer that is not the refusal: the test was passed
 pub unless-passed : {A : Type 0} (t : Bool) (refusal next : A) {r : A} → (refusal ≡ r → ⊥) → unless t refusal next ≡ r → (t ≡ true) × (next ≡ r)

@@ -1,7 +1,6 @@
 -- The numbers of the refusals and of the answers that carry no value (RULES 6).
 use mathlib.Core.Bool.{Bool, true, false, cond}
 use mathlib.Core.List.{List}
-use mathlib.Core.Path.{_≡_}
 use Prim.Native.Nat.{ℕ, _+_, _^_}
 use lib.ListN.{length, replicate}
 use Rattle.gtb.specs.declared.Refusal.{Refusal}
@@ -33,11 +32,6 @@ refusalNumber Refusal.Bill = 19
 abbrev pub statusNumber : Status → ℕ
 statusNumber Done = 0
 statusNumber (Refused e) = 2 ^ 31 + refusalNumber e
-
--- an answer by equation, and as the rules' number or values
-pub record Answered {A B : Type 0} (form : A → B) (expected r : A) : Type 0 where
-  pub answer : r ≡ expected
-  pub number : form r ≡ form expected
 
 -- the test decides: go on, or give this answer
 abbrev pub unless : {A : Type 0} → Bool → A → A → A

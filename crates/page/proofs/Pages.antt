@@ -19,7 +19,7 @@ use Rattle.gtb.proofs.Sizes.{sizes}
 use Rattle.page.specs.declared.PageRead.{PageRead}
 use Rattle.page.specs.declared.PageRead.the-variants.{Page, Refused}
 use Rattle.page.specs.Page.{functions, zeros, most, pageOf, marksIn, marksOf, writeStatus, pageSymbols, symbolsAfter, readNumber, Writing}
-use Rattle.gtb.specs.Answer.{unless, statusNumber}
+use Rattle.gtb.specs.Answer.{unless}
 use Rattle.page.specs.Steps.{Sized}
 use Rattle.page.proofs.Entries.{narrow-tail, zeros-replicate, zeros-are, function-at}
 
@@ -218,7 +218,7 @@ read-write s symbols number c h =
 -- the writer's contract from its two equations
 pub writing : {s : Shape} {page : ℕ} {marks symbols symbols′ : List ℕ} {r : Status} → r ≡ writeStatus s page marks symbols
     → symbols′ ≡ symbolsAfter s page marks symbols r → Writing s page marks symbols symbols′ r
-writing answer written = record { answer = answer; number = ap statusNumber answer; written = written }
+writing answer written = record { answer = answer; written = written }
 
 -- ---- the answer's number fits 32 bits
 read-small : (s : Shape) (symbols : List ℕ) (r : PageRead) → pageOf s symbols ≡ r → readNumber r < 2 ^ 32

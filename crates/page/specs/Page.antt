@@ -13,7 +13,7 @@ use Rattle.gtb.specs.declared.Status.the-variants.{Done}
 use Rattle.gtb.specs.declared.Status.the-variants as status
 use Rattle.gtb.specs.Shape.{lawful, shapeRefusal, infoLength}
 use Rattle.gtb.specs.Square.{narrow}
-use Rattle.gtb.specs.Answer.{refusalNumber, statusNumber, unless}
+use Rattle.gtb.specs.Answer.{refusalNumber, unless}
 use Rattle.page.specs.declared.PageRead.{PageRead}
 use Rattle.page.specs.declared.PageRead.the-variants.{Page, Refused}
 
@@ -75,5 +75,4 @@ symbolsAfter s number marks symbols (status.Refused e) = symbols
 -- the page writer: its answer, and what then stands in the lent list
 pub record Writing (s : Shape) (page : ℕ) (marks symbols symbols′ : List ℕ) (r : Status) : Type 0 where
   pub answer : r ≡ writeStatus s page marks symbols
-  pub number : statusNumber r ≡ statusNumber (writeStatus s page marks symbols)
   pub written : symbols′ ≡ symbolsAfter s page marks symbols r

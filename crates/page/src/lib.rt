@@ -12,8 +12,7 @@ ghost use Prim.Native.Nat.{ℕ, _≤_};
 ghost use lib.ListN.{length};
 ghost use Rattle.gtb.specs.Shape.{Lawful, infoLength};
 ghost use Rattle.gtb.specs.Square.{narrow};
-ghost use Rattle.gtb.specs.Answer.{Answered};
-ghost use Rattle.page.specs.Page.{functions, zeros, readNumber, pageOf, marksOf, writeStatus, pageSymbols, most, Writing};
+ghost use Rattle.page.specs.Page.{functions, zeros, pageOf, marksOf, writeStatus, pageSymbols, most, Writing};
 ghost use Rattle.page.specs.Steps.{Sized};
 
 // The answer of the page reader: page number and number of marks, or a refusal.
@@ -62,7 +61,7 @@ fn read_narrow(shape: Shape, symbols: &[u32]) -> PageRead
 
 // Page number and number of marks.
 pub fn read_page(shape: Shape, symbols: &[u32]) -> PageRead
-    ensures { λ r. ⌜ Answered readNumber (pageOf shape (now (symbols .entry))) r ⌝ }
+    ensures { λ r. ⌜ r ≡ pageOf shape (now (symbols .entry)) ⌝ }
 {
     if !gtb::is_lawful(shape) {
         return PageRead::Refused(gtb::shape_refusal(shape));

@@ -20,7 +20,7 @@ use Rattle.session.proofs.Demand.{demand3-ways}
 use Rattle.session.proofs.Alikes.{resloped, session-status-alike}
 use Rattle.coverage.specs.declared.Covered.{Covered}
 use Rattle.coverage.specs.declared.Covered.the-variants.{Functions, Refused}
-use Rattle.coverage.specs.Coverage.{coverCount, coverOf, coveredNumber, bytesAfter, Covering, Viewed}
+use Rattle.coverage.specs.Coverage.{coverCount, coverOf, bytesAfter, Covering, Viewed}
 use Rattle.coverage.proofs.Recording.{claimed-cover}
 
 pub fitting-cover : {s : Shape} {pages : List Sheet} {begin : Fresh} {arrivals : List Arrival} {answers : List Outcome} {end : Session} {bytes bytes′ : List ℕ} {r : Covered}
@@ -41,6 +41,5 @@ module _ (σ : Session) (slopes : List ℕ) (alike : Alike (σ .shape) slopes) w
   pub cover-alike : {bytes bytes′ : List ℕ} {r : Covered} → Covering σ bytes bytes′ r → Covering (resloped σ slopes) bytes bytes′ r
   cover-alike {bytes} {r = r} c = record {
     answer = c .answer ∙ sym (same-answer bytes);
-    number = c .number ∙ ap coveredNumber (sym (same-answer bytes));
     left = c .left ∙ same-bytes bytes r;
   }

@@ -25,7 +25,7 @@ use Rattle.session.specs.declared.Outcome.the-variants.{Taken, Again, Re
 use Rattle.session.specs.declared.Arrived.{Arrived}
 use Rattle.session.specs.declared.Counted.the-variants as counted
 use Rattle.session.specs.Session.{consistent, freshOf, freshStatus, sessionStatus, past, countedOf, recorded}
-use Rattle.session.specs.Arrival.{isWay, wayOf, theWays, Opened, Page, Bad, openPage, openWord, opened, arrivalStatus, presented, outcomeOf, outcomeValues, sessionBy, sessionAfter, wordAfter, Arriving}
+use Rattle.session.specs.Arrival.{isWay, wayOf, theWays, Opened, Page, Bad, openPage, openWord, opened, arrivalStatus, presented, outcomeOf, sessionBy, sessionAfter, wordAfter, Arriving}
 use Rattle.session.specs.Recording.{Sheet, Recording, Arrival, arrivalAt, Fits}
 use Rattle.session.specs.Claim.{Run, stop, step, SameSheets}
 use Rattle.session.proofs.Ways.{all-read, all-sound}
@@ -128,7 +128,6 @@ arriving-alike {σ} {way} {word} {scratch} {word′} {scratch′} {r} slopes ali
     a .outcome ∙ sym (outcome-alike σ slopes o) ∙ ap (outcomeOf (resloped σ slopes)) (sym same) in
     record {
       outcome = answer;
-      values = ap outcomeValues answer;
       session = ap (λ (τ : Session). resloped τ slopes) (a .session) ∙ session-alike σ slopes o ∙ ap (sessionAfter (resloped σ slopes)) (sym same);
       wordLeft = a .wordLeft ∙ ap (λ (v : List ℕ). wordAfter word v (r .outcome)) (sym (all-read way .sameWord (σ .shape) slopes alike word));
       scratchLeft = a .scratchLeft;

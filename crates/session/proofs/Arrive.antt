@@ -25,7 +25,7 @@ use Rattle.session.specs.declared.Session.{Session}
 use Rattle.session.specs.declared.Outcome.the-variants.{Taken, Again, Refused}
 use Rattle.session.specs.declared.Arrived.{Arrived}
 use Rattle.session.specs.Session.{consistent, Consistent, sessionStatus, past, overflows}
-use Rattle.session.specs.Arrival.{Ways, isWay, wayOf, theWays, Opened, Page, Bad, openPage, openWord, opened, arrivalStatus, presented, outcomeOf, sessionAfter, outcomeValues, outcomeScratch, Answering, Arriving, Stepping}
+use Rattle.session.specs.Arrival.{Ways, isWay, wayOf, theWays, Opened, Page, Bad, openPage, openWord, opened, arrivalStatus, presented, outcomeOf, sessionAfter, outcomeScratch, Answering, Arriving, Stepping}
 use Rattle.session.specs.Steps.{Admitted, openedBy, Deciding}
 use Rattle.session.proofs.Late.{late-zeros, page-zeros}
 use Rattle.session.proofs.Ways.{all-read}
@@ -142,7 +142,6 @@ pub arriving-bad : {ways : Ways} {σ : Session} {way : ℕ} {word scratch scratc
 unfolding outcomeOf sessionAfter
 arriving-bad o x h = record {
   outcome = h .1 ∙ rw o;
-  values = ap outcomeValues (h .1) ∙ rw o;
   session = h .0 ∙ rw o;
   wordLeft = rw (h .1);
   scratchLeft = rw (h .1) x;
@@ -208,7 +207,6 @@ module _ {σ : Session} {way : ℕ} (a : Admitted σ way) (word scratch : List �
           let answer = d .settled .outcome ∙ ap (outcomeOf σ) (sym settled-read) in
           record {
             outcome = answer;
-            values = ap outcomeValues answer;
             session = d .settled .session ∙ ap (sessionAfter σ) (sym settled-read);
             wordLeft = d .wordLeft;
             scratchLeft = cleared ∙ sym (ap (outcomeScratch scratch) answer ∙ word-cleared);

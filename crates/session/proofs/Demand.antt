@@ -38,7 +38,7 @@ run-exists ways σ (a ∷ rest) =
     let o : Opened = brought ways σ a in
     let r : Arrived = record { session = sessionAfter σ o; outcome = outcomeOf σ o } in
     let (answers, end, run) = run-exists ways (sessionAfter σ o) rest in
-    (r .outcome ∷ answers, end, step {r = r} (record { outcome = refl; values = refl; session = refl; wordLeft = refl; scratchLeft = refl }) run)
+    (r .outcome ∷ answers, end, step {r = r} (record { outcome = refl; session = refl; wordLeft = refl; scratchLeft = refl }) run)
 
 -- and no other
 pub run-unique : {ways : Ways} {σ : Session} {arrivals : List Arrival} {answers answers′ : List Outcome} {end end′ : Session}
@@ -185,7 +185,7 @@ made s = record { session = freshOf s; status = Done }
 
 pub made-begins : (s : Shape) → Lawful s → Beginning s (made s)
 unfolding freshStatus
-made-begins s legal = record { session = refl; status = rw legal refl; number = rw legal refl }
+made-begins s legal = record { session = refl; status = rw legal refl }
 
 begins-made : {s : Shape} {begin : Fresh} → Lawful s → Beginning s begin → begin ≡ made s
 unfolding freshStatus

@@ -7,7 +7,7 @@ use Rattle.session.specs.declared.Session.{Session}
 use Rattle.session.specs.declared.Outcome.{Outcome}
 use Rattle.session.specs.declared.Outcome.the-variants.{Taken, Again, Refused}
 use Rattle.session.specs.declared.Arrived.{Arrived}
-use Rattle.session.specs.Arrival.{Ways, Opened, opened, presented, outcomeOf, sessionAfter, outcomeValues, outcomeScratch, Arriving}
+use Rattle.session.specs.Arrival.{Ways, opened, presented, outcomeOf, sessionAfter, outcomeValues, outcomeScratch, Arriving}
 use Rattle.session.specs.Recording.{Arrival}
 use Rattle.session.specs.Claim.{Run, stop, step}
 
@@ -35,7 +35,6 @@ same-arrival ways σ way {word} {x} {y} size h =
     let same = presented-scratch ways σ way word x y size in
     record {
       outcome = h .outcome ∙ ap (outcomeOf σ) same;
-      values = h .values ∙ ap (λ (o : Opened). outcomeValues (outcomeOf σ o)) same;
       session = h .session ∙ ap (sessionAfter σ) same;
       wordLeft = h .wordLeft;
       scratchLeft = refl;

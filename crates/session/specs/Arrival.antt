@@ -163,7 +163,6 @@ outcomeScratch scratch (Refused e) = scratchAfter e scratch
 -- what an arrival that names way k and brings this answers and leaves
 pub record Answering (ways : Ways) (σ : Session) (k : ℕ) (o : Opened) (word scratch word′ scratch′ : List ℕ) (r : Arrived) : Type 0 where
   pub outcome : r .outcome ≡ outcomeOf σ o
-  pub values : outcomeValues (r .outcome) ≡ outcomeValues (outcomeOf σ o)
   pub session : r .session ≡ sessionAfter σ o
   pub wordLeft : word′ ≡ wordAfter word (ways .named k .word (σ .shape) word) (r .outcome)
   pub scratchLeft : scratch′ ≡ outcomeScratch scratch (r .outcome)

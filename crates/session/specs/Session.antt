@@ -13,7 +13,7 @@ use Rattle.gtb.specs.declared.Status.{Status}
 use Rattle.gtb.specs.declared.Status.the-variants.{Done}
 use Rattle.gtb.specs.declared.Status.the-variants as status
 use Rattle.gtb.specs.Shape.{lawful, shapeRefusal}
-use Rattle.gtb.specs.Answer.{refusalNumber, statusNumber, unless}
+use Rattle.gtb.specs.Answer.{refusalNumber, unless}
 use Rattle.session.specs.declared.Session.{Session}
 use Rattle.session.specs.declared.Fresh.{Fresh}
 use Rattle.session.specs.declared.Counted.{Counted}
@@ -50,7 +50,6 @@ freshStatus s = unless (lawful s) (status.Refused (shapeRefusal s)) Done
 pub record Beginning (s : Shape) (r : Fresh) : Type 0 where
   pub session : r .session ≡ freshOf s
   pub status : r .status ≡ freshStatus s
-  pub number : statusNumber (r .status) ≡ statusNumber (freshStatus s)
 
 -- a mark that is a call: 0 is the idle loop (N5)
 abbrev pub isCall : ℕ → Bool

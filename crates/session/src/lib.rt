@@ -13,8 +13,7 @@ use gtb::size::word_length;
 ghost use mathlib.Core.Path.{_≡_};
 ghost use Prim.Native.Nat.{_<_};
 ghost use lib.ListN.{length};
-ghost use Rattle.gtb.specs.Answer.{Answered};
-ghost use Rattle.session.specs.Session.{Consistent, sessionStatus, countedOf, countedNumber, Beginning};
+ghost use Rattle.session.specs.Session.{Consistent, sessionStatus, countedOf, Beginning};
 ghost use Rattle.session.specs.Arrival.{wayOf, theWays, Opened, arrivalStatus, Arriving, Stepping, isAccepted};
 ghost use Rattle.session.specs.Steps.{Adding, Counts, Functions, Settling, Admitted, Deciding};
 
@@ -122,7 +121,7 @@ impl Session {
 
     // How often a function was called: tests 1, 18, 11, then 7.
     pub fn count(self, function: u32) -> Counted
-        ensures { λ r. ⌜ Answered countedNumber (countedOf self function) r ⌝ }
+        ensures { λ r. ⌜ r ≡ countedOf self function ⌝ }
     {
         if let Status::Refused(e) = self.status() {
             return Counted::Refused(e);

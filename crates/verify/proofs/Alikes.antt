@@ -1,6 +1,6 @@
 -- A check of a proposal looks at the first n - 1 slopes alone; so do arrivals of proposals.
-use mathlib.Core.Path.{_≡_, sym, ap, ap₂, _∙_}
-use mathlib.Core.Bool.{Bool, not, cond, _&&_, _||_}
+use mathlib.Core.Path.{_≡_, ap, _∙_}
+use mathlib.Core.Bool.{not, cond, _&&_, _||_}
 use mathlib.Core.List.{List}
 use mathlib.Core.Logic.{_⊎_, inl, inr, ⊎-elim}
 use Prim.Native.Nat.{ℕ, _-_}
@@ -10,7 +10,7 @@ use Rattle.parity.proofs.Tests.{all-cong}
 use Rattle.gtb.specs.declared.Shape.{Shape}
 use Rattle.gtb.specs.declared.Refusal.{Refusal}
 use Rattle.gtb.specs.Shape.{wordLength}
-use Rattle.gtb.specs.Square.{lineOf, at, narrow, syndrome}
+use Rattle.gtb.specs.Square.{at, narrow, syndrome}
 use Rattle.gtb.specs.Answer.{unless}
 use Rattle.gtb.specs.Alike.{reslope, Alike}
 use Rattle.gtb.proofs.Alikes.{lawful-alike, refusal-alike, line-alike, syndrome-alike, silent-alike}

@@ -152,7 +152,6 @@ decodes-yes s w v k h e = explains-yes s (read-accepted clean s w k h .lawful) w
 pub check-meets : (s : Shape) (w v : List ℕ) → Checking s w v (verdictOf s w v)
 check-meets s w v = record {
   answer = refl;
-  number = refl;
   yes = λ h. let a = yes-explains s w v h in (a .changed, a .explains);
   no = λ h k x.
       let y = explains-yes s (passed s w v No no-plain h .law) w v k x in

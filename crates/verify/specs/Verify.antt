@@ -46,6 +46,5 @@ verdictNumber (Refused e) = 2 ^ 31 + refusalNumber e
 -- a proposal checked: the answer by equation, and what it means
 pub record Checking (s : Shape) (w v : List ℕ) (r : Verdict) : Type 0 where
   pub answer : r ≡ verdictOf s w v
-  pub number : verdictNumber r ≡ verdictNumber (verdictOf s w v)
   pub yes : r ≡ Yes → (k : ℕ) × Explains s w v k
   pub no : r ≡ No → (k : ℕ) → Explains s w v k → ⊥

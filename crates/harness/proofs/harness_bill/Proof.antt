@@ -14,7 +14,7 @@ returns-2 c =
     let start = c .before .before .before .before .before .before in
     c .billed2 .ensures
     ∙ ap billedNumber
-    (c .before .bill .ensures .answer ∙ ap (λ σ. billOf σ (start .args .prices .now)) (c .before .before .load .ensures)
+    (c .before .bill .ensures ∙ ap (λ σ. billOf σ (start .args .prices .now)) (c .before .before .load .ensures)
     ∙ sym (bill-past _ _ (c .before .before .before .if1 .left)))
 
 pub harness-bill-spec : {M : Type 1} → statement M

@@ -14,7 +14,7 @@ returns-2 c =
     let start = c .before .before .before .before .before in
     c .counted2 .ensures
     ∙ ap countedNumber
-    (c .before .count .ensures .answer ∙ ap (λ σ. countedOf σ (start .args .function)) (c .before .before .load .ensures)
+    (c .before .count .ensures ∙ ap (λ σ. countedOf σ (start .args .function)) (c .before .before .load .ensures)
     ∙ sym (count-past _ _ (c .before .before .before .if1 .left)))
 
 pub harness-count-spec : {M : Type 1} → statement M

@@ -12,12 +12,12 @@ returns : tie.Need-returns
 returns c = c .refused .ensures ∙ sym (page-wrong _ _ (c .before .if1 .taken))
 
 read-requires : tie.Need-read-requires
-read-requires c κs = rw (c .read-page .ensures .answer) (read-fits _ _)
+read-requires c κs = rw (c .read-page .ensures) (read-fits _ _)
 
 returns-2 : tie.Need-returns-2
 returns-2 c =
     let symbols = c .before .before .before .before .before .before .args .symbols .now in
-    c .read .ensures ∙ ap readNumber (c .before .read-page .ensures .answer)
+    c .read .ensures ∙ ap readNumber (c .before .read-page .ensures)
     ∙ ap (λ (s : Shape). readNumber (pageOf s symbols)) (c .before .before .load-shape .ensures) ∙ sym (page-right _ _ (c .before .before .before .if1 .left))
 
 pub harness-read-page-spec : {M : Type 1} → statement M

@@ -10,19 +10,19 @@ use Rattle.page.proofs.marks.Tie as tie
 part-result-end : tie.Need-part-result-end
 part-result-end c =
     let s = c .before .before .before .before .before in
-    let within = marks-within (s .args .shape) (s .args .symbols .now) _ _ (sym (c .before .before .before .read-page .ensures .answer) ∙ c .before .count .given .1) in
+    let within = marks-within (s .args .shape) (s .args .symbols .now) _ _ (sym (c .before .before .before .read-page .ensures) ∙ c .before .count .given .1) in
     omega arith
 
 returns : tie.Need-returns
 returns c =
     let s = c .before .before .before .before .before .before in
     marks-part (c .before .before .count .given .0 .1 .0) (s .args .symbols .now)
-    ∙ sym (marks-of (s .args .shape) (s .args .symbols .now) _ _ (sym (c .before .before .before .before .read-page .ensures .answer) ∙ c .before .before .count .given .1))
+    ∙ sym (marks-of (s .args .shape) (s .args .symbols .now) _ _ (sym (c .before .before .before .before .read-page .ensures) ∙ c .before .before .count .given .1))
 
 returns-2 : tie.Need-returns-2
 returns-2 c =
     let s = c .before .before .before .before .before in
-    sym (no-marks (s .args .shape) (s .args .symbols .now) _ (sym (c .before .before .before .read-page .ensures .answer) ∙ c .before .enum-told .given .1))
+    sym (no-marks (s .args .shape) (s .args .symbols .now) _ (sym (c .before .before .before .read-page .ensures) ∙ c .before .enum-told .given .1))
 
 pub marks-spec : {M : Type 1} → statement M
 marks-spec = tie.close (tie.spec (λ c κs. search needs) (λ c. search needs) (λ c. search needs) (λ c. search needs) (λ c. search needs) (λ c. search needs) part-result-end (λ c. search needs) (λ c. search needs) returns returns-2)

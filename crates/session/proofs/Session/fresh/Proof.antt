@@ -3,7 +3,6 @@ use mathlib.Core.Path.{_≡_, refl, sym, ap, _∙_}
 use borrow.Author.Needs.{needs}
 use Rattle.gtb.specs.declared.Shape.{Shape}
 use Rattle.gtb.specs.declared.Status.the-variants.{Refused}
-use Rattle.gtb.specs.Answer.{statusNumber}
 use Rattle.session.specs.declared.Fresh.{Fresh}
 use Rattle.session.specs.Session.{freshOf, freshStatus, Beginning}
 use Rattle.session.proofs.Session.fresh.Statement.{statement}
@@ -11,7 +10,7 @@ use Rattle.session.proofs.Session.fresh.Tie as tie
 
 -- the contract from its two equations
 beginning : {s : Shape} {r : Fresh} → r .session ≡ freshOf s → r .status ≡ freshStatus s → Beginning s r
-beginning session status = record { session = session; status = status; number = ap statusNumber status }
+beginning session status = record { session = session; status = status }
 
 returns : tie.Need-returns
 unfolding freshOf freshStatus

@@ -5,10 +5,10 @@ use Rattle.session.proofs.open.find_page.Statement.{statement}
 use Rattle.session.proofs.open.find_page.Tie as tie
 
 returns : tie.Need-returns
-returns c = tells-refused (page-found _ _ _ (c .before .before .before .before .before .before .before .gather .ensures) (c .before .before .before .read-page .ensures .answer) (c .before .e .given .1))
+returns c = tells-refused (page-found _ _ _ (c .before .before .before .before .before .before .before .gather .ensures) (c .before .before .before .read-page .ensures) (c .before .e .given .1))
 
 returns-2 : tie.Need-returns-2
-returns-2 c = tells-page _ _ _ (c .before .before .before .before .before .before .before .gather .ensures) (c .before .before .before .read-page .ensures .answer) (c .before .number .given .1)
+returns-2 c = tells-page _ _ _ (c .before .before .before .before .before .before .before .gather .ensures) (c .before .before .before .read-page .ensures) (c .before .number .given .1)
 
 pub find-page-spec : {M : Type 1} → statement M
 find-page-spec = tie.close (tie.spec (λ c κs. search needs) (λ c κs. search needs) (λ c. search needs) (λ c. search needs) (λ c. search needs) returns (λ c. search needs) returns-2)
