@@ -7,3 +7,4 @@ pub mod Print
 pub mod Ranks
 pub mod Printed
 pub mod Captured
+pub mod Recordings

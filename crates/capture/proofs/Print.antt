@@ -2,10 +2,10 @@
 use mathlib.Core.Path.{_≡_, refl, sym, ap, _∙_, subst}
 use mathlib.Core.Bool.{Bool, true, not, _&&_}
 use mathlib.Core.List.{List, [], _∷_, _++_, append-assoc, append-nil}
-use Prim.Native.Nat.{ℕ, zero, suc, _^_, _<_, suc-le-suc}
+use Prim.Native.Nat.{ℕ, zero, suc, _*_, _^_, _<_, _≤_, suc-le-suc}
 use native.Mathlib.Nat.{not-suc-le-zero, le-of-suc-le-suc, zero-lt-suc}
 use native.Mathlib.Omega.{arith}
-use borrow.Author.Tests.{lt-ltb, eqb-false, not-true}
+use borrow.Author.Tests.{eqb-false, not-true}
 use lib.Dec.{eqb}
 use lib.ListN.{length, getD, length-append, length-replicate}
 use Rattle.parity.proofs.Tests.{and-left, and-right}
@@ -37,6 +37,7 @@ use Rattle.judge.specs.Judge.{lineContent, passed, broughtBy, arrived, judgedOf
 use Rattle.capture.specs.Feed.{after, feed}
 use Rattle.capture.specs.Print.{Unbroken, lineAt, linesText, captureText, joining, arrivalsIn, answerLines}
 use Rattle.judge.proofs.Figures.{word-consistent}
+use Rattle.judge.proofs.Judges.{short-content}
 use Rattle.capture.proofs.Feeds.{next, feed-none, feed-end, feed-run, after-after}
 
 -- ---- texts without a newline
@@ -68,6 +69,13 @@ plain-none (b ∷ t) h (suc i) l e = plain-none t (h .1) i (le-of-suc-le-suc l) 
 pub plain-unbroken : (l : List ℕ) → Plain l → Unbroken l
 plain-unbroken l h = record { none = plain-none l h }
 
+-- values spelled
+pub spell-plain : (xs : List ℕ) → Plain (spell xs)
+unfolding spell
+spell-plain [] = tt
+spell-plain (x ∷ []) = decimal-plain x
+spell-plain (x ∷ (y ∷ ys)) = plain-append (decimal x) (space ∷ spell (y ∷ ys)) (decimal-plain x) (space-plain, spell-plain (y ∷ ys))
+
 -- a text that is written out, by one computed test
 abbrev pub plainTest : List ℕ → Bool
 plainTest [] = true
@@ -82,6 +90,24 @@ test-plain (b ∷ l) h = (
 
 pub test-unbroken : (l : List ℕ) → plainTest l ≡ true → Unbroken l
 test-unbroken l h = plain-unbroken l (test-plain l h)
+
+-- ---- the line of some values
+-- values below 2^32 take at most 11 bytes each
+spell-short : (xs : List ℕ) → ((i : ℕ) → i < length xs → getD xs i 0 < 2 ^ 32) → length (spell xs) ≤ 11 * length xs
+unfolding spell
+spell-short [] h = omega arith
+spell-short (x ∷ []) h = omega (arith, at-most-ten x (h 0 (omega arith)))
+spell-short (x ∷ (y ∷ ys)) h =
+    rw length-append (omega (arith, at-most-ten x (h 0 (omega arith)), spell-short (y ∷ ys) (λ i l. h (suc i) (suc-le-suc l))))
+
+-- 961 of them, the most that a word has, fit a line
+pub word-short : (xs : List ℕ) → length xs ≤ 961 → ((i : ℕ) → i < length xs → getD xs i 0 < 2 ^ 32) → length (spell xs) < 16384
+word-short xs few small = omega (arith, spell-short xs small)
+
+-- so their line says them
+pub word-content : (xs : List ℕ) → 0 < length xs → length xs ≤ 961 → ((i : ℕ) → i < length xs → getD xs i 0 < 2 ^ 32) → lineContent (spell xs) ≡ Spelled xs
+word-content xs some few small =
+    short-content (spell xs) (word-short xs few small) ∙ content-spelled (spell xs) xs (record { some = some; small = small; text = refl })
 
 -- ---- one line
 feed-first : (t : Tally) (line : List ℕ) (lines : List (List ℕ)) (cut : List ℕ) → Unbroken line
@@ -109,36 +135,20 @@ module _ (q n b : ℕ) (law : Lawful (standard q n b)) where
   abbrev values : List ℕ
   values = q ∷ n ∷ b ∷ []
 
-  shape-plain : Plain (spell values)
-  unfolding spell
-  shape-plain =
-      plain-append (decimal q) (space ∷ (decimal n ++ space ∷ decimal b)) (decimal-plain q)
-      (space-plain, plain-append (decimal n) (space ∷ decimal b) (decimal-plain n) (space-plain, decimal-plain b))
-
   small : (q < 2 ^ 32) × (n < 2 ^ 32) × (b < 2 ^ 32)
   small =
       let k = bounds (standard q n b) law in
       (omega (arith, k .q31), omega (arith, k .n8), omega (arith, k .b32))
 
-  shape-short : length (spell values) < 16384
-  unfolding spell
-  shape-short = simp length-append (omega (arith, at-most-ten q (small .0), at-most-ten n (small .1), at-most-ten b (small .2)))
-
-  each-small : (i : ℕ) → i < 3 → getD values i 0 < 2 ^ 32
+  pub each-small : (i : ℕ) → i < 3 → getD values i 0 < 2 ^ 32
   each-small zero l = small .0
   each-small (suc zero) l = small .1
   each-small (suc (suc zero)) l = small .2
   each-small (suc (suc (suc i))) l = absurd (omega arith)
 
-  shape-content : lineContent (spell values) ≡ Spelled values
-  unfolding lineContent
-  shape-content =
-      rw (lt-ltb (length (spell values)) 16384 shape-short)
-      (content-spelled (spell values) values (record { some = omega arith; small = each-small; text = refl }))
-
   shape-values : (σ : Session) → judgedOf (record { phase = ShapeValues; session = σ }) (spell values) ≡ passed WordNames (freshOf (standard q n b))
   unfolding judgedOf freshStatus
-  shape-values σ = rw (shape-content, law)
+  shape-values σ = rw (word-content values (omega arith) (omega arith) each-small, law)
 
   pub feed-shape : (lines : List (List ℕ)) (cut : List ℕ)
       → feed start [] (captureText q n b lines cut) ≡ feed (record { phase = Words; session = freshOf (standard q n b) }) [] (linesText lines ++ cut)
@@ -150,7 +160,7 @@ module _ (q n b : ℕ) (law : Lawful (standard q n b)) where
       feed-first start namesShape (spell values ∷ namesWord ∷ lines) cut (test-unbroken namesShape refl)
       ∙ ap (λ (j : Judged). next j one) shape-names
       ∙ next-passed ShapeValues (start .session) one
-      ∙ feed-first (record { phase = ShapeValues; session = start .session }) (spell values) (namesWord ∷ lines) cut (plain-unbroken (spell values) shape-plain)
+      ∙ feed-first (record { phase = ShapeValues; session = start .session }) (spell values) (namesWord ∷ lines) cut (plain-unbroken (spell values) (spell-plain values))
       ∙ ap (λ (j : Judged). next j two) (shape-values (start .session))
       ∙ next-passed WordNames (freshOf s) two
       ∙ feed-first (record { phase = WordNames; session = freshOf s }) namesWord lines cut (test-unbroken namesWord refl)

@@ -2,22 +2,23 @@
 use mathlib.Core.Path.{_≡_}
 use mathlib.Core.Bool.{Bool, true, false, cond}
 use mathlib.Core.List.{List, [], _∷_, _++_}
-use Prim.Native.Nat.{ℕ, _<_}
+use Prim.Native.Nat.{ℕ, _<_, _≤_}
 use lib.Dec.{eqb}
 use lib.ListN.{length, getD, replicate}
 use Rattle.parity.specs.Lists.{tabulate}
 use Rattle.gtb.specs.declared.Shape.{Shape}
 use Rattle.gtb.specs.declared.Refusal.{Refusal}
-use Rattle.gtb.specs.Shape.{scratchLength}
+use Rattle.gtb.specs.Shape.{scratchLength, standard}
 use Rattle.lines.specs.Text.{newline, namesShape, namesWord, namesOutcome, spell}
 use Rattle.lines.specs.Content.{Content, Spelled, Unreadable}
 use Rattle.session.specs.declared.Outcome.{Outcome}
 use Rattle.session.specs.declared.Outcome.the-variants.{Taken, Again, Refused}
 use Rattle.session.specs.Arrival.{theWays}
-use Rattle.session.specs.Recording.{Sheet, sheetAt, tally, Arrival, TurnedDown, Brings}
+use Rattle.session.specs.Recording.{Sheet, sheetAt, tally, Arrival, TurnedDown, Brings, Fits}
 use Rattle.session.specs.Claim.{answerAt}
 use Rattle.capture.specs.Output.{outcomeLine, refusedLine, callsText}
 use Rattle.judge.specs.Judge.{lineContent}
+use Rattle.capture.specs.Feed.{readLimit, outputOf}
 
 -- ---- a capture
 
@@ -91,6 +92,15 @@ pub record Prints (s : Shape) (pages : List Sheet) (lines : List (List ℕ)) (cu
       → j < i → LineBrings s pages lines j p c → answerAt answers i ≡ Again (sheetAt pages p .number) k
   -- the first table, then the second
   pub whole : text ≡ namesOutcome ++ answerLines answers ++ cutLine cut ++ ownTable pages
+
+-- a capture of a recording, of one line a page, that is read to its end and prints the recording's tally
+pub record Captured (q n b : ℕ) (pages : List Sheet) : Type 0 where
+  pub lines : List (List ℕ)
+  pub each : length lines ≡ length pages
+  pub unbroken : (i : ℕ) → i < length lines → Unbroken (lineAt lines i)
+  pub fits : Fits theWays (standard q n b) pages (arrivalsIn (standard q n b) lines)
+  pub read : length (captureText q n b lines []) ≤ readLimit
+  pub prints : Prints (standard q n b) pages lines [] (outputOf (captureText q n b lines []))
 
 -- the second table of an output: all from the line on that begins with the f of `function calls`; `first` says that a line begins
 unfoldable pub tableFrom : Bool → List ℕ → List ℕ
