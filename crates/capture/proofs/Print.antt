@@ -253,7 +253,7 @@ content-run : (σ : Session) → Consistent σ → (c : Content) {arrivals : Lis
 unfolding sessionAfter
 content-run σ right (Spelled xs) run =
     let r : Arrived = record { session = left σ (Spelled xs); outcome = replied σ (Spelled xs) } in
-    step {r = r} (step-arrives theWays σ 0 right (record { outcome = refl; values = refl; session = refl; wordLeft = refl; scratchLeft = refl })) run
+    step {r = r} (step-arrives theWays σ 0 right (record { outcome = refl; session = refl; wordLeft = refl; scratchLeft = refl })) run
 content-run σ right Unreadable run = run
 
 pub lines-run : (s : Shape) (lines : List (List ℕ)) (σ : Session) → σ .shape ≡ s → Consistent σ
