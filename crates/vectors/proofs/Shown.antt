@@ -9,7 +9,7 @@ use Rattle.parity.specs.Count.{bit, sum, count, any, all, firstValue}
 use Rattle.parity.specs.Lists.{tabulate}
 use Rattle.parity.proofs.Tests.{all-elim, agree}
 use Rattle.gtb.specs.declared.Shape.{Shape}
-use Rattle.gtb.specs.Shape.{standard, orders, isOrder, lawful, Lawful, slopeOf, wordLength, regular, sloped, fitsSlope}
+use Rattle.gtb.specs.Shape.{standard, orders, isOrder, lawful, Lawful, shapeRefusal, slopeOf, wordLength, regular, sloped, fitsSlope}
 use Rattle.gtb.specs.Square.{lineOf, at, narrow, syndrome, silentTest}
 use Rattle.gtb.specs.Positions.{infoPosition, extractOf, Encodes, isInformation}
 use Rattle.gtb.proofs.Positions.{information-positions}
@@ -43,7 +43,7 @@ unfolding any all isInformation
 p2 b law = places (standard 3 3 b) law refl (7 ∷ 8 ∷ []) refl
 
 pub bench : Bench
-unfolding silentTest mended damaged tabulate readOf lawful regular sloped fitsSlope isOrder orders narrow acceptedBy changesBy restoredBy errorAt firstValue alone located all any bit sum count syndrome xorSum when lineOf slopeOf _⊕_ extractOf infoPosition pageOf pageSymbols functions zeros
+unfolding shapeRefusal silentTest mended damaged tabulate readOf lawful regular sloped fitsSlope isOrder orders narrow acceptedBy changesBy restoredBy errorAt firstValue alone located all any bit sum count syndrome xorSum when lineOf slopeOf _⊕_ extractOf infoPosition pageOf pageSymbols functions zeros
 bench = record {
   p1 = p1;
   p2 = p2;
@@ -57,7 +57,7 @@ bench = record {
   p10 = refl;
   p10-past = refl;
   accepted = (refl, refl);
-  refused = (refl, refl, refl, refl, refl);
+  refused = ((refl, refl), (refl, refl), (refl, refl), (refl, refl), (refl, refl));
   mark = refl;
   mark-past = refl;
 }

@@ -9,7 +9,7 @@ use lib.ListN.{length, getD}
 use Rattle.parity.specs.Count.{any}
 use Rattle.gtb.specs.declared.Shape.{Shape}
 use Rattle.gtb.specs.declared.Refusal.{Refusal}
-use Rattle.gtb.specs.Shape.{standard, lawful, Lawful}
+use Rattle.gtb.specs.Shape.{standard, lawful, Lawful, shapeRefusal}
 use Rattle.gtb.specs.Positions.{Dependent, Encodes}
 use Rattle.correction.specs.declared.Decoded.the-variants.{Corrected}
 use Rattle.correction.specs.declared.Decoded.the-variants as decoded
@@ -32,6 +32,10 @@ stored = 3 ∷ 6 ∷ 5 ∷ 5 ∷ 3 ∷ 6 ∷ 6 ∷ 5 ∷ 3 ∷ []
 abbrev pub received : ℕ → List ℕ
 received x = damaged stored (0 ∷ 0 ∷ 0 ∷ 7 ∷ x ∷ 0 ∷ 0 ∷ 0 ∷ 0 ∷ [])
 
+-- the shape is refused, with 1
+abbrev pub Refused1 : Shape → Type 0
+Refused1 s = (lawful s ≡ false) × (shapeRefusal s ≡ Refusal.Shape)
+
 pub record Bench : Type 0 where
   pub p1 : (b : ℕ) → Lawful (standard 3 2 b) → Places (standard 3 2 b) (4 ∷ 5 ∷ 7 ∷ 8 ∷ [])
   pub p2 : (b : ℕ) → Lawful (standard 3 3 b) → Places (standard 3 3 b) (7 ∷ 8 ∷ [])
@@ -45,6 +49,7 @@ pub record Bench : Type 0 where
   pub p10 : pageOf (standard 3 2 11) (1023 ∷ 0 ∷ 0 ∷ 0 ∷ []) ≡ Page 1023 0
   pub p10-past : pageOf (standard 3 2 11) (1024 ∷ 0 ∷ 0 ∷ 0 ∷ []) ≡ Refused Refusal.Page
   pub accepted : (lawful (standard 31 8 32) ≡ true) × (lawful (standard 3 3 1) ≡ true)
-  pub refused : (lawful (standard 3 4 8) ≡ false) × (lawful (standard 31 9 8) ≡ false) × (lawful (standard 9 2 8) ≡ false) × (lawful (standard 3 2 0) ≡ false) × (lawful (standard 3 2 33) ≡ false)
+  -- these give 1
+  pub refused : Refused1 (standard 3 4 8) × Refused1 (standard 31 9 8) × Refused1 (standard 9 2 8) × Refused1 (standard 3 2 0) × Refused1 (standard 3 2 33)
   pub mark : pageOf (standard 3 2 9) (0 ∷ 1 ∷ 255 ∷ 0 ∷ []) ≡ Page 0 1
   pub mark-past : pageOf (standard 3 2 9) (0 ∷ 1 ∷ 256 ∷ 0 ∷ []) ≡ Refused Refusal.Function

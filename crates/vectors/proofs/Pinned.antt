@@ -1,0 +1,85 @@
+-- Each line is computed from the definitions.
+use mathlib.Core.Path.{refl}
+use native.Mathlib.Omega.{arith}
+use lib.ListN.{length}
+use borrow.Author.Tests.{lt-ltb, le-ltb}
+use Rattle.parity.specs.Xor.{_⊕_, xorSum, when}
+use Rattle.parity.specs.Count.{bit, sum, count, any, all, firstValue, lowestNot}
+use Rattle.parity.specs.Lists.{tabulate}
+use Rattle.gtb.specs.Shape.{orders, isOrder, lawful, regular, sloped, fitsSlope, shapeRefusal, slopeOf, keptChecks, scratchLength}
+use Rattle.gtb.specs.Square.{lineOf, narrow, syndrome, silentTest}
+use Rattle.encoder.specs.Contract.{statusOf}
+use Rattle.correction.specs.Error.{mended}
+use Rattle.correction.specs.Reading.{changesBy, restoredBy, acceptedBy, readOf}
+use Rattle.decoder.specs.Looking.{lookingOf}
+use Rattle.majority.specs.Majority.{shows, majority, votedAt}
+use Rattle.erasure.specs.Fill.{rising, fillStatus}
+use Rattle.page.specs.Page.{functions, zeros, pageOf, writeStatus}
+use Rattle.session.specs.Session.{pagesOf, lowestOf, consistent, freshOf, freshStatus, countOf, overflows, sessionStatus, countedOf}
+use Rattle.session.specs.Arrival.{isWay, wayOf, arrivalStatus, outcomeOf}
+use Rattle.energy.specs.Energy.{millis, billOf}
+use Rattle.coverage.specs.Coverage.{coverOf}
+use Rattle.batch.specs.Batch.{wholeRun, batchStatus}
+use Rattle.verify.specs.Verify.{verdictOf}
+use Rattle.lines.specs.Text.{decimal, spell, sameBytes, outcomeName, outcomeText}
+use Rattle.lines.specs.Content.{valuesIn, contentOf}
+use Rattle.lines.specs.Content as content
+use Rattle.host.specs.Bytes.{symbolsOf, bytesOf}
+use Rattle.judge.specs.Judge.{lineContent, passed, fault, judgedOf, start}
+use Rattle.capture.specs.Output.{outcomeLine}
+use Rattle.capture.specs.Feed.{feed, closing, outputOf}
+use Rattle.vectors.specs.Pinned.{Orders, Limits, Refusals}
+
+pub orders-of-tests : Orders
+unfolding shapeRefusal lawful regular sloped fitsSlope isOrder orders any all sessionStatus consistent pagesOf lowestOf bit sum count lowestNot countedOf billOf coverOf arrivalStatus isWay wayOf batchStatus lookingOf readOf narrow fillStatus rising scratchLength keptChecks verdictOf pageOf functions zeros writeStatus outcomeOf overflows countOf
+orders-of-tests = record {
+  one-eighteen = refl;
+  eighteen = refl;
+  eighteen-eleven = refl;
+  eleven-seven = refl;
+  eleven-two-bill = refl;
+  eleven-two-cover = refl;
+  eleven-sixteen = refl;
+  eleven-two-bundle = refl;
+  one-eleven = refl;
+  two-three = refl;
+  three-four = refl;
+  three-twelve = refl;
+  twelve = refl;
+  three-no = refl;
+  three-five = refl;
+  five-six = refl;
+  six-seven = refl;
+  seven-eight = refl;
+  five-three = refl;
+  again-nine = refl;
+  nine = refl;
+}
+
+pub limits : Limits
+unfolding lawful regular sloped fitsSlope isOrder orders any all pageOf narrow functions zeros countedOf sessionStatus consistent pagesOf lowestOf bit sum count lowestNot millis tabulate wholeRun readOf acceptedBy changesBy restoredBy votedAt majority shows firstValue mended silentTest syndrome xorSum when lineOf slopeOf _⊕_ statusOf scratchLength keptChecks symbolsOf bytesOf contentOf valuesIn content.small sameBytes spell decimal lineContent outputOf closing feed start judgedOf fault passed outcomeLine outcomeText outcomeName freshStatus freshOf shapeRefusal
+limits = record {
+  falling-slopes = refl;
+  full-page = refl;
+  last-function = refl;
+  each-billed = refl;
+  words-none = refl;
+  words-64 = refl;
+  words-65 = refl;
+  half-of-two = refl;
+  extraction = λ e. e .answer;
+  symbols = refl;
+  bytes = refl;
+  largest = refl;
+  too-large = refl;
+  longest = λ line h. rw (lt-ltb (length line) 16384 (omega arith)) refl;
+  too-long = λ line h. rw (le-ltb (length line) 16384 (omega arith)) refl;
+  all-read = refl;
+  no-line = refl;
+  other-names = refl;
+  two-values = refl;
+  other-words = refl;
+}
+
+pub refusals : Refusals
+refusals = record { clean = refl; vote = refl; two = refl }
