@@ -74,6 +74,9 @@ pub marks-of : (s : Shape) (symbols : List ℕ) (number c : ℕ) → pageOf s sy
 unfolding marksOf
 marks-of s symbols number c h = ap (marksIn symbols) h
 
+pub no-page : {e : Refusal} {number c : ℕ} → Refused e ≡ Page number c → ⊥
+no-page h = let z : _≡_ {A = ℕ} 0 1 = cc in omega arith
+
 pub no-marks : (s : Shape) (symbols : List ℕ) (e : Refusal) → pageOf s symbols ≡ Refused e → marksOf s symbols ≡ []
 unfolding marksOf
 no-marks s symbols e h = ap (marksIn symbols) h

@@ -5,6 +5,7 @@ use mathlib.Core.List.{List, [], _∷_, _++_}
 use Prim.Native.Nat.{ℕ, _+_, _-_, _*_, _^_}
 use lib.Dec.{eqb, leb, ltb}
 use lib.ListN.{length, getD, take, drop, replicate}
+use denote.Ref.{RefT}
 use Rattle.parity.specs.Count.{all}
 use Rattle.gtb.specs.declared.Shape.{Shape}
 use Rattle.gtb.specs.declared.Refusal.{Refusal}
@@ -52,6 +53,11 @@ marksIn symbols (Refused e) = []
 
 unfoldable pub marksOf : Shape → List ℕ → List ℕ
 marksOf s symbols = marksIn symbols (pageOf s symbols)
+
+-- they are lent where they stand: the part that begins with symbol 2, four bytes a symbol
+pub record MarksPart (s : Shape) (symbols part : RefT (List ℕ)) : Type 0 where
+  pub marks : part .now ≡ marksOf s (symbols .now)
+  pub place : (number c : ℕ) → pageOf s (symbols .now) ≡ Page number c → part .ptr ≡ (symbols .ptr .0, symbols .ptr .1 + 2 * 4)
 
 -- the page writer tests 1, 18, 2, 5, 6, 7, then 3 over page number, c and marks
 unfoldable pub writeStatus : Shape → ℕ → List ℕ → List ℕ → Status

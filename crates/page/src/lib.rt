@@ -12,7 +12,7 @@ ghost use Prim.Native.Nat.{ℕ, _≤_};
 ghost use lib.ListN.{length};
 ghost use Rattle.gtb.specs.Shape.{Lawful, infoLength};
 ghost use Rattle.gtb.specs.Square.{narrow};
-ghost use Rattle.page.specs.Page.{functions, zeros, pageOf, marksOf, writeStatus, pageSymbols, most, Writing};
+ghost use Rattle.page.specs.Page.{functions, zeros, pageOf, MarksPart, writeStatus, pageSymbols, most, Writing};
 ghost use Rattle.page.specs.Steps.{Sized};
 
 // The answer of the page reader: page number and number of marks, or a refusal.
@@ -77,7 +77,7 @@ pub fn read_page(shape: Shape, symbols: &[u32]) -> PageRead
 
 // The marks, as a part of the symbols; empty where the page reader refuses.
 pub fn marks(shape: Shape, symbols: &[u32]) -> &[u32]
-    ensures { λ r. ⌜ now r ≡ marksOf shape (now (symbols .entry)) ⌝ }
+    ensures { λ r. ⌜ MarksPart shape (symbols .entry) r ⌝ }
 {
     match read_page(shape, symbols) {
         PageRead::Page(_, count) => {

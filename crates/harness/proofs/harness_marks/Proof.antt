@@ -28,12 +28,12 @@ few : (c : tie.After-marks) → let s = c .before .load-shape .result in let sym
 few c = marks-few (c .before .load-shape .result) (c .before .before .before .before .before .before .before .args .symbols .now)
 
 copy-requires : tie.Need-copy-requires
-copy-requires c κs = omega (arith, ap length (c .before .marks .ensures), few (c .before) .0, c .before .before .before .if2 .left)
+copy-requires c κs = omega (arith, ap length (c .before .marks .ensures .marks), few (c .before) .0, c .before .before .before .if2 .left)
 
 cast-result : tie.Need-cast-result
 cast-result c =
     let part = c .before .before .before .before in
-    record { fits = omega (arith, ap length (part .marks .ensures), few part .1) }
+    record { fits = omega (arith, ap length (part .marks .ensures .marks), few part .1) }
 
 returns-3 : tie.Need-returns-3
 returns-3 c =
@@ -41,7 +41,7 @@ returns-3 c =
     let marks = part .before .before .before .before .before .before .before .args .marks .now in
     shaped (part .before .before .before .if1 .left) (part .before .load-shape .ensures)
     (record {
-      right = λ same. (ap length (part .marks .ensures), c .before .before .copy .ensures ∙ ap (λ (xs : List ℕ). xs ++ drop (length xs) marks) (part .marks .ensures));
+      right = λ same. (ap length (part .marks .ensures .marks), c .before .before .copy .ensures ∙ ap (λ (xs : List ℕ). xs ++ drop (length xs) marks) (part .marks .ensures .marks));
       wrong = λ other. absurd (other (part .before .before .if2 .left));
     })
 
