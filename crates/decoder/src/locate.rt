@@ -13,7 +13,7 @@ ghost use Rattle.gtb.specs.Square.{at};
 ghost use Rattle.correction.specs.Error.{checkOf};
 ghost use Rattle.correction.specs.Shipped.{Tabled};
 ghost use Rattle.correction.specs.Steps.{Shifts, Listed, Scanned};
-ghost use Rattle.decoder.specs.Steps.{judged, Judges, PassedOver};
+ghost use Rattle.decoder.specs.Steps.{judged, Judges};
 
 // The shifts of a row, where no table is lent: with one there is no need of them.
 pub fn shifts_by(shape: Shape, tabled: bool, row: usize, shifts: &mut [usize; 8])
@@ -118,7 +118,7 @@ fn keep(
     count
 }
 
-// One row. One whose own check is silent is passed over as a whole: its positions are judged with one look.
+// One row. One whose own check is silent is passed over: none of its positions is located, and nothing is written down.
 fn scan_row(
     shape: Shape,
     tabled: bool,
@@ -130,7 +130,7 @@ fn scan_row(
 ) -> usize
     requires { ⌜ Lawful shape × Tabled shape tabled (now table) × (row < shape .q) × (count < shape .n) × Listed (judged shape (now syn)) (row * shape .q) count (now places) ⌝ }
     ensures { λ r. ⌜ Scanned (judged shape (now (syn .entry))) (shape .n) (row * shape .q + shape .q) r (now (places .exit))
-        × (at (now (syn .entry)) row ≡ 0 → PassedOver shape (now (syn .entry)) row) ⌝ }
+        × (at (now (syn .entry)) row ≡ 0 → (r ≡ count) × (now (places .exit) ≡ now (places .entry))) ⌝ }
 {
     let check = syn[row];
     if check == 0 {

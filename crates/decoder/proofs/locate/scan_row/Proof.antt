@@ -26,7 +26,7 @@ returns : tie.Need-returns Inv-loop μ-loop
 returns c =
     let s = c .before .before .before in
     let passed = passed-over (s .args .shape) (s .pre .0) (s .args .syn .now) (s .args .row) (c .if1 .taken) in
-    (scanned-few (s .pre .3) (listed-skips (s .args .shape .q) (passed .located) (s .pre .4)), λ _. passed)
+    (scanned-few (s .pre .3) (listed-skips (s .args .shape .q) (passed .located) (s .pre .4)), λ _. (refl, refl))
 
 loop-holds : tie.Need-loop-holds Inv-loop μ-loop
 loop-holds c =
