@@ -35,7 +35,7 @@ pub fn limit() -> usize
 
 // Before the first line.
 pub fn begin() -> Reader
-    ensures { λ r. ⌜ (r .tally ≡ start) × (r .held ≡ 0) ⌝ }
+    ensures { λ r. ⌜ (r .tally ≡ start) × (r .held ≡ 0) × (r .at ≡ 0) ⌝ }
 {
     let fresh = Session::fresh(Shape {
         q: 0,

@@ -7,7 +7,7 @@ use Rattle.capture.proofs.begin.Tie as tie
 
 returns : tie.Need-returns
 unfolding start
-returns c = (rw (c .before .fresh .ensures .session), refl)
+returns c = (rw (c .before .fresh .ensures .session), refl, refl)
 
 pub begin-spec : {M : Type 1} → statement M
 begin-spec = tie.close (tie.spec (λ c κs. search needs) returns)
