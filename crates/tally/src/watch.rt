@@ -2,8 +2,12 @@
 use command::Counts;
 use libc::STDERR_FILENO;
 use libc::STDOUT_FILENO;
+ghost use mathlib.Core.Path.{_≡_};
+ghost use mathlib.Core.Bool.{false, cond};
 ghost use Prim.Native.Nat.{_≤_};
+ghost use Rattle.command.specs.Counting.{countedIn};
 ghost use Rattle.capture.specs.Feed.{readLimit};
+ghost use Rattle.tally.specs.Summary.{none};
 
 // `progress` only where standard output is no terminal. `drawn`: a progress line stands there. `second` is that of the last look at the clock.
 pub struct Watch {
@@ -20,7 +24,9 @@ fn second() -> i64 {
     libc::time(&mut now)
 }
 
-pub fn begin() -> Watch {
+pub fn begin() -> Watch
+    ensures { λ r. ⌜ (r .counts ≡ none) × (r .drawn ≡ false) ⌝ }
+{
     let summary = libc::isatty(STDERR_FILENO) == 1;
     let progress = summary && libc::isatty(STDOUT_FILENO) != 1;
     Watch {
@@ -37,7 +43,9 @@ pub fn begin() -> Watch {
 }
 
 // Draws the progress line, once a second at most.
-fn draw(watch: Watch, read: u32, pages: u32, lowest: u32) -> Watch {
+fn draw(watch: Watch, read: u32, pages: u32, lowest: u32) -> Watch
+    ensures { λ r. ⌜ (r .summary ≡ watch .summary) × (r .progress ≡ watch .progress) × (r .counts ≡ watch .counts) ⌝ }
+{
     let mut watch = watch;
     let now = second();
     if now == watch.second {
@@ -55,6 +63,7 @@ fn draw(watch: Watch, read: u32, pages: u32, lowest: u32) -> Watch {
 // After a block: its answers are counted; `left` is what the limit leaves of the bytes.
 pub fn look(watch: Watch, text: &[u8], left: usize, pages: u32, lowest: u32) -> Watch
     requires { ⌜ left ≤ readLimit ⌝ }
+    ensures { λ r. ⌜ (r .summary ≡ watch .summary) × (r .progress ≡ watch .progress) × (r .counts ≡ cond (watch .summary) (countedIn (watch .counts) (now (text .entry))) (watch .counts)) ⌝ }
 {
     if !watch.summary {
         return watch;
