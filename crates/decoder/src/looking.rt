@@ -1,6 +1,8 @@
 // How many checks the judging of each position looks at.
 use crate::locate::judge;
 use crate::locate::shifts_by;
+use correction::shipped::is_shipped;
+use correction::table::check_numbers;
 use gtb::Shape;
 ghost use mathlib.Core.Path.{_≡_};
 ghost use Prim.Native.Nat.{_+_, _*_, _<_};
@@ -34,15 +36,28 @@ fn note_row(
     }
 }
 
-// The whole list. The few that ask for it pay for no table.
+// The whole list, by the table where one is lent.
+fn note_by(shape: Shape, tabled: bool, table: &[u8], word: &[u32], looked: &mut [u32])
+    requires { ⌜ Lawful shape × Tabled shape tabled (now table) × (length (now word) ≡ wordLength shape) × (length (now looked) ≡ wordLength shape) ⌝ }
+    ensures { λ _. ⌜ now (looked .exit) ≡ tabulate (wordLength shape) (lookedAt shape (at (now (word .entry)))) ⌝ }
+{
+    let syn = syndrome::syndromes(shape, word);
+    let q = shape.q as usize;
+    for row in 0..q {
+        note_row(shape, tabled, table, &syn, row, looked);
+    }
+}
+
+// The same, with the table of the shipped shape.
 pub fn note(shape: Shape, word: &[u32], looked: &mut [u32])
     requires { ⌜ Lawful shape × (length (now word) ≡ wordLength shape) × (length (now looked) ≡ wordLength shape) ⌝ }
     ensures { λ _. ⌜ now (looked .exit) ≡ tabulate (wordLength shape) (lookedAt shape (at (now (word .entry)))) ⌝ }
 {
-    let none = [0u8; 1];
-    let syn = syndrome::syndromes(shape, word);
-    let q = shape.q as usize;
-    for row in 0..q {
-        note_row(shape, false, &none, &syn, row, looked);
+    if is_shipped(shape) {
+        let table = check_numbers();
+        note_by(shape, true, &table, word, looked);
+        return;
     }
+    let none = [0u8; 1];
+    note_by(shape, false, &none, word, looked);
 }

@@ -1,36 +1,16 @@
--- `decoder::looking::note` meets its contract. The loop's invariant: the list is right in the rows passed.
-use Prim.Native.Nat.{_-_, _*_, _≤_}
-use native.Mathlib.Nat.{zero-mul, le-antisymm}
+-- `decoder::looking::note` meets its contract: it is the list, with the table or without.
+use mathlib.Core.Path.{sym, _∙_}
 use borrow.Author.Needs.{needs}
-use Rattle.parity.specs.Lists.{Begins}
-use Rattle.gtb.specs.Shape.{wordLength}
-use Rattle.decoder.specs.Steps.{lookedIn}
-use Rattle.correction.proofs.Rows.{next-row}
-use Rattle.correction.proofs.Tabulated.{untabled}
-use Rattle.parity.proofs.Writes.{begins-none}
-use Rattle.decoder.proofs.Looks.{noted-all}
+use Rattle.correction.proofs.Tabulated.{tabled, untabled}
 use Rattle.decoder.proofs.looking.note.Statement.{statement}
 use Rattle.decoder.proofs.looking.note.Tie as tie
 
-abbrev Inv-loop : tie.InvT-loop
-Inv-loop shape word looked₀ none syn q row₀ looked row = (row ≤ q) × Begins (wordLength shape) (row * q) (lookedIn shape syn) looked
-
-abbrev μ-loop : tie.MeasureT-loop
-μ-loop shape word looked₀ none syn q row₀ looked row = q - row
-
-loop-holds : tie.Need-loop-holds Inv-loop μ-loop
-loop-holds c =
-    let s = c .before .before .before .before in
-    (search needs, rw (zero-mul (s .args .shape .q)) (begins-none (s .pre .2)))
-
-loop-again : tie.Need-loop-again Inv-loop μ-loop
-loop-again c = (search needs, rw next-row (c .before .before .note-row .ensures))
-
-returns : tie.Need-returns Inv-loop μ-loop
-returns c =
-    let l = c .before in
-    let y = l .before .before in
-    noted-all (y .before .before .before .pre .0) (y .syndromes .ensures) (rw (le-antisymm (l .loop .inv .0) (c .loop-test .left)) at (l .loop .inv .1))
+note-by-requires : tie.Need-note-by-requires
+note-by-requires c κs =
+    let n = c .before .before in
+    let t = n .before in
+    let p = t .before .before .before .before .pre in
+    (p .0, tabled _ (sym (t .before .is-shipped .ensures) ∙ t .if1 .taken) _ (n .check-numbers .ensures), p .1, p .2)
 
 pub note-spec : {M : Type 1} → statement M
-note-spec = tie.close (tie.spec Inv-loop μ-loop (λ c κs. search needs) (λ c. search needs) loop-holds (λ c. search needs) (λ c κs. search (needs, untabled)) (λ c. search needs) (λ c. search needs) loop-again (λ c. search needs) returns)
+note-spec = tie.close (tie.spec (λ c κs. search needs) (λ c κs. search needs) (λ c. search needs) note-by-requires (λ c. search needs) (λ c. search needs) (λ c. search needs) (λ c κs. search (needs, untabled)) (λ c. search needs) (λ c. search needs))
