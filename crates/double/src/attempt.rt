@@ -5,6 +5,8 @@ use crate::lines::first_line;
 use crate::lines::last_line;
 use correction::cancel::cancel_by;
 use correction::cancel::is_silent;
+use correction::shipped::is_shipped;
+use correction::table::check_numbers;
 use gtb::Shape;
 ghost use mathlib.Core.Path.{_≡_};
 ghost use mathlib.Core.Bool.{cond};
@@ -13,18 +15,27 @@ ghost use lib.Dec.{eqb};
 ghost use lib.ListN.{length};
 ghost use Rattle.gtb.specs.Shape.{Lawful, wordLength};
 ghost use Rattle.gtb.specs.Square.{at};
+ghost use Rattle.correction.specs.Shipped.{Tabled};
 ghost use Rattle.double.specs.Steps.{Tried, Attempted, FoundTwo};
 
-// The corrections are tried on a copy of the table.
-fn test_pair(shape: Shape, syn: &[u32; 248], a: usize, x: u32, b: usize, y: u32) -> Pair
-    requires { ⌜ Lawful shape × (length (now syn) ≡ 248) × (a < wordLength shape) × (b < wordLength shape) ⌝ }
+// The corrections are tried on a copy of the syndromes.
+fn test_pair(
+    shape: Shape,
+    tabled: bool,
+    table: &[u8],
+    syn: &[u32; 248],
+    a: usize,
+    x: u32,
+    b: usize,
+    y: u32,
+) -> Pair
+    requires { ⌜ Lawful shape × Tabled shape tabled (now table) × (length (now syn) ≡ 248) × (a < wordLength shape) × (b < wordLength shape) ⌝ }
     ensures { λ r. ⌜ Tried shape (now (syn .entry)) a x b y r ⌝ }
 {
     let places = [a, b, 0, 0, 0, 0, 0, 0];
     let errors = [x, y, 0, 0, 0, 0, 0, 0];
     let mut left = *syn;
-    let none = [0u8; 1];
-    cancel_by(shape, false, &none, &mut left, &places, &errors, 2);
+    cancel_by(shape, tabled, table, &mut left, &places, &errors, 2);
     let works = is_silent(shape, &left);
     Pair {
         works: works,
@@ -47,8 +58,8 @@ fn second_value(syn: &[u32; 248], first: usize, last: usize) -> u32
 }
 
 // Lines a and b of direction t, c and d of direction u: a meets c or d, and b the other.
-fn attempt(shape: Shape, syn: &[u32; 248], t: usize, u: usize) -> Pair
-    requires { ⌜ Lawful shape × (length (now syn) ≡ 248) × (t < u) × (u < shape .n) ⌝ }
+fn attempt(shape: Shape, tabled: bool, table: &[u8], syn: &[u32; 248], t: usize, u: usize) -> Pair
+    requires { ⌜ Lawful shape × Tabled shape tabled (now table) × (length (now syn) ≡ 248) × (t < u) × (u < shape .n) ⌝ }
     ensures { λ r. ⌜ Attempted shape (now (syn .entry)) t u r ⌝ }
 {
     let q = shape.q as usize;
@@ -60,10 +71,12 @@ fn attempt(shape: Shape, syn: &[u32; 248], t: usize, u: usize) -> Pair
     let y = second_value(syn, t * q + a, t * q + b);
     let straight = test_pair(
         shape,
+        tabled,
+        table,
         syn,
-        cross(shape, t, u, a, c),
+        cross(shape, tabled, table, t, u, a, c),
         x,
-        cross(shape, t, u, b, d),
+        cross(shape, tabled, table, t, u, b, d),
         y,
     );
     if straight.works {
@@ -71,26 +84,41 @@ fn attempt(shape: Shape, syn: &[u32; 248], t: usize, u: usize) -> Pair
     }
     test_pair(
         shape,
+        tabled,
+        table,
         syn,
-        cross(shape, t, u, a, d),
+        cross(shape, tabled, table, t, u, a, d),
         x,
-        cross(shape, t, u, b, c),
+        cross(shape, tabled, table, t, u, b, c),
         y,
     )
 }
 
 // Two positions share a line in at most one of three directions, so two of these part them.
+fn find_by(shape: Shape, tabled: bool, table: &[u8], syn: &[u32; 248]) -> Pair
+    requires { ⌜ Lawful shape × Tabled shape tabled (now table) × (length (now syn) ≡ 248) × (2 < shape .n) ⌝ }
+    ensures { λ r. ⌜ FoundTwo shape (now (syn .entry)) r ⌝ }
+{
+    let first = attempt(shape, tabled, table, syn, 0, 1);
+    if first.works {
+        return first;
+    }
+    let second = attempt(shape, tabled, table, syn, 0, 2);
+    if second.works {
+        return second;
+    }
+    attempt(shape, tabled, table, syn, 1, 2)
+}
+
+// The same, with the table of the shipped shape.
 pub fn find(shape: Shape, syn: &[u32; 248]) -> Pair
     requires { ⌜ Lawful shape × (length (now syn) ≡ 248) × (2 < shape .n) ⌝ }
     ensures { λ r. ⌜ FoundTwo shape (now (syn .entry)) r ⌝ }
 {
-    let first = attempt(shape, syn, 0, 1);
-    if first.works {
-        return first;
+    if is_shipped(shape) {
+        let table = check_numbers();
+        return find_by(shape, true, &table, syn);
     }
-    let second = attempt(shape, syn, 0, 2);
-    if second.works {
-        return second;
-    }
-    attempt(shape, syn, 1, 2)
+    let none = [0u8; 1];
+    find_by(shape, false, &none, syn)
 }

@@ -1,8 +1,9 @@
 // Lines that are not silent, and where two lines meet.
-use correction::checks::check_number;
+use correction::shipped::number_by;
 use gtb::Shape;
 ghost use Prim.Native.Nat.{_+_, _*_, _<_, _≤_};
 ghost use Rattle.gtb.specs.Shape.{Lawful};
+ghost use Rattle.correction.specs.Shipped.{Tabled};
 ghost use Rattle.double.specs.Steps.{FirstLine, LastLine, Crosses, OnRow};
 
 // The first line of direction t that is not silent.
@@ -44,8 +45,16 @@ fn on_row(shape: Shape, u: usize, row: usize, line: usize) -> usize
 }
 
 // The position on line a of direction t and line b of direction u: in row a, or found row by row.
-pub fn cross(shape: Shape, t: usize, u: usize, a: usize, b: usize) -> usize
-    requires { ⌜ Lawful shape × (t < u) × (u < shape .n) × (a < shape .q) × (b < shape .q) ⌝ }
+pub fn cross(
+    shape: Shape,
+    tabled: bool,
+    table: &[u8],
+    t: usize,
+    u: usize,
+    a: usize,
+    b: usize,
+) -> usize
+    requires { ⌜ Lawful shape × Tabled shape tabled (now table) × (t < u) × (u < shape .n) × (a < shape .q) × (b < shape .q) ⌝ }
     ensures { λ r. ⌜ Crosses shape t u a b r ⌝ }
 {
     if t == 0 {
@@ -54,7 +63,7 @@ pub fn cross(shape: Shape, t: usize, u: usize, a: usize, b: usize) -> usize
     let q = shape.q as usize;
     for row in 0..q {
         let j = on_row(shape, u, row, b);
-        if check_number(shape, t, j) == t * q + a {
+        if number_by(shape, tabled, table, t, j) == t * q + a {
             return j;
         }
     }

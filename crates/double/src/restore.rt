@@ -50,7 +50,7 @@ fn take_off(shape: Shape, word: &mut [u32], pair: Pair)
     apply(shape, word, &places, &errors, 2);
 }
 
-// Test 17: the word is restored, or left as it came.
+// Test 17: the word is restored, or left as it came. Where every check is silent no table is made.
 pub fn restore(shape: Shape, word: &mut [u32]) -> Decoded
     requires { ⌜ Lawful shape × (2 < shape .n) × Word shape (now word) ⌝ }
     ensures { λ r. ⌜ Corrects two shape (now (word .entry)) (now (word .exit)) r ⌝ }

@@ -1,20 +1,16 @@
--- `double::attempt::find` meets its contract.
+-- `double::attempt::find` meets its contract: it is the search, with the table or without.
+use mathlib.Core.Path.{sym, _∙_}
 use borrow.Author.Needs.{needs}
-use Rattle.double.proofs.Finding.{found-early, found-last}
+use Rattle.correction.proofs.Tabulated.{tabled, untabled}
 use Rattle.double.proofs.attempt.find.Statement.{statement}
 use Rattle.double.proofs.attempt.find.Tie as tie
 
-returns : tie.Need-returns
-returns c = found-early (c .before .attempt .ensures) (c .if1 .taken)
-
-returns-2 : tie.Need-returns-2
-returns-2 c = found-early (c .before .attempt2 .ensures) (c .if2 .taken)
-
-returns-3 : tie.Need-returns-3
-returns-3 c =
-    let e = c .before in
-    let start = e .before .before .before .before in
-    found-last (start .pre .0) (start .pre .2) (e .before .before .before .attempt .ensures) (e .before .before .if1 .left) (e .before .attempt2 .ensures) (e .if2 .left) (c .attempt3 .ensures)
+find-by-requires : tie.Need-find-by-requires
+find-by-requires c κs =
+    let n = c .before in
+    let t = n .before in
+    let p = t .before .before .pre in
+    (p .0, tabled _ (sym (t .before .is-shipped .ensures) ∙ t .if1 .taken) _ (n .check-numbers .ensures), p .1, p .2)
 
 pub find-spec : {M : Type 1} → statement M
-find-spec = tie.close (tie.spec (λ c κs. search needs) returns (λ c κs. search needs) returns-2 (λ c κs. search needs) returns-3)
+find-spec = tie.close (tie.spec (λ c κs. search needs) (λ c κs. search needs) (λ c. search needs) find-by-requires (λ c. search needs) (λ c. search needs) (λ c κs. search (needs, untabled)) (λ c. search needs))
