@@ -1,5 +1,7 @@
 // The system of equations: a row for each kept check, a column for each place, the check values on the right.
-use correction::checks::check_number;
+use correction::shipped::is_shipped;
+use correction::shipped::number_by;
+use correction::table::check_numbers;
 use gtb::Shape;
 use gtb::size::kept_checks;
 ghost use mathlib.Core.Path.{_≡_};
@@ -10,6 +12,7 @@ ghost use lib.ListN.{length};
 ghost use Rattle.gtb.specs.Shape.{Lawful, wordLength, keptChecks};
 ghost use Rattle.gtb.specs.Square.{at};
 ghost use Rattle.gtb.specs.Kept.{keptDirection, keptLine};
+ghost use Rattle.correction.specs.Shipped.{Tabled};
 ghost use Rattle.erasure.specs.Steps.{onKept, Numbered, Table, Flipped, Asked};
 
 // The cell of a row in column k is toggled.
@@ -23,12 +26,12 @@ fn mark(rows: usize, width: usize, scratch: &mut [u32], row: usize, k: usize)
 
 // The number of the check of direction t on position j, among the kept ones: direction after direction, line after line, without the
 // last line of each direction but the first. No check has the number 248.
-fn row_of(shape: Shape, t: usize, j: usize) -> usize
-    requires { ⌜ Lawful shape × (t < shape .n) × (j < wordLength shape) ⌝ }
+fn row_of(shape: Shape, tabled: bool, table: &[u8], t: usize, j: usize) -> usize
+    requires { ⌜ Lawful shape × Tabled shape tabled (now table) × (t < shape .n) × (j < wordLength shape) ⌝ }
     ensures { λ r. ⌜ Numbered shape t j r ⌝ }
 {
     let q = shape.q as usize;
-    let check = check_number(shape, t, j);
+    let check = number_by(shape, tabled, table, t, j);
     if t == 0 {
         return check;
     }
@@ -39,13 +42,22 @@ fn row_of(shape: Shape, t: usize, j: usize) -> usize
 }
 
 // The check of direction t on position j has column k, if it is kept.
-fn mark_check(shape: Shape, width: usize, scratch: &mut [u32], k: usize, j: usize, t: usize)
-    requires { ⌜ Lawful shape × (t < shape .n) × (j < wordLength shape) × (k < 32 * width) × (keptChecks shape * width ≤ length (now scratch)) ⌝ }
+fn mark_check(
+    shape: Shape,
+    tabled: bool,
+    table: &[u8],
+    width: usize,
+    scratch: &mut [u32],
+    k: usize,
+    j: usize,
+    t: usize,
+)
+    requires { ⌜ Lawful shape × Tabled shape tabled (now table) × (t < shape .n) × (j < wordLength shape) × (k < 32 * width) × (keptChecks shape * width ≤ length (now scratch)) ⌝ }
     ensures { λ _.
         ⌜ Flipped width (keptChecks shape) (λ i c. eqb (keptDirection shape i) t && (eqb c k && onKept shape i j)) (now (scratch .entry)) (now (scratch .exit)) ⌝ }
 {
     let rows = kept_checks(shape);
-    let row = row_of(shape, t, j);
+    let row = row_of(shape, tabled, table, t, j);
     if rows <= row {
         return;
     }
@@ -53,19 +65,34 @@ fn mark_check(shape: Shape, width: usize, scratch: &mut [u32], k: usize, j: usiz
 }
 
 // The kept checks on position j have column k.
-fn mark_place(shape: Shape, width: usize, scratch: &mut [u32], k: usize, j: usize)
-    requires { ⌜ Lawful shape × (j < wordLength shape) × (k < 32 * width) × (keptChecks shape * width ≤ length (now scratch)) ⌝ }
+fn mark_place(
+    shape: Shape,
+    tabled: bool,
+    table: &[u8],
+    width: usize,
+    scratch: &mut [u32],
+    k: usize,
+    j: usize,
+)
+    requires { ⌜ Lawful shape × Tabled shape tabled (now table) × (j < wordLength shape) × (k < 32 * width) × (keptChecks shape * width ≤ length (now scratch)) ⌝ }
     ensures { λ _. ⌜ Flipped width (keptChecks shape) (λ i c. eqb c k && onKept shape i j) (now (scratch .entry)) (now (scratch .exit)) ⌝ }
 {
     let n = shape.n as usize;
     for t in 0..n {
-        mark_check(shape, width, scratch, k, j, t);
+        mark_check(shape, tabled, table, width, scratch, k, j, t);
     }
 }
 
-// The kept checks on each place have its column.
-pub fn mark_places(shape: Shape, width: usize, scratch: &mut [u32], places: &[u32])
-    requires { ⌜ Lawful shape × Table shape width (length (now places)) (now scratch)
+// The kept checks on each place have its column, by the table where one is lent.
+fn mark_places_by(
+    shape: Shape,
+    tabled: bool,
+    table: &[u8],
+    width: usize,
+    scratch: &mut [u32],
+    places: &[u32],
+)
+    requires { ⌜ Lawful shape × Tabled shape tabled (now table) × Table shape width (length (now places)) (now scratch)
         × ((k : ℕ) → k < length (now places) → at (now places) k < wordLength shape) ⌝ }
     ensures { λ _.
         ⌜ Flipped width (keptChecks shape) (λ i c. ltb c (length (now (places .entry))) && onKept shape i (at (now (places .entry)) c))
@@ -73,8 +100,25 @@ pub fn mark_places(shape: Shape, width: usize, scratch: &mut [u32], places: &[u3
 {
     for k in 0..places.len() {
         let j = places[k] as usize;
-        mark_place(shape, width, scratch, k, j);
+        mark_place(shape, tabled, table, width, scratch, k, j);
     }
+}
+
+// The same, with the table of the shipped shape.
+pub fn mark_places(shape: Shape, width: usize, scratch: &mut [u32], places: &[u32])
+    requires { ⌜ Lawful shape × Table shape width (length (now places)) (now scratch)
+        × ((k : ℕ) → k < length (now places) → at (now places) k < wordLength shape) ⌝ }
+    ensures { λ _.
+        ⌜ Flipped width (keptChecks shape) (λ i c. ltb c (length (now (places .entry))) && onKept shape i (at (now (places .entry)) c))
+        (now (scratch .entry)) (now (scratch .exit)) ⌝ }
+{
+    if is_shipped(shape) {
+        let table = check_numbers();
+        mark_places_by(shape, true, &table, width, scratch, places);
+        return;
+    }
+    let none = [0u8; 1];
+    mark_places_by(shape, false, &none, width, scratch, places);
 }
 
 // The number, among all checks, of kept check i.

@@ -1,49 +1,16 @@
--- `erasure::system::mark_places` meets its contract. The loop's invariant: the kept checks on the places passed have their columns.
-use mathlib.Core.Path.{_≡_}
-use Prim.Native.Nat.{_-_, _<_, _≤_}
-use native.Mathlib.Nat.{le-antisymm}
-use native.Mathlib.Omega.{arith}
-use lib.ListN.{length}
-use Rattle.gtb.specs.Shape.{keptChecks}
-use Rattle.erasure.specs.Steps.{Flipped}
-use Rattle.erasure.proofs.Systems.{firstPlaces, places-none, places-more}
+-- `erasure::system::mark_places` meets its contract: the columns are set with the table or without.
+use mathlib.Core.Path.{sym, _∙_}
 use borrow.Author.Needs.{needs}
+use Rattle.correction.proofs.Tabulated.{tabled, untabled}
 use Rattle.erasure.proofs.system.mark_places.Statement.{statement}
 use Rattle.erasure.proofs.system.mark_places.Tie as tie
 
-abbrev Inv-loop : tie.InvT-loop
-Inv-loop shape width scratch₀ places k₀ k-end scratch k =
-    (k-end ≡ length places) × (k ≤ length places) × Flipped width (keptChecks shape) (firstPlaces shape places k) scratch₀ scratch
-
-abbrev μ-loop : tie.MeasureT-loop
-μ-loop shape width scratch₀ places k₀ k-end scratch k = length places - k
-
-loop-holds : tie.Need-loop-holds Inv-loop μ-loop
-loop-holds c = let a = c .before .before .args in (search needs, search needs, places-none (a .shape) (a .places .now) _)
-
--- the place is one of the list
-listed : (c : tie.In-loop Inv-loop μ-loop) → c .before .loop .k < length (c .before .before .before .before .args .places .now)
-listed c = omega arith
-
-cast-j : tie.Need-cast-j Inv-loop μ-loop
-cast-j c = omega (arith, c .shared-slice-known2 .given (c .before .before .loop .k))
-
-mark-place-requires : tie.Need-mark-place-requires Inv-loop μ-loop
-mark-place-requires c κs =
-    let l = c .before .before .before in
-    let p = l .before .before .before .pre in
-    let i = listed (c .before .before) in
-    (p .0, p .2 (l .loop .k) i, omega (arith, i, p .1 .columns), rw (l .loop .inv .2 .size) (p .1 .space))
-
-loop-again : tie.Need-loop-again Inv-loop μ-loop
-loop-again c =
-    let m = c .before .before in
-    let l = m .before .before .before .before in
-    let a = l .before .before .before .args in
-    (search needs, search needs, places-more (a .shape) (a .places .now) (l .loop .k) (l .loop .inv .2) (m .mark-place .ensures))
-
-returns : tie.Need-returns Inv-loop μ-loop
-returns c = rw (le-antisymm (c .before .loop .inv .1) (search needs)) at (c .before .loop .inv .2)
+mark-places-by-requires : tie.Need-mark-places-by-requires
+mark-places-by-requires c κs =
+    let n = c .before .before in
+    let t = n .before in
+    let p = t .before .before .before .before .pre in
+    (p .0, tabled _ (sym (t .before .is-shipped .ensures) ∙ t .if1 .taken) _ (n .check-numbers .ensures), p .1, p .2)
 
 pub mark-places-spec : {M : Type 1} → statement M
-mark-places-spec = tie.close (tie.spec Inv-loop μ-loop loop-holds (λ c. search needs) (λ c. search needs) cast-j mark-place-requires (λ c. search needs) (λ c. search needs) loop-again (λ c. c .before .loop .inv .2 .size) returns)
+mark-places-spec = tie.close (tie.spec (λ c κs. search needs) (λ c κs. search needs) (λ c. search needs) mark-places-by-requires (λ c. search needs) (λ c. search needs) (λ c. search needs) (λ c κs. search (needs, untabled)) (λ c. search needs) (λ c. search needs))
