@@ -113,6 +113,7 @@ module _ (s : Shape) (is : isShipped s ≡ true) where
 
   pub tabled : (table : List ℕ) → CheckNumbers table → Tabled s true table
   tabled table rule = record {
+    shipped = λ lent. is;
     number = λ lent j t lj lt.
         let four = shipped s is .n in
         let small : j < 289 = rw (shipped s is .q) at lj in
@@ -121,4 +122,4 @@ module _ (s : Shape) (is : isShipped s ≡ true) where
 
 -- no table is lent
 pub untabled : (s : Shape) (table : List ℕ) → Tabled s false table
-untabled s table = record { number = λ lent. absurd (clash lent refl) }
+untabled s table = record { shipped = λ lent. absurd (clash lent refl); number = λ lent. absurd (clash lent refl) }
