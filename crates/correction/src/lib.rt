@@ -2,6 +2,7 @@
 pub mod cancel;
 pub mod checks;
 pub mod number;
+pub mod row;
 pub mod shipped;
 pub mod table;
 

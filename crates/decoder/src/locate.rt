@@ -1,51 +1,16 @@
 // The located positions, in rising order, in a local array of 8. One more than n - 1 of them is one too many, and ends the search.
-// Where no table of check numbers is lent, what the slopes add to the columns of a row is computed once for the row, so that no symbol
-// needs a remainder.
-use correction::checks::put_shifts;
-use correction::shipped::number_by;
+use correction::row::check_in_row;
+use correction::row::shifts_by;
 use gtb::Shape;
 ghost use mathlib.Core.Path.{_≡_};
 ghost use mathlib.Core.Bool.{false};
-ghost use Prim.Native.Nat.{_+_, _*_, _<_, _≤_};
+ghost use Prim.Native.Nat.{_+_, _*_, _<_};
 ghost use lib.ListN.{length};
 ghost use Rattle.gtb.specs.Shape.{Lawful, wordLength};
 ghost use Rattle.gtb.specs.Square.{at};
-ghost use Rattle.correction.specs.Error.{checkOf};
 ghost use Rattle.correction.specs.Shipped.{Tabled};
 ghost use Rattle.correction.specs.Steps.{Shifts, Listed, Scanned};
 ghost use Rattle.decoder.specs.Steps.{judged, Judges};
-
-// The shifts of a row, where no table is lent: with one there is no need of them.
-pub fn shifts_by(shape: Shape, tabled: bool, row: usize, shifts: &mut [usize; 8])
-    requires { ⌜ Lawful shape × (row < shape .q) × (length (now shifts) ≡ 8) ⌝ }
-    ensures { λ _. ⌜ (tabled ≡ false → Shifts shape row (shape .n) (now (shifts .exit))) ⌝ }
-{
-    if tabled {
-        return;
-    }
-    put_shifts(shape, row, shifts);
-}
-
-// The number of a position's check in a direction from 1 on.
-fn check_in_row(
-    shape: Shape,
-    tabled: bool,
-    table: &[u8],
-    shifts: &[usize; 8],
-    t: usize,
-    row: usize,
-    column: usize,
-) -> usize
-    requires { ⌜ Lawful shape × Tabled shape tabled (now table) × (tabled ≡ false → Shifts shape row (shape .n) (now shifts))
-        × (1 ≤ t) × (t < shape .n) × (row < shape .q) × (column < shape .q) ⌝ }
-    ensures { λ r. ⌜ r ≡ checkOf shape (row * shape .q + column) t ⌝ }
-{
-    let q = shape.q as usize;
-    if tabled {
-        return number_by(shape, tabled, table, t, row * q + column);
-    }
-    t * q + gtb::add_mod(column, shifts[t], q)
-}
 
 // What is known of a position once it is judged: whether it is located, and how many of its checks were looked at.
 pub struct Judgement {

@@ -1,6 +1,6 @@
 // How many checks the judging of each position looks at.
 use crate::locate::judge;
-use crate::locate::shifts_by;
+use correction::row::shifts_by;
 use correction::shipped::is_shipped;
 use correction::table::check_numbers;
 use gtb::Shape;

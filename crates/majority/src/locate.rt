@@ -3,7 +3,7 @@
 // once for the row, so that this needs no remainder.
 use crate::vote::hit;
 use crate::vote::vote;
-use correction::checks::put_shifts;
+use correction::row::put_shifts;
 use gtb::Shape;
 ghost use mathlib.Core.Path.{_≡_};
 ghost use mathlib.Core.Bool.{true};

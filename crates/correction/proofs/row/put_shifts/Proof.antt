@@ -1,4 +1,4 @@
--- `correction::checks::put_shifts` meets its contract. The loop's invariant is the contract for the directions below t, of any shape with this order and these slopes.
+-- `correction::row::put_shifts` meets its contract. The loop's invariant is the contract for the directions below t, of any shape with this order and these slopes.
 use mathlib.Core.Path.{_≡_, refl}
 use Prim.Native.Nat.{_-_, _*_, _<_, _≤_}
 use lib.ListN.{getD}
@@ -11,8 +11,8 @@ use Rattle.gtb.proofs.Bounds.{bounds, positive}
 use Rattle.correction.specs.Steps.{Shifts}
 use Rattle.correction.proofs.CheckNumbers.{offset-le}
 use Rattle.correction.proofs.Rows.{shifts-none, shifts-more}
-use Rattle.correction.proofs.checks.put_shifts.Statement.{statement}
-use Rattle.correction.proofs.checks.put_shifts.Tie as tie
+use Rattle.correction.proofs.row.put_shifts.Statement.{statement}
+use Rattle.correction.proofs.row.put_shifts.Tie as tie
 
 abbrev Inv-loop : tie.InvT-loop
 Inv-loop row shifts₀ q n slopes r t₀ shifts t = (1 ≤ t) × (t ≤ n) × ((s : Shape) → s .q ≡ q → s .slopes ≡ slopes → Shifts s row t shifts)

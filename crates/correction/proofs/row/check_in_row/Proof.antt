@@ -1,14 +1,14 @@
--- `decoder::locate::check_in_row` meets its contract: the table's number, or that by the row's shift.
+-- `correction::row::check_in_row` meets its contract: the table's number, or that by the row's shift.
 use Prim.Native.Nat.{_+_, _*_, _<_}
 use native.Mathlib.Nat.{lt-of-lt-of-le}
 use native.Mathlib.Omega.{arith}
 use borrow.Author.Needs.{needs}
 use Rattle.gtb.proofs.Bounds.{bounds, positive}
 use Rattle.gtb.proofs.Turns.{square-le}
 use Rattle.correction.proofs.CheckNumbers.{check-lt}
 use Rattle.correction.proofs.Rows.{in-word, shift-lt, shift-check}
-use Rattle.decoder.proofs.locate.check_in_row.Statement.{statement}
-use Rattle.decoder.proofs.locate.check_in_row.Tie as tie
+use Rattle.correction.proofs.row.check_in_row.Statement.{statement}
+use Rattle.correction.proofs.row.check_in_row.Tie as tie
 
 -- the position is small
 place : (s : tie.Start) → s .args .row * s .args .shape .q + s .args .column < 961
