@@ -5,7 +5,7 @@ ghost use Prim.Native.Nat.{_<_};
 ghost use Rattle.gtb.specs.Shape.{Lawful, wordLength};
 ghost use Rattle.correction.specs.Error.{checkOf};
 
-// The number of the check of direction t on position j: every reader takes it from here, but for a search by rows.
+// The number of the check of direction t on position j: where no table is lent every reader takes it from here, but for a search by rows.
 pub fn check_number(shape: Shape, t: usize, j: usize) -> usize
     requires { ⌜ Lawful shape × (t < shape .n) × (j < wordLength shape) ⌝ }
     ensures { λ r. ⌜ r ≡ checkOf shape j t ⌝ }

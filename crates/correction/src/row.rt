@@ -13,7 +13,7 @@ ghost use Rattle.correction.specs.Steps.{Shifts};
 
 // Column c of the row is on line c + shift modulo q of a direction from 1 on. The shifts, slope × row modulo q, are put down where room
 // is lent: handed back by value they would be copied before the last of them is stored, which costs more than all else here.
-pub fn put_shifts(shape: Shape, row: usize, shifts: &mut [usize; 8])
+fn put_shifts(shape: Shape, row: usize, shifts: &mut [usize; 8])
     requires { ⌜ Lawful shape × (row < shape .q) × (length (now shifts) ≡ 8) ⌝ }
     ensures { λ _. ⌜ Shifts shape row (shape .n) (now (shifts .exit)) ⌝ }
 {

@@ -1,8 +1,8 @@
 -- The vote at one position, by the table of syndromes.
-use mathlib.Core.Path.{_≡_, refl, sym, ap, ap₂, _∙_}
+use mathlib.Core.Path.{_≡_, sym, ap, ap₂, _∙_}
 use mathlib.Core.Bool.{Bool, true, false, not, _&&_}
 use mathlib.Core.List.{List}
-use Prim.Native.Nat.{ℕ, zero, suc, _+_, _*_, _/_, _%_, _<_, _≤_}
+use Prim.Native.Nat.{ℕ, _+_, _*_, _/_, _<_, _≤_}
 use native.Mathlib.Nat.{zero-add}
 use native.Mathlib.Omega.{arith}
 use lib.Arith.{digits-div}
@@ -16,12 +16,11 @@ use Rattle.parity.proofs.Sums.{count-zero, count-more, count-bound}
 use Rattle.parity.proofs.First.{first-at, first-none}
 use Rattle.gtb.specs.declared.Shape.{Shape}
 use Rattle.gtb.specs.Square.{at}
-use Rattle.correction.specs.Steps.{Shifts}
 use Rattle.correction.proofs.Listing.{count-grows}
-use Rattle.correction.proofs.Rows.{own-check, shift-check}
+use Rattle.correction.proofs.Rows.{own-check}
 use Rattle.majority.specs.Majority.{shows, majority}
 use Rattle.majority.specs.Steps.{checkIn, prevailing, votedIn, changes, passedOver, foundIn}
-use Rattle.majority.proofs.Votes.{shows-cong, majority-quiet, majority-cong}
+use Rattle.majority.proofs.Votes.{majority-quiet, majority-cong}
 
 -- ---- counting
 pub shows-zero : (v : ℕ → ℕ) (x : ℕ) → 0 ≡ shows 0 v x
@@ -73,44 +72,15 @@ unfolding majority prevailing
 elects-none {n} {v} h = sym (first-none n (λ t. prevailing n v (v t)) v (h .fails))
 
 -- ---- the silent checks on a position
--- what the checks on column c of the row show, by the shifts
-pub seen : ℕ → List ℕ → List ℕ → ℕ → ℕ → ℕ → ℕ
-seen q syn shifts row c zero = at syn row
-seen q syn shifts row c (suc t) = at syn (suc t * q + (c + at shifts (suc t)) % q)
-
-seen-later : (q : ℕ) (syn shifts : List ℕ) (row c t : ℕ) → 1 ≤ t → seen q syn shifts row c t ≡ at syn (t * q + (c + at shifts t) % q)
-unfolding seen
-seen-later q syn shifts row c zero one = absurd (omega arith)
-seen-later q syn shifts row c (suc t) one = refl
-
 -- that of the row
-pub silent-first : (q : ℕ) (syn shifts : List ℕ) (row c : ℕ) {own : ℕ} → own ≡ bit (eqb (at syn row) 0) → own ≡ shows 1 (seen q syn shifts row c) 0
-unfolding seen
-silent-first q syn shifts row c {own} e = sym (zero-add own) ∙ shows-more {c = 0} {h = own} 0 (seen q syn shifts row c) 0 (shows-zero _ 0) e
+pub silent-first : (s : Shape) (syn : List ℕ) (row : ℕ) {c own : ℕ} → c < s .q → own ≡ bit (eqb (at syn row) 0) → own ≡ shows 1 (checkIn s syn (row * s .q + c)) 0
+silent-first s syn row {c} {own} l e =
+    sym (zero-add own) ∙ shows-more {c = 0} {h = own} 0 _ 0 (shows-zero _ 0) (e ∙ ap (λ (x : ℕ). bit (eqb (at syn x) 0)) (own-check s row l))
 
--- that of a direction from 1 on
-pub silent-more : (q : ℕ) (syn shifts : List ℕ) (row c t : ℕ) {line h silent : ℕ} → 1 ≤ t → line ≡ (c + at shifts t) % q
-    → h ≡ bit (eqb (at syn (t * q + line)) 0) → silent ≡ shows t (seen q syn shifts row c) 0 → silent + h ≡ shows (t + 1) (seen q syn shifts row c) 0
-silent-more q syn shifts row c t one e b so-far =
-    shows-more t (seen q syn shifts row c) 0 so-far
-    (b ∙ ap (λ (k : ℕ). bit (eqb (at syn (t * q + k)) 0)) e ∙ ap (λ (x : ℕ). bit (eqb x 0)) (sym (seen-later q syn shifts row c t one)))
-
-module _ {s : Shape} {row : ℕ} {shifts : List ℕ} (given : Shifts s row (s .n) shifts) (syn : List ℕ) (c : ℕ) (lc : c < s .q) where
-  seen-check : (t : ℕ) → t < s .n → seen (s .q) syn shifts row c t ≡ checkIn s syn (row * s .q + c) t
-  unfolding seen
-  seen-check zero lt = ap (at syn) (own-check s row lc)
-  seen-check (suc t) lt = ap (at syn) (shift-check given (suc t) c lc lt (omega arith) refl)
-
-  -- half of the checks are silent
-  pub silent-half : (t : ℕ) {silent : ℕ} → t ≤ s .n → silent ≡ shows t (seen (s .q) syn shifts row c) 0 → s .n ≤ 2 * silent → votedIn s syn (row * s .q + c) ≡ 0
-  unfolding votedIn
-  silent-half t l e half =
-      majority-quiet (s .n) _
-      (omega (
-        arith,
-        shows-cong t (seen (s .q) syn shifts row c) (checkIn s syn (row * s .q + c)) 0 (λ u lu. seen-check u (omega arith)),
-        shows-grows t (s .n) (checkIn s syn (row * s .q + c)) 0 l,
-      ))
+-- half of the checks are silent, or more
+pub silent-half : (s : Shape) (syn : List ℕ) (j t : ℕ) {silent : ℕ} → t ≤ s .n → silent ≡ shows t (checkIn s syn j) 0 → s .n ≤ 2 * silent → votedIn s syn j ≡ 0
+unfolding votedIn
+silent-half s syn j t l e half = majority-quiet (s .n) _ (omega (arith, shows-grows t (s .n) (checkIn s syn j) 0 l))
 
 -- ---- a position that changes, or not
 pub stays : (s : Shape) (syn : List ℕ) (j : ℕ) → votedIn s syn j ≡ 0 → changes s syn j ≡ false

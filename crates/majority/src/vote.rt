@@ -1,5 +1,5 @@
 // The vote at one position: the nonzero value that more than half of its checks show.
-use correction::checks::check_number;
+use correction::shipped::number_by;
 use gtb::Shape;
 ghost use mathlib.Core.Path.{_≡_};
 ghost use Prim.Native.Nat.{_*_, _<_, _≤_};
@@ -8,6 +8,7 @@ ghost use Rattle.parity.specs.Lists.{Begins};
 ghost use Rattle.parity.specs.Count.{bit};
 ghost use Rattle.gtb.specs.Shape.{Lawful, wordLength};
 ghost use Rattle.gtb.specs.Square.{at};
+ghost use Rattle.correction.specs.Shipped.{Tabled};
 ghost use Rattle.majority.specs.Majority.{shows, majority};
 ghost use Rattle.majority.specs.Steps.{checkIn, prevailing, votedIn};
 
@@ -22,14 +23,14 @@ pub fn hit(value: u32, x: u32) -> usize
 }
 
 // What the n checks on position j show.
-fn gather(shape: Shape, syn: &[u32; 248], j: usize) -> [u32; 8]
-    requires { ⌜ Lawful shape × (j < wordLength shape) ⌝ }
+fn gather(shape: Shape, tabled: bool, table: &[u8], syn: &[u32; 248], j: usize) -> [u32; 8]
+    requires { ⌜ Lawful shape × Tabled shape tabled (now table) × (j < wordLength shape) ⌝ }
     ensures { λ r. ⌜ Begins 8 (shape .n) (checkIn shape (now (syn .entry)) j) r ⌝ }
 {
     let n = shape.n as usize;
     let mut values = [0u32; 8];
     for t in 0..n {
-        values[t] = syn[check_number(shape, t, j)];
+        values[t] = syn[number_by(shape, tabled, table, t, j)];
     }
     values
 }
@@ -72,11 +73,11 @@ fn elect(values: &[u32; 8], n: usize) -> u32
 }
 
 // The change at position j.
-pub fn vote(shape: Shape, syn: &[u32; 248], j: usize) -> u32
-    requires { ⌜ Lawful shape × (j < wordLength shape) ⌝ }
+pub fn vote(shape: Shape, tabled: bool, table: &[u8], syn: &[u32; 248], j: usize) -> u32
+    requires { ⌜ Lawful shape × Tabled shape tabled (now table) × (j < wordLength shape) ⌝ }
     ensures { λ r. ⌜ r ≡ votedIn shape (now (syn .entry)) j ⌝ }
 {
     let n = shape.n as usize;
-    let values = gather(shape, syn, j);
+    let values = gather(shape, tabled, table, syn, j);
     elect(&values, n)
 }

@@ -11,22 +11,22 @@ use Rattle.majority.proofs.correct.evaluate.Statement.{statement}
 use Rattle.majority.proofs.correct.evaluate.Tie as tie
 
 abbrev Inv-loop : tie.InvT-loop
-Inv-loop shape syn places count errors₀ x₀ errors x = (x ≤ count) × Begins 8 x (λ y. votedIn shape syn (at places y)) errors
+Inv-loop shape tabled table syn places errors₀ count x₀ errors x = (x ≤ count) × Begins 8 x (λ y. votedIn shape syn (at places y)) errors
 
 abbrev μ-loop : tie.MeasureT-loop
-μ-loop shape syn places count errors₀ x₀ errors x = count - x
+μ-loop shape tabled table syn places errors₀ count x₀ errors x = count - x
 
 loop-holds : tie.Need-loop-holds Inv-loop μ-loop
-loop-holds c = (search needs, begins-none (c .pre .1))
+loop-holds c = (search needs, begins-none (c .before .pre .2))
 
 -- the lists have 8 entries
 inside : (c : tie.In-loop Inv-loop μ-loop) → c .before .loop .x < 8
-inside c = omega (arith, c .before .before .pre .2 .few)
+inside c = omega (arith, c .before .before .before .pre .3 .few)
 
 vote-requires : tie.Need-vote-requires Inv-loop μ-loop
 vote-requires c κs =
-    let p = c .before .before .before .pre in
-    (p .0, p .2 .below (c .before .before .loop .x) (c .before .loop-test .taken))
+    let p = c .before .before .before .before .pre in
+    (p .0, p .1, p .3 .below (c .before .before .loop .x) (c .before .loop-test .taken))
 
 loop-again : tie.Need-loop-again Inv-loop μ-loop
 loop-again c = (search needs, begins-more (c .vote .result) (inside (c .before .before)) (c .vote .ensures) (c .before .before .before .loop .inv .1))

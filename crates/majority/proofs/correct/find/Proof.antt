@@ -5,7 +5,6 @@ use borrow.Author.Needs.{needs}
 use Rattle.gtb.specs.Shape.{wordLength}
 use Rattle.gtb.proofs.Bounds.{bounds}
 use Rattle.correction.specs.Steps.{Within, Listed}
-use Rattle.correction.proofs.Tabulated.{untabled}
 use Rattle.correction.proofs.Listing.{within}
 use Rattle.majority.specs.Steps.{foundIn}
 use Rattle.majority.proofs.Reading.{found-many, found-changes, found-loud}
@@ -13,47 +12,41 @@ use Rattle.majority.proofs.correct.find.Statement.{statement}
 use Rattle.majority.proofs.correct.find.Tie as tie
 
 add-limit : tie.Need-add-limit
-add-limit c = omega (arith, bounds _ (c .before .pre .0) .n8)
+add-limit c = omega (arith, bounds _ (c .before .before .pre .0) .n8)
 
 locate-requires : tie.Need-locate-requires
-locate-requires c κs = let p = c .before .before .before .pre in (p .0, p .2)
+locate-requires c κs = let p = c .before .before .before .before .pre in (p .0, p .1, p .3)
 
 returns : tie.Need-returns
-returns c = let s = c .before .before .before .before .before in found-many (s .args .loud) (s .pre .0) (c .before .locate .ensures .many (c .if1 .taken))
+returns c = let s = c .before .before .before .before .before .before in found-many (s .args .loud) (s .pre .0) (c .before .locate .ensures .many (c .if1 .taken))
 
 -- the list, and that it is one of positions
 abbrev start : tie.Else1 → tie.Start
-start c = c .before .before .before .before .before
+start c = c .before .before .before .before .before .before
 
-listed : (c : tie.Else1) → Listed (foundIn (start c .args .shape) (start c .args .syn .now) (start c .args .loud)) (wordLength (start c .args .shape)) (c .before .locate .result) (c .before .locate .last .1 .1 .1 .0)
+listed : (c : tie.Else1) → Listed (foundIn (start c .args .shape) (start c .args .syn .now) (start c .args .loud)) (wordLength (start c .args .shape)) (c .before .locate .result) (c .before .locate .last .1 .1 .1 .1 .1 .0)
 listed c = c .before .locate .ensures .few (c .if1 .left)
 
-inside : (c : tie.Else1) → Within (start c .args .shape) (c .before .locate .result) (c .before .locate .last .1 .1 .1 .0)
+inside : (c : tie.Else1) → Within (start c .args .shape) (c .before .locate .result) (c .before .locate .last .1 .1 .1 .1 .1 .0)
 inside c = within (start c .pre .0) (omega (arith, c .if1 .left, bounds (start c .args .shape) (start c .pre .0) .n2)) (listed c)
 
 evaluate-requires : tie.Need-evaluate-requires
-evaluate-requires c κs =
-    let e = c .before .before .before in
-    let p = start e .pre in
-    (p .0, p .3, inside e)
+evaluate-requires c κs = let e = c .before .before .before in (start e .pre .0, start e .pre .1, start e .pre .4, inside e)
 
 cancel-by-requires : tie.Need-cancel-by-requires
-cancel-by-requires c κs =
-    let e = c .before .before .before .before .before .before .before .before in
-    let p = start e .pre in
-    (p .0, untabled _ _, p .1, inside e)
+cancel-by-requires c κs = let e = c .before .before .before .before .before .before .before in (start e .pre .0, start e .pre .1, start e .pre .2, inside e)
 
 returns-2 : tie.Need-returns-2
 returns-2 c =
-    let m = c .before .before .before .before .before .before .before .before in
+    let m = c .before .before .before .before .before .before .before in
     let e = m .before .before .before .before in
     found-changes (start e .args .loud) (start e .pre .0) (e .if1 .left) (listed e) (m .evaluate .ensures) (c .before .before .before .cancel-by .ensures) (sym (c .before .is-silent .ensures) ∙ c .if2 .taken)
 
 returns-3 : tie.Need-returns-3
 returns-3 c =
-    let m = c .before .before .before .before .before .before .before .before in
+    let m = c .before .before .before .before .before .before .before in
     let e = m .before .before .before .before in
     found-loud (start e .args .loud) (start e .pre .0) (e .if1 .left) (listed e) (m .evaluate .ensures) (c .before .before .before .cancel-by .ensures) (sym (c .before .is-silent .ensures) ∙ c .if2 .left)
 
 pub find-spec : {M : Type 1} → statement M
-find-spec = tie.close (tie.spec (λ c. search needs) add-limit locate-requires returns evaluate-requires (λ c. search needs) cancel-by-requires (λ c κs. search needs) returns-2 returns-3)
+find-spec = tie.close (tie.spec (λ c. search needs) add-limit locate-requires returns evaluate-requires cancel-by-requires (λ c κs. search needs) returns-2 returns-3)

@@ -16,20 +16,20 @@ returns : tie.Need-returns
 returns c = record { next = λ p same. listed-skip (same ∙ stays _ _ _ (c .before .is-quiet .ensures (c .if1 .taken))) }
 
 -- the position is in the word, and small
-place : (c : tie.Else1) → c .before .before .before .args .row * c .before .before .before .args .shape .q + c .before .before .before .args .column < 961
+place : (c : tie.Else1) → let a = c .before .before .before .before .args in a .row * a .shape .q + a .column < 961
 place c =
-    let s = c .before .before .before in
-    lt-of-lt-of-le (in-word (s .args .shape) (s .pre .3) (s .pre .4)) (square-le (s .args .shape .q) (bounds (s .args .shape) (s .pre .0) .q31))
+    let s = c .before .before .before .before in
+    lt-of-lt-of-le (in-word (s .args .shape) (s .pre .4) (s .pre .5)) (square-le (s .args .shape .q) (bounds (s .args .shape) (s .pre .0) .q31))
 
 vote-requires : tie.Need-vote-requires
-vote-requires c κs = let s = c .before .before .before in (s .pre .0, in-word (s .args .shape) (s .pre .3) (s .pre .4))
+vote-requires c κs = let s = c .before .before .before .before in (s .pre .0, s .pre .1, in-word (s .args .shape) (s .pre .4) (s .pre .5))
 
 returns-2 : tie.Need-returns-2
 returns-2 c = record { next = λ p same. listed-skip (same ∙ stays _ _ _ (sym (c .before .vote .ensures) ∙ c .if2 .taken)) }
 
 -- there is room for one more
-room : (c : tie.Else2) → c .before .before .before .before .before .args .count < 8
-room c = let s = c .before .before .before .before .before in omega (arith, bounds (s .args .shape) (s .pre .0) .n8, s .pre .5)
+room : (c : tie.Else2) → c .before .before .before .before .before .before .args .count < 8
+room c = let s = c .before .before .before .before .before .before in omega (arith, bounds (s .args .shape) (s .pre .0) .n8, s .pre .6)
 
 returns-3 : tie.Need-returns-3
 returns-3 c = record { next = λ p same. listed-keep (same ∙ changes-there _ _ _ (λ z. c .if2 .left (c .before .vote .ensures ∙ z))) (room c) }

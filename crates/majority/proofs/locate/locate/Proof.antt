@@ -13,27 +13,28 @@ use Rattle.majority.proofs.locate.locate.Statement.{statement}
 use Rattle.majority.proofs.locate.locate.Tie as tie
 
 abbrev Inv-loop : tie.InvT-loop
-Inv-loop shape syn loud places₀ q n limit found₀ row₀ places found row = (row ≤ q) × (found < limit) × Listed (foundIn shape syn loud) (row * q) found places
+Inv-loop shape tabled table syn loud places₀ q n limit found₀ row₀ places found row = (row ≤ q) × (found < limit) × Listed (foundIn shape syn loud) (row * q) found places
 
 abbrev μ-loop : tie.MeasureT-loop
-μ-loop shape syn loud places₀ q n limit found₀ row₀ places found row = q - row
+μ-loop shape tabled table syn loud places₀ q n limit found₀ row₀ places found row = q - row
 
 add-limit : tie.Need-add-limit Inv-loop μ-loop
-add-limit c = omega (arith, bounds _ (c .before .before .pre .0) .n8)
+add-limit c = omega (arith, bounds _ (c .before .before .before .pre .0) .n8)
 
 loop-holds : tie.Need-loop-holds Inv-loop μ-loop
 loop-holds c =
-    let s = c .before .before in
-    (search needs, omega arith, rw (zero-mul (s .args .shape .q)) (listed-none _ _ (s .pre .1)))
+    let s = c .before .before .before in
+    (search needs, omega arith, rw (zero-mul (s .args .shape .q)) (listed-none _ _ (s .pre .2)))
 
 scan-row-requires : tie.Need-scan-row-requires Inv-loop μ-loop
 scan-row-requires c κs =
     let i = c .before .before .loop .inv in
-    (c .before .before .before .before .before .pre .0, c .before .loop-test .taken, i .1, i .2)
+    let p = c .before .before .before .before .before .before .pre in
+    (p .0, p .1, c .before .loop-test .taken, i .1, i .2)
 
 returns : tie.Need-returns Inv-loop μ-loop
 returns c =
-    let s = c .before .before .before .before .before .before .before .args .shape in
+    let s = c .before .before .before .before .before .before .before .before .args .shape in
     let row = c .before .before .before .before .loop .row in
     scanned-many (row * s .q + s .q) (row-in row (s .q) (c .before .before .before .loop-test .taken)) (c .before .scan-row .ensures .many (c .if1 .taken))
 

@@ -13,37 +13,37 @@ use Rattle.majority.proofs.locate.scan_row.Statement.{statement}
 use Rattle.majority.proofs.locate.scan_row.Tie as tie
 
 abbrev Inv-loop : tie.InvT-loop
-Inv-loop shape syn loud row places₀ count q n limit value shifts own found₀ c₀ places found c = (c ≤ q) × (found < limit) × Listed (foundIn shape syn loud) (row * q + c) found places
+Inv-loop shape tabled table syn loud row places₀ count q n limit value shifts own k₀ c₀ places k c = (c ≤ q) × (k < limit) × Listed (foundIn shape syn loud) (row * q + c) k places
 
 abbrev μ-loop : tie.MeasureT-loop
-μ-loop shape syn loud row places₀ count q n limit value shifts own found₀ c₀ places found c = q - c
+μ-loop shape tabled table syn loud row places₀ count q n limit value shifts own k₀ c₀ places k c = q - c
 
 add-limit : tie.Need-add-limit Inv-loop μ-loop
-add-limit c = omega (arith, bounds _ (c .before .before .pre .0) .n8)
+add-limit c = omega (arith, bounds _ (c .before .before .before .pre .0) .n8)
 
 -- a row's own check is in the table
-inside : (c : tie.After-struct-known2 Inv-loop μ-loop) → c .before .before .args .row < 248
-inside c = let s = c .before .before in omega (arith, bounds (s .args .shape) (s .pre .0) .q31, s .pre .1)
+inside : (c : tie.After-struct-known2 Inv-loop μ-loop) → c .before .before .before .args .row < 248
+inside c = let s = c .before .before .before in omega (arith, bounds (s .args .shape) (s .pre .0) .q31, s .pre .2)
 
 returns : tie.Need-returns Inv-loop μ-loop
 returns c =
-    let s = c .before .before .before .before .before in
-    scanned-few (s .pre .2)
+    let s = c .before .before .before .before .before .before in
+    scanned-few (s .pre .3)
     (listed-skips (s .args .shape .q)
     (λ column l. nothing-found (s .args .shape) (s .args .syn .now) (s .args .loud) (s .args .row) column l (sym (c .before .is-passed-over .ensures) ∙ c .if1 .taken))
-    (s .pre .3))
+    (s .pre .4))
 
 loop-holds : tie.Need-loop-holds Inv-loop μ-loop
 loop-holds c =
-    let s = c .before .before .before .before .before .before .before .before in
-    (search needs, s .pre .2, rw (add-zero (s .args .row * s .args .shape .q)) (s .pre .3))
+    let s = c .before .before .before .before .before .before .before .before .before in
+    (search needs, s .pre .3, rw (add-zero (s .args .row * s .args .shape .q)) (s .pre .4))
 
 keep-requires : tie.Need-keep-requires Inv-loop μ-loop
 keep-requires c κs =
     let l = c .before .before .before in
     let h = l .before in
-    let p = h .before .before .before .before .before .before .before .before .pre in
-    (p .0, h .before .put-shifts .ensures, h .hit .ensures, p .1, c .before .before .loop-test .taken, l .loop .inv .1, l .loop .inv .2 .size)
+    let p = h .before .before .before .before .before .before .before .before .before .pre in
+    (p .0, p .1, h .before .shifts-by .ensures, h .hit .ensures, p .2, c .before .before .loop-test .taken, l .loop .inv .1, l .loop .inv .2 .size)
 
 -- the row was not passed over
 module _ (c : tie.After-keep Inv-loop μ-loop) where
@@ -51,7 +51,7 @@ module _ (c : tie.After-keep Inv-loop μ-loop) where
   loop = c .before .before .before .before
 
   abbrev start : tie.Start Inv-loop μ-loop
-  start = loop .before .before .before .before .before .before .before .before .before
+  start = loop .before .before .before .before .before .before .before .before .before .before
 
   same : foundIn (start .args .shape) (start .args .syn .now) (start .args .loud) (start .args .row * start .args .shape .q + loop .loop .c) ≡ changes (start .args .shape) (start .args .syn .now) (start .args .row * start .args .shape .q + loop .loop .c)
   same =

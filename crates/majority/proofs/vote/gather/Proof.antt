@@ -13,22 +13,22 @@ use Rattle.majority.proofs.vote.gather.Statement.{statement}
 use Rattle.majority.proofs.vote.gather.Tie as tie
 
 abbrev Inv-loop : tie.InvT-loop
-Inv-loop shape syn j n values₀ t₀ values t = (t ≤ n) × Begins 8 t (checkIn shape syn j) values
+Inv-loop shape tabled table syn j n values₀ t₀ values t = (t ≤ n) × Begins 8 t (checkIn shape syn j) values
 
 abbrev μ-loop : tie.MeasureT-loop
-μ-loop shape syn j n values₀ t₀ values t = n - t
+μ-loop shape tabled table syn j n values₀ t₀ values t = n - t
 
 -- the check is in the table, and the direction in the list
-inside : (c : tie.After-check-number Inv-loop μ-loop) → c .check-number .result < 248
+inside : (c : tie.After-number-by Inv-loop μ-loop) → c .number-by .result < 248
 inside c =
-    let s = c .before .before .before .before in
-    rw (c .check-number .ensures) (check-fits (s .args .shape) (s .pre .0) (c .before .before .loop .t) (s .args .j) (c .before .loop-test .taken) (s .pre .1))
+    let s = c .before .before .before .before .before in
+    rw (c .number-by .ensures) (check-fits (s .args .shape) (s .pre .0) (c .before .before .loop .t) (s .args .j) (c .before .loop-test .taken) (s .pre .2))
 
-room : (c : tie.After-check-number Inv-loop μ-loop) → c .before .before .loop .t < 8
-room c = omega (arith, bounds (c .before .before .before .before .args .shape) (c .before .before .before .before .pre .0) .n8)
+room : (c : tie.After-number-by Inv-loop μ-loop) → c .before .before .loop .t < 8
+room c = let s = c .before .before .before .before .before in omega (arith, bounds (s .args .shape) (s .pre .0) .n8)
 
 loop-again : tie.Need-loop-again Inv-loop μ-loop
-loop-again c = (search needs, begins-more _ (room (c .before)) (rw (c .before .check-number .ensures)) (c .before .before .before .loop .inv .1))
+loop-again c = (search needs, begins-more _ (room (c .before)) (rw (c .before .number-by .ensures)) (c .before .before .before .loop .inv .1))
 
 returns : tie.Need-returns Inv-loop μ-loop
 returns c = rw (le-antisymm (c .before .loop .inv .0) (c .loop-test .left)) at (c .before .loop .inv .1)

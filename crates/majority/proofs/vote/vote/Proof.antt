@@ -7,7 +7,7 @@ use Rattle.majority.proofs.vote.vote.Statement.{statement}
 use Rattle.majority.proofs.vote.vote.Tie as tie
 
 elect-requires : tie.Need-elect-requires
-elect-requires c κs = bounds _ (c .before .before .before .pre .0) .n8
+elect-requires c κs = bounds _ (c .before .before .before .before .pre .0) .n8
 
 returns : tie.Need-returns
 returns c = c .elect .ensures ∙ values-vote _ _ _ (c .before .before .gather .ensures)
