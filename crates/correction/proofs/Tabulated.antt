@@ -1,5 +1,5 @@
 -- The table of check numbers: its rule by one computed test, and that it agrees with the formula.
-use mathlib.Core.Path.{_≡_, refl, sym, ap, ap₂, _∙_, subst}
+use mathlib.Core.Path.{_≡_, sym, ap, ap₂, _∙_, subst}
 use mathlib.Core.Bool.{Bool, true, false, _&&_}
 use mathlib.Core.List.{List, [], _∷_}
 use Prim.Native.Nat.{ℕ, zero, suc, _+_, _*_, _/_, _%_, _<_}
@@ -8,7 +8,7 @@ use native.Mathlib.Omega.{arith}
 use lib.Dec.{eqb}
 use lib.ListN.{length, getD}
 use borrow.Author.Tests.{eq-eqb, ne-eqb, eqb-true}
-use Rattle.parity.proofs.Tests.{clash, and-left, and-right}
+use Rattle.parity.proofs.Tests.{and-left, and-right}
 use Rattle.gtb.specs.declared.Shape.{Shape}
 use Rattle.gtb.specs.Shape.{wordLength, slopeOf}
 use Rattle.gtb.specs.Square.{lineOf, at}
@@ -111,7 +111,7 @@ module _ (s : Shape) (is : isShipped s ≡ true) where
       position : (j : ℕ) → j < wordLength s → j < 289
       position j l = rw (shipped s is .q) at l
 
-  pub tabled : (table : List ℕ) → CheckNumbers table → Tabled s true table
+  pub tabled : (table : List ℕ) → CheckNumbers table → Tabled s table
   tabled table rule = record {
     shipped = λ lent. is;
     number = λ lent j t lj lt.
@@ -120,6 +120,6 @@ module _ (s : Shape) (is : isShipped s ≡ true) where
         (omega (arith, rule .size), table-formula table rule j t lj lt);
   }
 
--- no table is lent
-pub untabled : (s : Shape) (table : List ℕ) → Tabled s false table
-untabled s table = record { shipped = λ lent. absurd (clash lent refl); number = λ lent. absurd (clash lent refl) }
+-- an empty table is none
+pub untabled : (s : Shape) (table : List ℕ) → length table ≡ 0 → Tabled s table
+untabled s table empty = record { shipped = λ lent. absurd (lent empty); number = λ lent. absurd (lent empty) }

@@ -24,7 +24,7 @@ pub record CheckNumbers (table : List ℕ) : Type 0 where
   pub size : length table ≡ 1156
   pub number : (j t : ℕ) → j < 289 → t < 4 → at table (4 * j + t) ≡ t * 17 + shippedLine t j
 
--- a lent table, if there is one: the shape is the shipped one, and these are its check numbers
-pub record Tabled (s : Shape) (tabled : Bool) (table : List ℕ) : Type 0 where
-  pub shipped : tabled ≡ true → isShipped s ≡ true
-  pub number : tabled ≡ true → (j t : ℕ) → j < wordLength s → t < s .n → (4 * j + t < length table) × (at table (4 * j + t) ≡ checkOf s j t)
+-- a lent table that is not empty: the shape is the shipped one, and these are its check numbers
+pub record Tabled (s : Shape) (table : List ℕ) : Type 0 where
+  pub shipped : (length table ≡ 0 → ⊥) → isShipped s ≡ true
+  pub number : (length table ≡ 0 → ⊥) → (j t : ℕ) → j < wordLength s → t < s .n → (4 * j + t < length table) × (at table (4 * j + t) ≡ checkOf s j t)

@@ -10,13 +10,13 @@ ghost use Rattle.correction.specs.Shipped.{Tabled};
 ghost use Rattle.correction.specs.Steps.{quiet, Toggled, Within, Cancelled};
 
 // The n checks on position j.
-fn cancel_one(shape: Shape, tabled: bool, table: &[u8], syn: &mut [u32; 248], j: usize, error: u32)
-    requires { ⌜ Lawful shape × Tabled shape tabled (now table) × (length (now syn) ≡ 248) × (j < wordLength shape) ⌝ }
+fn cancel_one(shape: Shape, table: &[u8], syn: &mut [u32; 248], j: usize, error: u32)
+    requires { ⌜ Lawful shape × Tabled shape (now table) × (length (now syn) ≡ 248) × (j < wordLength shape) ⌝ }
     ensures { λ _. ⌜ Toggled (shape .n) (checkOf shape j) (λ t. error) (now (syn .entry)) (now (syn .exit)) ⌝ }
 {
     let n = shape.n as usize;
     for t in 0..n {
-        let check = number_by(shape, tabled, table, t, j);
+        let check = number_by(shape, table, t, j);
         syn[check] ^= error;
     }
 }
@@ -24,18 +24,17 @@ fn cancel_one(shape: Shape, tabled: bool, table: &[u8], syn: &mut [u32; 248], j:
 // The checks on the first `count` places, by the table where one is lent.
 pub fn cancel_by(
     shape: Shape,
-    tabled: bool,
     table: &[u8],
     syn: &mut [u32; 248],
     places: &[usize; 8],
     errors: &[u32; 8],
     count: usize,
 )
-    requires { ⌜ Lawful shape × Tabled shape tabled (now table) × (length (now syn) ≡ 248) × Within shape count (now places) ⌝ }
+    requires { ⌜ Lawful shape × Tabled shape (now table) × (length (now syn) ≡ 248) × Within shape count (now places) ⌝ }
     ensures { λ _. ⌜ Cancelled shape count (now (places .entry)) (now (errors .entry)) (now (syn .entry)) (now (syn .exit)) ⌝ }
 {
     for x in 0..count {
-        cancel_one(shape, tabled, table, syn, places[x], errors[x]);
+        cancel_one(shape, table, syn, places[x], errors[x]);
     }
 }
 

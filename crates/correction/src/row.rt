@@ -3,7 +3,6 @@
 use crate::shipped::number_by;
 use gtb::Shape;
 ghost use mathlib.Core.Path.{_≡_};
-ghost use mathlib.Core.Bool.{false};
 ghost use Prim.Native.Nat.{_+_, _*_, _<_, _≤_};
 ghost use lib.ListN.{length};
 ghost use Rattle.gtb.specs.Shape.{Lawful};
@@ -28,11 +27,11 @@ fn put_shifts(shape: Shape, row: usize, shifts: &mut [usize; 8])
 }
 
 // The shifts of a row, where no table is lent: with one there is no need of them.
-pub fn shifts_by(shape: Shape, tabled: bool, row: usize, shifts: &mut [usize; 8])
+pub fn shifts_by(shape: Shape, table: &[u8], row: usize, shifts: &mut [usize; 8])
     requires { ⌜ Lawful shape × (row < shape .q) × (length (now shifts) ≡ 8) ⌝ }
-    ensures { λ _. ⌜ (tabled ≡ false → Shifts shape row (shape .n) (now (shifts .exit))) ⌝ }
+    ensures { λ _. ⌜ (length (now (table .entry)) ≡ 0 → Shifts shape row (shape .n) (now (shifts .exit))) ⌝ }
 {
-    if tabled {
+    if table.len() != 0 {
         return;
     }
     put_shifts(shape, row, shifts);
@@ -41,20 +40,19 @@ pub fn shifts_by(shape: Shape, tabled: bool, row: usize, shifts: &mut [usize; 8]
 // The number of a position's check in a direction from 1 on.
 pub fn check_in_row(
     shape: Shape,
-    tabled: bool,
     table: &[u8],
     shifts: &[usize; 8],
     t: usize,
     row: usize,
     column: usize,
 ) -> usize
-    requires { ⌜ Lawful shape × Tabled shape tabled (now table) × (tabled ≡ false → Shifts shape row (shape .n) (now shifts))
+    requires { ⌜ Lawful shape × Tabled shape (now table) × (length (now table) ≡ 0 → Shifts shape row (shape .n) (now shifts))
         × (1 ≤ t) × (t < shape .n) × (row < shape .q) × (column < shape .q) ⌝ }
     ensures { λ r. ⌜ r ≡ checkOf shape (row * shape .q + column) t ⌝ }
 {
     let q = shape.q as usize;
-    if tabled {
-        return number_by(shape, tabled, table, t, row * q + column);
+    if table.len() != 0 {
+        return number_by(shape, table, t, row * q + column);
     }
     t * q + gtb::add_mod(column, shifts[t], q)
 }

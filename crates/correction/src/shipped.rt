@@ -28,12 +28,12 @@ pub fn is_shipped(shape: Shape) -> bool
     slopes[2] == 2
 }
 
-// `check_number`, from the table where one is lent.
-pub fn number_by(shape: Shape, tabled: bool, table: &[u8], t: usize, j: usize) -> usize
-    requires { ⌜ Lawful shape × Tabled shape tabled (now table) × (t < shape .n) × (j < wordLength shape) ⌝ }
+// `check_number`, from the table where one is lent. An empty slice is none.
+pub fn number_by(shape: Shape, table: &[u8], t: usize, j: usize) -> usize
+    requires { ⌜ Lawful shape × Tabled shape (now table) × (t < shape .n) × (j < wordLength shape) ⌝ }
     ensures { λ r. ⌜ r ≡ checkOf shape j t ⌝ }
 {
-    if tabled {
+    if table.len() != 0 {
         let place = 4 * j + t;
         return table[place] as usize;
     }

@@ -21,22 +21,21 @@ ghost use Rattle.decoder.specs.Decode.{clean};
 // The corrections, places and errors: how many, or n if there are none that silence every check. They are tried on `syn`.
 fn find_by(
     shape: Shape,
-    tabled: bool,
     table: &[u8],
     syn: &mut [u32; 248],
     places: &mut [usize; 8],
     errors: &mut [u32; 8],
 ) -> usize
-    requires { ⌜ Lawful shape × Tabled shape tabled (now table) × (length (now syn) ≡ 248) × (length (now places) ≡ 8) × (length (now errors) ≡ 8) ⌝ }
+    requires { ⌜ Lawful shape × Tabled shape (now table) × (length (now syn) ≡ 248) × (length (now places) ≡ 8) × (length (now errors) ≡ 8) ⌝ }
     ensures { λ r. ⌜ Found clean shape (shape .n) true (now (syn .entry)) (now (places .exit)) (now (errors .exit)) r ⌝ }
 {
     let n = shape.n as usize;
-    let count = locate(shape, tabled, table, syn, places);
+    let count = locate(shape, table, syn, places);
     if n <= count {
         return n;
     }
-    evaluate(shape, tabled, table, syn, places, count, errors);
-    cancel_by(shape, tabled, table, syn, places, errors, count);
+    evaluate(shape, table, syn, places, count, errors);
+    cancel_by(shape, table, syn, places, errors, count);
     if is_silent(shape, syn) {
         return count;
     }
@@ -50,10 +49,10 @@ fn find(shape: Shape, syn: &mut [u32; 248], places: &mut [usize; 8], errors: &mu
 {
     if is_shipped(shape) {
         let table = check_numbers();
-        return find_by(shape, true, &table, syn, places, errors);
+        return find_by(shape, &table, syn, places, errors);
     }
-    let none = [0u8; 1];
-    find_by(shape, false, &none, syn, places, errors)
+    let none = [0u8; 0];
+    find_by(shape, &none, syn, places, errors)
 }
 
 // Test 4: the word is corrected, or left as it came. Where every check is silent nothing is to be found, and no table to be made.

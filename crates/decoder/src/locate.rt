@@ -22,7 +22,6 @@ pub struct Judgement {
 // the row first, whose value `own` is, up to the first silent one.
 pub fn judge(
     shape: Shape,
-    tabled: bool,
     table: &[u8],
     syn: &[u32; 248],
     own: u32,
@@ -30,7 +29,7 @@ pub fn judge(
     row: usize,
     column: usize,
 ) -> Judgement
-    requires { ⌜ Lawful shape × Tabled shape tabled (now table) × (tabled ≡ false → Shifts shape row (shape .n) (now shifts))
+    requires { ⌜ Lawful shape × Tabled shape (now table) × (length (now table) ≡ 0 → Shifts shape row (shape .n) (now shifts))
         × (own ≡ at (now syn) row) × (row < shape .q) × (column < shape .q) ⌝ }
     ensures { λ r. ⌜ Judges shape (now (syn .entry)) (row * shape .q + column) r ⌝ }
 {
@@ -42,7 +41,7 @@ pub fn judge(
     }
     let n = shape.n as usize;
     for t in 1..n {
-        let check = check_in_row(shape, tabled, table, shifts, t, row, column);
+        let check = check_in_row(shape, table, shifts, t, row, column);
         if syn[check] == 0 {
             let looked = t as u32 + 1;
             return Judgement {
@@ -60,7 +59,6 @@ pub fn judge(
 // The position in this row and column joins the list if it is located.
 fn keep(
     shape: Shape,
-    tabled: bool,
     table: &[u8],
     syn: &[u32; 248],
     own: u32,
@@ -70,12 +68,12 @@ fn keep(
     row: usize,
     column: usize,
 ) -> usize
-    requires { ⌜ Lawful shape × Tabled shape tabled (now table) × (tabled ≡ false → Shifts shape row (shape .n) (now shifts))
+    requires { ⌜ Lawful shape × Tabled shape (now table) × (length (now table) ≡ 0 → Shifts shape row (shape .n) (now shifts))
         × (own ≡ at (now syn) row) × (row < shape .q) × (column < shape .q) × (count < shape .n) × Listed (judged shape (now syn)) (row * shape .q + column) count (now places) ⌝ }
     ensures { λ r. ⌜ Listed (judged shape (now (syn .entry))) (row * shape .q + column + 1) r (now (places .exit)) ⌝ }
 {
     let q = shape.q as usize;
-    let judged = judge(shape, tabled, table, syn, own, shifts, row, column);
+    let judged = judge(shape, table, syn, own, shifts, row, column);
     if judged.located {
         places[count] = row * q + column;
         return count + 1;
@@ -86,14 +84,13 @@ fn keep(
 // One row. One whose own check is silent is passed over: none of its positions is located, and nothing is written down.
 fn scan_row(
     shape: Shape,
-    tabled: bool,
     table: &[u8],
     syn: &[u32; 248],
     row: usize,
     places: &mut [usize; 8],
     count: usize,
 ) -> usize
-    requires { ⌜ Lawful shape × Tabled shape tabled (now table) × (row < shape .q) × (count < shape .n) × Listed (judged shape (now syn)) (row * shape .q) count (now places) ⌝ }
+    requires { ⌜ Lawful shape × Tabled shape (now table) × (row < shape .q) × (count < shape .n) × Listed (judged shape (now syn)) (row * shape .q) count (now places) ⌝ }
     ensures { λ r. ⌜ Scanned (judged shape (now (syn .entry))) (shape .n) (row * shape .q + shape .q) r (now (places .exit))
         × (at (now (syn .entry)) row ≡ 0 → (r ≡ count) × (now (places .exit) ≡ now (places .entry))) ⌝ }
 {
@@ -104,21 +101,10 @@ fn scan_row(
     let q = shape.q as usize;
     let n = shape.n as usize;
     let mut shifts = [0usize; 8];
-    shifts_by(shape, tabled, row, &mut shifts);
+    shifts_by(shape, table, row, &mut shifts);
     let mut found = count;
     for c in 0..q {
-        found = keep(
-            shape,
-            tabled,
-            table,
-            syn,
-            check,
-            &shifts,
-            places,
-            found,
-            row,
-            c,
-        );
+        found = keep(shape, table, syn, check, &shifts, places, found, row, c);
         if n <= found {
             return n;
         }
@@ -127,21 +113,15 @@ fn scan_row(
 }
 
 // The whole word: the number of located positions, or n if there are more than n - 1.
-pub fn locate(
-    shape: Shape,
-    tabled: bool,
-    table: &[u8],
-    syn: &[u32; 248],
-    places: &mut [usize; 8],
-) -> usize
-    requires { ⌜ Lawful shape × Tabled shape tabled (now table) × (length (now places) ≡ 8) ⌝ }
+pub fn locate(shape: Shape, table: &[u8], syn: &[u32; 248], places: &mut [usize; 8]) -> usize
+    requires { ⌜ Lawful shape × Tabled shape (now table) × (length (now places) ≡ 8) ⌝ }
     ensures { λ r. ⌜ Scanned (judged shape (now (syn .entry))) (shape .n) (wordLength shape) r (now (places .exit)) ⌝ }
 {
     let q = shape.q as usize;
     let n = shape.n as usize;
     let mut found = 0;
     for row in 0..q {
-        found = scan_row(shape, tabled, table, syn, row, places, found);
+        found = scan_row(shape, table, syn, row, places, found);
         if n <= found {
             return n;
         }

@@ -15,36 +15,29 @@ ghost use Rattle.decoder.specs.Looking.{lookedAt};
 ghost use Rattle.decoder.specs.Steps.{lookedIn};
 
 // One row of the list.
-fn note_row(
-    shape: Shape,
-    tabled: bool,
-    table: &[u8],
-    syn: &[u32; 248],
-    row: usize,
-    looked: &mut [u32],
-)
-    requires { ⌜ Lawful shape × Tabled shape tabled (now table) × (row < shape .q) × Begins (wordLength shape) (row * shape .q) (lookedIn shape (now syn)) (now looked) ⌝ }
+fn note_row(shape: Shape, table: &[u8], syn: &[u32; 248], row: usize, looked: &mut [u32])
+    requires { ⌜ Lawful shape × Tabled shape (now table) × (row < shape .q) × Begins (wordLength shape) (row * shape .q) (lookedIn shape (now syn)) (now looked) ⌝ }
     ensures { λ _. ⌜ Begins (wordLength shape) (row * shape .q + shape .q) (lookedIn shape (now (syn .entry))) (now (looked .exit)) ⌝ }
 {
     let q = shape.q as usize;
     let own = syn[row];
     let mut shifts = [0usize; 8];
-    shifts_by(shape, tabled, row, &mut shifts);
+    shifts_by(shape, table, row, &mut shifts);
     for c in 0..q {
-        let judged = judge(shape, tabled, table, syn, own, &shifts, row, c);
+        let judged = judge(shape, table, syn, own, &shifts, row, c);
         looked[row * q + c] = judged.looked;
     }
 }
 
 // The whole list, by the table where one is lent.
-fn note_by(shape: Shape, tabled: bool, table: &[u8], word: &[u32], looked: &mut [u32])
-    requires { ⌜ Lawful shape × Tabled shape tabled (now table) × (length (now word) ≡ wordLength shape) × (length (now looked) ≡ wordLength shape) ⌝ }
+fn note_by(shape: Shape, table: &[u8], word: &[u32], looked: &mut [u32])
+    requires { ⌜ Lawful shape × Tabled shape (now table) × (length (now word) ≡ wordLength shape) × (length (now looked) ≡ wordLength shape) ⌝ }
     ensures { λ _. ⌜ now (looked .exit) ≡ tabulate (wordLength shape) (lookedAt shape (at (now (word .entry)))) ⌝ }
 {
     let syn = syndrome::syndromes(shape, word);
     let q = shape.q as usize;
     for row in 0..q {
-        note_row(shape, tabled, table, &syn, row, looked);
+        note_row(shape, table, &syn, row, looked);
     }
 }
 
@@ -55,9 +48,9 @@ pub fn note(shape: Shape, word: &[u32], looked: &mut [u32])
 {
     if is_shipped(shape) {
         let table = check_numbers();
-        note_by(shape, true, &table, word, looked);
+        note_by(shape, &table, word, looked);
         return;
     }
-    let none = [0u8; 1];
-    note_by(shape, false, &none, word, looked);
+    let none = [0u8; 0];
+    note_by(shape, &none, word, looked);
 }

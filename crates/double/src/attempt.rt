@@ -21,7 +21,6 @@ ghost use Rattle.double.specs.Steps.{Tried, Attempted, FoundTwo};
 // The corrections are tried on a copy of the syndromes.
 fn test_pair(
     shape: Shape,
-    tabled: bool,
     table: &[u8],
     syn: &[u32; 248],
     a: usize,
@@ -29,13 +28,13 @@ fn test_pair(
     b: usize,
     y: u32,
 ) -> Pair
-    requires { ⌜ Lawful shape × Tabled shape tabled (now table) × (length (now syn) ≡ 248) × (a < wordLength shape) × (b < wordLength shape) ⌝ }
+    requires { ⌜ Lawful shape × Tabled shape (now table) × (length (now syn) ≡ 248) × (a < wordLength shape) × (b < wordLength shape) ⌝ }
     ensures { λ r. ⌜ Tried shape (now (syn .entry)) a x b y r ⌝ }
 {
     let places = [a, b, 0, 0, 0, 0, 0, 0];
     let errors = [x, y, 0, 0, 0, 0, 0, 0];
     let mut left = *syn;
-    cancel_by(shape, tabled, table, &mut left, &places, &errors, 2);
+    cancel_by(shape, table, &mut left, &places, &errors, 2);
     let works = is_silent(shape, &left);
     Pair {
         works: works,
@@ -58,8 +57,8 @@ fn second_value(syn: &[u32; 248], first: usize, last: usize) -> u32
 }
 
 // Lines a and b of direction t, c and d of direction u: a meets c or d, and b the other.
-fn attempt(shape: Shape, tabled: bool, table: &[u8], syn: &[u32; 248], t: usize, u: usize) -> Pair
-    requires { ⌜ Lawful shape × Tabled shape tabled (now table) × (length (now syn) ≡ 248) × (t < u) × (u < shape .n) ⌝ }
+fn attempt(shape: Shape, table: &[u8], syn: &[u32; 248], t: usize, u: usize) -> Pair
+    requires { ⌜ Lawful shape × Tabled shape (now table) × (length (now syn) ≡ 248) × (t < u) × (u < shape .n) ⌝ }
     ensures { λ r. ⌜ Attempted shape (now (syn .entry)) t u r ⌝ }
 {
     let q = shape.q as usize;
@@ -71,12 +70,11 @@ fn attempt(shape: Shape, tabled: bool, table: &[u8], syn: &[u32; 248], t: usize,
     let y = second_value(syn, t * q + a, t * q + b);
     let straight = test_pair(
         shape,
-        tabled,
         table,
         syn,
-        cross(shape, tabled, table, t, u, a, c),
+        cross(shape, table, t, u, a, c),
         x,
-        cross(shape, tabled, table, t, u, b, d),
+        cross(shape, table, t, u, b, d),
         y,
     );
     if straight.works {
@@ -84,30 +82,29 @@ fn attempt(shape: Shape, tabled: bool, table: &[u8], syn: &[u32; 248], t: usize,
     }
     test_pair(
         shape,
-        tabled,
         table,
         syn,
-        cross(shape, tabled, table, t, u, a, d),
+        cross(shape, table, t, u, a, d),
         x,
-        cross(shape, tabled, table, t, u, b, c),
+        cross(shape, table, t, u, b, c),
         y,
     )
 }
 
 // Two positions share a line in at most one of three directions, so two of these part them.
-fn find_by(shape: Shape, tabled: bool, table: &[u8], syn: &[u32; 248]) -> Pair
-    requires { ⌜ Lawful shape × Tabled shape tabled (now table) × (length (now syn) ≡ 248) × (2 < shape .n) ⌝ }
+fn find_by(shape: Shape, table: &[u8], syn: &[u32; 248]) -> Pair
+    requires { ⌜ Lawful shape × Tabled shape (now table) × (length (now syn) ≡ 248) × (2 < shape .n) ⌝ }
     ensures { λ r. ⌜ FoundTwo shape (now (syn .entry)) r ⌝ }
 {
-    let first = attempt(shape, tabled, table, syn, 0, 1);
+    let first = attempt(shape, table, syn, 0, 1);
     if first.works {
         return first;
     }
-    let second = attempt(shape, tabled, table, syn, 0, 2);
+    let second = attempt(shape, table, syn, 0, 2);
     if second.works {
         return second;
     }
-    attempt(shape, tabled, table, syn, 1, 2)
+    attempt(shape, table, syn, 1, 2)
 }
 
 // The same, with the table of the shipped shape.
@@ -117,8 +114,8 @@ pub fn find(shape: Shape, syn: &[u32; 248]) -> Pair
 {
     if is_shipped(shape) {
         let table = check_numbers();
-        return find_by(shape, true, &table, syn);
+        return find_by(shape, &table, syn);
     }
-    let none = [0u8; 1];
-    find_by(shape, false, &none, syn)
+    let none = [0u8; 0];
+    find_by(shape, &none, syn)
 }

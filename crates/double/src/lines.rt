@@ -45,16 +45,8 @@ fn on_row(shape: Shape, u: usize, row: usize, line: usize) -> usize
 }
 
 // The position on line a of direction t and line b of direction u: in row a, or found row by row.
-pub fn cross(
-    shape: Shape,
-    tabled: bool,
-    table: &[u8],
-    t: usize,
-    u: usize,
-    a: usize,
-    b: usize,
-) -> usize
-    requires { ⌜ Lawful shape × Tabled shape tabled (now table) × (t < u) × (u < shape .n) × (a < shape .q) × (b < shape .q) ⌝ }
+pub fn cross(shape: Shape, table: &[u8], t: usize, u: usize, a: usize, b: usize) -> usize
+    requires { ⌜ Lawful shape × Tabled shape (now table) × (t < u) × (u < shape .n) × (a < shape .q) × (b < shape .q) ⌝ }
     ensures { λ r. ⌜ Crosses shape t u a b r ⌝ }
 {
     if t == 0 {
@@ -63,7 +55,7 @@ pub fn cross(
     let q = shape.q as usize;
     for row in 0..q {
         let j = on_row(shape, u, row, b);
-        if number_by(shape, tabled, table, t, j) == t * q + a {
+        if number_by(shape, table, t, j) == t * q + a {
             return j;
         }
     }

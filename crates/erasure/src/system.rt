@@ -26,12 +26,12 @@ fn mark(rows: usize, width: usize, scratch: &mut [u32], row: usize, k: usize)
 
 // The number of the check of direction t on position j, among the kept ones: direction after direction, line after line, without the
 // last line of each direction but the first. No check has the number 248.
-fn row_of(shape: Shape, tabled: bool, table: &[u8], t: usize, j: usize) -> usize
-    requires { ⌜ Lawful shape × Tabled shape tabled (now table) × (t < shape .n) × (j < wordLength shape) ⌝ }
+fn row_of(shape: Shape, table: &[u8], t: usize, j: usize) -> usize
+    requires { ⌜ Lawful shape × Tabled shape (now table) × (t < shape .n) × (j < wordLength shape) ⌝ }
     ensures { λ r. ⌜ Numbered shape t j r ⌝ }
 {
     let q = shape.q as usize;
-    let check = number_by(shape, tabled, table, t, j);
+    let check = number_by(shape, table, t, j);
     if t == 0 {
         return check;
     }
@@ -44,7 +44,6 @@ fn row_of(shape: Shape, tabled: bool, table: &[u8], t: usize, j: usize) -> usize
 // The check of direction t on position j has column k, if it is kept.
 fn mark_check(
     shape: Shape,
-    tabled: bool,
     table: &[u8],
     width: usize,
     scratch: &mut [u32],
@@ -52,12 +51,12 @@ fn mark_check(
     j: usize,
     t: usize,
 )
-    requires { ⌜ Lawful shape × Tabled shape tabled (now table) × (t < shape .n) × (j < wordLength shape) × (k < 32 * width) × (keptChecks shape * width ≤ length (now scratch)) ⌝ }
+    requires { ⌜ Lawful shape × Tabled shape (now table) × (t < shape .n) × (j < wordLength shape) × (k < 32 * width) × (keptChecks shape * width ≤ length (now scratch)) ⌝ }
     ensures { λ _.
         ⌜ Flipped width (keptChecks shape) (λ i c. eqb (keptDirection shape i) t && (eqb c k && onKept shape i j)) (now (scratch .entry)) (now (scratch .exit)) ⌝ }
 {
     let rows = kept_checks(shape);
-    let row = row_of(shape, tabled, table, t, j);
+    let row = row_of(shape, table, t, j);
     if rows <= row {
         return;
     }
@@ -65,34 +64,19 @@ fn mark_check(
 }
 
 // The kept checks on position j have column k.
-fn mark_place(
-    shape: Shape,
-    tabled: bool,
-    table: &[u8],
-    width: usize,
-    scratch: &mut [u32],
-    k: usize,
-    j: usize,
-)
-    requires { ⌜ Lawful shape × Tabled shape tabled (now table) × (j < wordLength shape) × (k < 32 * width) × (keptChecks shape * width ≤ length (now scratch)) ⌝ }
+fn mark_place(shape: Shape, table: &[u8], width: usize, scratch: &mut [u32], k: usize, j: usize)
+    requires { ⌜ Lawful shape × Tabled shape (now table) × (j < wordLength shape) × (k < 32 * width) × (keptChecks shape * width ≤ length (now scratch)) ⌝ }
     ensures { λ _. ⌜ Flipped width (keptChecks shape) (λ i c. eqb c k && onKept shape i j) (now (scratch .entry)) (now (scratch .exit)) ⌝ }
 {
     let n = shape.n as usize;
     for t in 0..n {
-        mark_check(shape, tabled, table, width, scratch, k, j, t);
+        mark_check(shape, table, width, scratch, k, j, t);
     }
 }
 
 // The kept checks on each place have its column, by the table where one is lent.
-fn mark_places_by(
-    shape: Shape,
-    tabled: bool,
-    table: &[u8],
-    width: usize,
-    scratch: &mut [u32],
-    places: &[u32],
-)
-    requires { ⌜ Lawful shape × Tabled shape tabled (now table) × Table shape width (length (now places)) (now scratch)
+fn mark_places_by(shape: Shape, table: &[u8], width: usize, scratch: &mut [u32], places: &[u32])
+    requires { ⌜ Lawful shape × Tabled shape (now table) × Table shape width (length (now places)) (now scratch)
         × ((k : ℕ) → k < length (now places) → at (now places) k < wordLength shape) ⌝ }
     ensures { λ _.
         ⌜ Flipped width (keptChecks shape) (λ i c. ltb c (length (now (places .entry))) && onKept shape i (at (now (places .entry)) c))
@@ -100,7 +84,7 @@ fn mark_places_by(
 {
     for k in 0..places.len() {
         let j = places[k] as usize;
-        mark_place(shape, tabled, table, width, scratch, k, j);
+        mark_place(shape, table, width, scratch, k, j);
     }
 }
 
@@ -114,11 +98,11 @@ pub fn mark_places(shape: Shape, width: usize, scratch: &mut [u32], places: &[u3
 {
     if is_shipped(shape) {
         let table = check_numbers();
-        mark_places_by(shape, true, &table, width, scratch, places);
+        mark_places_by(shape, &table, width, scratch, places);
         return;
     }
-    let none = [0u8; 1];
-    mark_places_by(shape, false, &none, width, scratch, places);
+    let none = [0u8; 0];
+    mark_places_by(shape, &none, width, scratch, places);
 }
 
 // The number, among all checks, of kept check i.

@@ -20,7 +20,6 @@ ghost use Rattle.majority.specs.Steps.{votedIn, passedOver, foundIn, Kep
 // Half of the checks on this row and column, or more, are silent: no other value has a majority. `own` is 1 if that of the row is silent.
 fn is_quiet(
     shape: Shape,
-    tabled: bool,
     table: &[u8],
     syn: &[u32; 248],
     own: usize,
@@ -28,14 +27,14 @@ fn is_quiet(
     row: usize,
     column: usize,
 ) -> bool
-    requires { ⌜ Lawful shape × Tabled shape tabled (now table) × (tabled ≡ false → Shifts shape row (shape .n) (now shifts))
+    requires { ⌜ Lawful shape × Tabled shape (now table) × (length (now table) ≡ 0 → Shifts shape row (shape .n) (now shifts))
         × (own ≡ bit (eqb (at (now syn) row) 0)) × (row < shape .q) × (column < shape .q) ⌝ }
     ensures { λ r. ⌜ (r ≡ true → votedIn shape (now (syn .entry)) (row * shape .q + column) ≡ 0) ⌝ }
 {
     let n = shape.n as usize;
     let mut silent = own;
     for t in 1..n {
-        let check = check_in_row(shape, tabled, table, shifts, t, row, column);
+        let check = check_in_row(shape, table, shifts, t, row, column);
         silent += hit(syn[check], 0);
         if n <= 2 * silent {
             return true;
@@ -47,7 +46,6 @@ fn is_quiet(
 // The position in this row and column joins the list if it changes.
 fn keep(
     shape: Shape,
-    tabled: bool,
     table: &[u8],
     syn: &[u32; 248],
     own: usize,
@@ -57,16 +55,16 @@ fn keep(
     row: usize,
     column: usize,
 ) -> usize
-    requires { ⌜ Lawful shape × Tabled shape tabled (now table) × (tabled ≡ false → Shifts shape row (shape .n) (now shifts))
+    requires { ⌜ Lawful shape × Tabled shape (now table) × (length (now table) ≡ 0 → Shifts shape row (shape .n) (now shifts))
         × (own ≡ bit (eqb (at (now syn) row) 0)) × (row < shape .q) × (column < shape .q) × (count < tooMany shape) × (length (now places) ≡ 8) ⌝ }
     ensures { λ r. ⌜ Kept shape (now (syn .entry)) (row * shape .q + column) count (now (places .entry)) r (now (places .exit)) ⌝ }
 {
     let q = shape.q as usize;
-    if is_quiet(shape, tabled, table, syn, own, shifts, row, column) {
+    if is_quiet(shape, table, syn, own, shifts, row, column) {
         return count;
     }
     let j = row * q + column;
-    if vote(shape, tabled, table, syn, j) == 0 {
+    if vote(shape, table, syn, j) == 0 {
         return count;
     }
     places[count] = j;
@@ -86,7 +84,6 @@ fn is_passed_over(loud: bool, value: u32) -> bool
 // One row.
 fn scan_row(
     shape: Shape,
-    tabled: bool,
     table: &[u8],
     syn: &[u32; 248],
     loud: bool,
@@ -94,7 +91,7 @@ fn scan_row(
     places: &mut [usize; 8],
     count: usize,
 ) -> usize
-    requires { ⌜ Lawful shape × Tabled shape tabled (now table) × (row < shape .q) × (count < tooMany shape) × Listed (foundIn shape (now syn) loud) (row * shape .q) count (now places) ⌝ }
+    requires { ⌜ Lawful shape × Tabled shape (now table) × (row < shape .q) × (count < tooMany shape) × Listed (foundIn shape (now syn) loud) (row * shape .q) count (now places) ⌝ }
     ensures { λ r. ⌜ Scanned (foundIn shape (now (syn .entry)) loud) (tooMany shape) (row * shape .q + shape .q) r (now (places .exit)) ⌝ }
 {
     let q = shape.q as usize;
@@ -105,11 +102,11 @@ fn scan_row(
         return count;
     }
     let mut shifts = [0usize; 8];
-    shifts_by(shape, tabled, row, &mut shifts);
+    shifts_by(shape, table, row, &mut shifts);
     let own = hit(value, 0);
     let mut k = count;
     for c in 0..q {
-        k = keep(shape, tabled, table, syn, own, &shifts, places, k, row, c);
+        k = keep(shape, table, syn, own, &shifts, places, k, row, c);
         if limit <= k {
             return limit;
         }
@@ -121,13 +118,12 @@ fn scan_row(
 // are that many.
 pub fn locate(
     shape: Shape,
-    tabled: bool,
     table: &[u8],
     syn: &[u32; 248],
     loud: bool,
     places: &mut [usize; 8],
 ) -> usize
-    requires { ⌜ Lawful shape × Tabled shape tabled (now table) × (length (now places) ≡ 8) ⌝ }
+    requires { ⌜ Lawful shape × Tabled shape (now table) × (length (now places) ≡ 8) ⌝ }
     ensures { λ r. ⌜ Scanned (foundIn shape (now (syn .entry)) loud) (tooMany shape) (wordLength shape) r (now (places .exit)) ⌝ }
 {
     let q = shape.q as usize;
@@ -135,7 +131,7 @@ pub fn locate(
     let limit = n / 2 + 1;
     let mut found = 0;
     for row in 0..q {
-        found = scan_row(shape, tabled, table, syn, loud, row, places, found);
+        found = scan_row(shape, table, syn, loud, row, places, found);
         if limit <= found {
             return limit;
         }

@@ -23,14 +23,14 @@ pub fn hit(value: u32, x: u32) -> usize
 }
 
 // What the n checks on position j show.
-fn gather(shape: Shape, tabled: bool, table: &[u8], syn: &[u32; 248], j: usize) -> [u32; 8]
-    requires { ⌜ Lawful shape × Tabled shape tabled (now table) × (j < wordLength shape) ⌝ }
+fn gather(shape: Shape, table: &[u8], syn: &[u32; 248], j: usize) -> [u32; 8]
+    requires { ⌜ Lawful shape × Tabled shape (now table) × (j < wordLength shape) ⌝ }
     ensures { λ r. ⌜ Begins 8 (shape .n) (checkIn shape (now (syn .entry)) j) r ⌝ }
 {
     let n = shape.n as usize;
     let mut values = [0u32; 8];
     for t in 0..n {
-        values[t] = syn[number_by(shape, tabled, table, t, j)];
+        values[t] = syn[number_by(shape, table, t, j)];
     }
     values
 }
@@ -73,11 +73,11 @@ fn elect(values: &[u32; 8], n: usize) -> u32
 }
 
 // The change at position j.
-pub fn vote(shape: Shape, tabled: bool, table: &[u8], syn: &[u32; 248], j: usize) -> u32
-    requires { ⌜ Lawful shape × Tabled shape tabled (now table) × (j < wordLength shape) ⌝ }
+pub fn vote(shape: Shape, table: &[u8], syn: &[u32; 248], j: usize) -> u32
+    requires { ⌜ Lawful shape × Tabled shape (now table) × (j < wordLength shape) ⌝ }
     ensures { λ r. ⌜ r ≡ votedIn shape (now (syn .entry)) j ⌝ }
 {
     let n = shape.n as usize;
-    let values = gather(shape, tabled, table, syn, j);
+    let values = gather(shape, table, syn, j);
     elect(&values, n)
 }

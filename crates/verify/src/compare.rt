@@ -40,13 +40,13 @@ fn list_differences(
 }
 
 // Some check on position j is silent.
-fn is_masked(shape: Shape, tabled: bool, table: &[u8], syn: &[u32; 248], j: usize) -> bool
-    requires { ⌜ Lawful shape × Tabled shape tabled (now table) × (j < wordLength shape) ⌝ }
+fn is_masked(shape: Shape, table: &[u8], syn: &[u32; 248], j: usize) -> bool
+    requires { ⌜ Lawful shape × Tabled shape (now table) × (j < wordLength shape) ⌝ }
     ensures { λ r. ⌜ r ≡ isMasked shape (now (syn .entry)) j ⌝ }
 {
     let n = shape.n as usize;
     for t in 0..n {
-        if syn[number_by(shape, tabled, table, t, j)] == 0 {
+        if syn[number_by(shape, table, t, j)] == 0 {
             return true;
         }
     }
@@ -56,17 +56,16 @@ fn is_masked(shape: Shape, tabled: bool, table: &[u8], syn: &[u32; 248], j: usiz
 // So it is with one of the first `count` places.
 fn any_masked(
     shape: Shape,
-    tabled: bool,
     table: &[u8],
     syn: &[u32; 248],
     places: &[usize; 8],
     count: usize,
 ) -> bool
-    requires { ⌜ Lawful shape × Tabled shape tabled (now table) × Within shape count (now places) ⌝ }
+    requires { ⌜ Lawful shape × Tabled shape (now table) × Within shape count (now places) ⌝ }
     ensures { λ r. ⌜ r ≡ any count (λ x. isMasked shape (now (syn .entry)) (at (now (places .entry)) x)) ⌝ }
 {
     for x in 0..count {
-        if is_masked(shape, tabled, table, syn, places[x]) {
+        if is_masked(shape, table, syn, places[x]) {
             return true;
         }
     }
@@ -76,19 +75,18 @@ fn any_masked(
 // The errors are put on `syn`, and then none of the places is on a silent check.
 fn is_clean_by(
     shape: Shape,
-    tabled: bool,
     table: &[u8],
     syn: &mut [u32; 248],
     places: &[usize; 8],
     errors: &[u32; 8],
     number: usize,
 ) -> bool
-    requires { ⌜ Lawful shape × Tabled shape tabled (now table) × (length (now syn) ≡ 248) × Within shape number (now places) ⌝ }
+    requires { ⌜ Lawful shape × Tabled shape (now table) × (length (now syn) ≡ 248) × Within shape number (now places) ⌝ }
     ensures { λ r. ⌜ Cancelled shape number (now (places .entry)) (now (errors .entry)) (now (syn .entry)) (now (syn .exit))
         × (r ≡ not (any number (λ x. isMasked shape (now (syn .exit)) (at (now (places .entry)) x)))) ⌝ }
 {
-    cancel_by(shape, tabled, table, syn, places, errors, number);
-    !any_masked(shape, tabled, table, syn, places, number)
+    cancel_by(shape, table, syn, places, errors, number);
+    !any_masked(shape, table, syn, places, number)
 }
 
 // The difference is unmasked damage to at most n - 1 symbols; `syn` has the syndromes of a silent proposal. The check numbers of the
@@ -109,10 +107,10 @@ fn is_clean(shape: Shape, syn: &mut [u32; 248], received: &[u32], proposed: &[u3
     list_differences(received, proposed, &places, count, &mut errors);
     if is_shipped(shape) {
         let table = check_numbers();
-        return is_clean_by(shape, true, &table, syn, &places, &errors, count);
+        return is_clean_by(shape, &table, syn, &places, &errors, count);
     }
-    let none = [0u8; 1];
-    is_clean_by(shape, false, &none, syn, &places, &errors, count)
+    let none = [0u8; 0];
+    is_clean_by(shape, &none, syn, &places, &errors, count)
 }
 
 // The proposal is a codeword, and unmasked damage to at most n - 1 symbols makes the received word of it.

@@ -9,10 +9,10 @@ use Rattle.correction.proofs.cancel.cancel_by.Statement.{statement}
 use Rattle.correction.proofs.cancel.cancel_by.Tie as tie
 
 abbrev Inv-loop : tie.InvT-loop
-Inv-loop shape tabled table syn₀ places errors count x₀ syn x = (x ≤ count) × Cancelled shape x places errors syn₀ syn
+Inv-loop shape table syn₀ places errors count x₀ syn x = (x ≤ count) × Cancelled shape x places errors syn₀ syn
 
 abbrev μ-loop : tie.MeasureT-loop
-μ-loop shape tabled table syn₀ places errors count x₀ syn x = count - x
+μ-loop shape table syn₀ places errors count x₀ syn x = count - x
 
 loop-holds : tie.Need-loop-holds Inv-loop μ-loop
 loop-holds c = (search needs, cancelled-none _ _ _ _ (c .before .pre .2))

@@ -12,10 +12,10 @@ use Rattle.correction.proofs.cancel.cancel_one.Statement.{statement}
 use Rattle.correction.proofs.cancel.cancel_one.Tie as tie
 
 abbrev Inv-loop : tie.InvT-loop
-Inv-loop shape tabled table syn₀ j error n t₀ syn t = (t ≤ n) × Toggled t (checkOf shape j) (λ u. error) syn₀ syn
+Inv-loop shape table syn₀ j error n t₀ syn t = (t ≤ n) × Toggled t (checkOf shape j) (λ u. error) syn₀ syn
 
 abbrev μ-loop : tie.MeasureT-loop
-μ-loop shape tabled table syn₀ j error n t₀ syn t = n - t
+μ-loop shape table syn₀ j error n t₀ syn t = n - t
 
 -- the check is in the table
 inside : (c : tie.After-number-by Inv-loop μ-loop) → c .number-by .result < 248

@@ -19,10 +19,10 @@ returns c = found-many (c .before .before .before .before .before .before .pre .
 abbrev start : tie.Else1 → tie.Start
 start c = c .before .before .before .before .before .before
 
-listed : (c : tie.Else1) → Listed (judged (start c .args .shape) (start c .args .syn .now)) (wordLength (start c .args .shape)) (c .before .locate .result) (c .before .locate .last .1 .1 .1 .1 .0)
+listed : (c : tie.Else1) → Listed (judged (start c .args .shape) (start c .args .syn .now)) (wordLength (start c .args .shape)) (c .before .locate .result) (c .before .locate .last .1 .1 .1 .0)
 listed c = c .before .locate .ensures .few (c .if1 .left)
 
-inside : (c : tie.Else1) → Within (start c .args .shape) (c .before .locate .result) (c .before .locate .last .1 .1 .1 .1 .0)
+inside : (c : tie.Else1) → Within (start c .args .shape) (c .before .locate .result) (c .before .locate .last .1 .1 .1 .0)
 inside c = within (start c .pre .0) (c .if1 .left) (listed c)
 
 evaluate-requires : tie.Need-evaluate-requires

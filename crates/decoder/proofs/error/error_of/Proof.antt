@@ -14,10 +14,10 @@ use Rattle.decoder.proofs.error.error_of.Statement.{statement}
 use Rattle.decoder.proofs.error.error_of.Tie as tie
 
 abbrev Inv-loop : tie.InvT-loop
-Inv-loop shape tabled table syn places count j n t₀ t = (t ≤ n) × ((u : ℕ) → u < t → aloneAmong shape places count j u ≡ false)
+Inv-loop shape table syn places count j n t₀ t = (t ≤ n) × ((u : ℕ) → u < t → aloneAmong shape places count j u ≡ false)
 
 abbrev μ-loop : tie.MeasureT-loop
-μ-loop shape tabled table syn places count j n t₀ t = n - t
+μ-loop shape table syn places count j n t₀ t = n - t
 
 -- the check is in the table
 inside : (c : tie.After-number-by Inv-loop μ-loop) → c .number-by .result < 248

@@ -13,10 +13,10 @@ use Rattle.decoder.proofs.error.is_alone.Statement.{statement}
 use Rattle.decoder.proofs.error.is_alone.Tie as tie
 
 abbrev Inv-loop : tie.InvT-loop
-Inv-loop shape tabled table places count j t x₀ x = (x ≤ count) × (any x (λ y. shares shape t j (at places y)) ≡ false)
+Inv-loop shape table places count j t x₀ x = (x ≤ count) × (any x (λ y. shares shape t j (at places y)) ≡ false)
 
 abbrev μ-loop : tie.MeasureT-loop
-μ-loop shape tabled table places count j t x₀ x = count - x
+μ-loop shape table places count j t x₀ x = count - x
 
 -- the list has 8 entries
 inside : (c : tie.In-loop Inv-loop μ-loop) → c .before .loop .x < 8

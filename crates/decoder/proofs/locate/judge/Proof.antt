@@ -13,10 +13,10 @@ use Rattle.decoder.proofs.locate.judge.Statement.{statement}
 use Rattle.decoder.proofs.locate.judge.Tie as tie
 
 abbrev Inv-loop : tie.InvT-loop
-Inv-loop shape tabled table syn own shifts row column n t₀ t = (1 ≤ t) × (t ≤ n) × Loud shape syn (row * shape .q + column) t
+Inv-loop shape table syn own shifts row column n t₀ t = (1 ≤ t) × (t ≤ n) × Loud shape syn (row * shape .q + column) t
 
 abbrev μ-loop : tie.MeasureT-loop
-μ-loop shape tabled table syn own shifts row column n t₀ t = n - t
+μ-loop shape table syn own shifts row column n t₀ t = n - t
 
 returns : tie.Need-returns Inv-loop μ-loop
 returns c =

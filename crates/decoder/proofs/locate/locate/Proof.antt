@@ -13,10 +13,10 @@ use Rattle.decoder.proofs.locate.locate.Statement.{statement}
 use Rattle.decoder.proofs.locate.locate.Tie as tie
 
 abbrev Inv-loop : tie.InvT-loop
-Inv-loop shape tabled table syn places₀ q n found₀ row₀ places found row = (row ≤ q) × (found < n) × Listed (judged shape syn) (row * q) found places
+Inv-loop shape table syn places₀ q n found₀ row₀ places found row = (row ≤ q) × (found < n) × Listed (judged shape syn) (row * q) found places
 
 abbrev μ-loop : tie.MeasureT-loop
-μ-loop shape tabled table syn places₀ q n found₀ row₀ places found row = q - row
+μ-loop shape table syn places₀ q n found₀ row₀ places found row = q - row
 
 loop-holds : tie.Need-loop-holds Inv-loop μ-loop
 loop-holds c =

@@ -13,10 +13,10 @@ use Rattle.decoder.proofs.locate.scan_row.Statement.{statement}
 use Rattle.decoder.proofs.locate.scan_row.Tie as tie
 
 abbrev Inv-loop : tie.InvT-loop
-Inv-loop shape tabled table syn row places₀ count check q n shifts found₀ c₀ places found c = (c ≤ q) × (found < n) × Listed (judged shape syn) (row * q + c) found places
+Inv-loop shape table syn row places₀ count check q n shifts found₀ c₀ places found c = (c ≤ q) × (found < n) × Listed (judged shape syn) (row * q + c) found places
 
 abbrev μ-loop : tie.MeasureT-loop
-μ-loop shape tabled table syn row places₀ count check q n shifts found₀ c₀ places found c = q - c
+μ-loop shape table syn row places₀ count check q n shifts found₀ c₀ places found c = q - c
 
 -- a row's own check is in the table
 inside : (c : tie.Start Inv-loop μ-loop) → c .args .row < 248

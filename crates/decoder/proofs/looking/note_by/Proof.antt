@@ -12,10 +12,10 @@ use Rattle.decoder.proofs.looking.note_by.Statement.{statement}
 use Rattle.decoder.proofs.looking.note_by.Tie as tie
 
 abbrev Inv-loop : tie.InvT-loop
-Inv-loop shape tabled table word looked₀ syn q row₀ looked row = (row ≤ q) × Begins (wordLength shape) (row * q) (lookedIn shape syn) looked
+Inv-loop shape table word looked₀ syn q row₀ looked row = (row ≤ q) × Begins (wordLength shape) (row * q) (lookedIn shape syn) looked
 
 abbrev μ-loop : tie.MeasureT-loop
-μ-loop shape tabled table word looked₀ syn q row₀ looked row = q - row
+μ-loop shape table word looked₀ syn q row₀ looked row = q - row
 
 loop-holds : tie.Need-loop-holds Inv-loop μ-loop
 loop-holds c =

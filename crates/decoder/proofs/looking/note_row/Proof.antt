@@ -15,10 +15,10 @@ use Rattle.decoder.proofs.looking.note_row.Statement.{statement}
 use Rattle.decoder.proofs.looking.note_row.Tie as tie
 
 abbrev Inv-loop : tie.InvT-loop
-Inv-loop shape tabled table syn row looked₀ q own shifts c₀ looked c = (c ≤ q) × Begins (wordLength shape) (row * q + c) (lookedIn shape syn) looked
+Inv-loop shape table syn row looked₀ q own shifts c₀ looked c = (c ≤ q) × Begins (wordLength shape) (row * q + c) (lookedIn shape syn) looked
 
 abbrev μ-loop : tie.MeasureT-loop
-μ-loop shape tabled table syn row looked₀ q own shifts c₀ looked c = q - c
+μ-loop shape table syn row looked₀ q own shifts c₀ looked c = q - c
 
 -- a row's own check is in the table
 inside : (c : tie.After-struct-known Inv-loop μ-loop) → c .before .before .before .args .row < 248

@@ -13,10 +13,10 @@ use Rattle.double.proofs.lines.cross.Statement.{statement}
 use Rattle.double.proofs.lines.cross.Tie as tie
 
 abbrev Inv-loop : tie.InvT-loop
-Inv-loop shape tabled table t u a b q row₀ row = (row ≤ q) × ((r : ℕ) → r < row → (i : ℕ) → OnRow shape u r b i → lineOf shape t i ≡ a → ⊥)
+Inv-loop shape table t u a b q row₀ row = (row ≤ q) × ((r : ℕ) → r < row → (i : ℕ) → OnRow shape u r b i → lineOf shape t i ≡ a → ⊥)
 
 abbrev μ-loop : tie.MeasureT-loop
-μ-loop shape tabled table t u a b q row₀ row = q - row
+μ-loop shape table t u a b q row₀ row = q - row
 
 returns : tie.Need-returns Inv-loop μ-loop
 returns c =

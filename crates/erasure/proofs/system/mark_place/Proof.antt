@@ -9,10 +9,10 @@ use Rattle.erasure.proofs.system.mark_place.Statement.{statement}
 use Rattle.erasure.proofs.system.mark_place.Tie as tie
 
 abbrev Inv-loop : tie.InvT-loop
-Inv-loop shape tabled table width scratch₀ k j n t₀ scratch t = (t ≤ n) × Flipped width (keptChecks shape) (upTo shape k j t) scratch₀ scratch
+Inv-loop shape table width scratch₀ k j n t₀ scratch t = (t ≤ n) × Flipped width (keptChecks shape) (upTo shape k j t) scratch₀ scratch
 
 abbrev μ-loop : tie.MeasureT-loop
-μ-loop shape tabled table width scratch₀ k j n t₀ scratch t = n - t
+μ-loop shape table width scratch₀ k j n t₀ scratch t = n - t
 
 loop-holds : tie.Need-loop-holds Inv-loop μ-loop
 loop-holds c = let a = c .before .before .before .args in (search needs, directions-none (a .shape) (a .k) (a .j) _)

@@ -12,11 +12,11 @@ use Rattle.erasure.proofs.system.mark_places_by.Statement.{statement}
 use Rattle.erasure.proofs.system.mark_places_by.Tie as tie
 
 abbrev Inv-loop : tie.InvT-loop
-Inv-loop shape tabled table width scratch₀ places k₀ k-end scratch k =
+Inv-loop shape table width scratch₀ places k₀ k-end scratch k =
     (k-end ≡ length places) × (k ≤ length places) × Flipped width (keptChecks shape) (firstPlaces shape places k) scratch₀ scratch
 
 abbrev μ-loop : tie.MeasureT-loop
-μ-loop shape tabled table width scratch₀ places k₀ k-end scratch k = length places - k
+μ-loop shape table width scratch₀ places k₀ k-end scratch k = length places - k
 
 loop-holds : tie.Need-loop-holds Inv-loop μ-loop
 loop-holds c = let a = c .before .before .before .args in (search needs, search needs, places-none (a .shape) (a .places .now) _)

@@ -26,7 +26,7 @@ correct-by-requires-2 : tie.Need-correct-by-requires-2
 correct-by-requires-2 c κs =
     let y = c .before .before .before .before .before .before .before .before in
     let p = y .before .before .before .pre in
-    (p .0, untabled _ _, p .1, y .syndromes .ensures)
+    (p .0, untabled _ _ refl, p .1, y .syndromes .ensures)
 
 pub correct-spec : {M : Type 1} → statement M
 correct-spec = tie.close (tie.spec (λ c κs. search needs) (λ c κs. search needs) (λ c. search needs) returns (λ c κs. search needs) (λ c κs. search needs) (λ c. search needs) correct-by-requires (λ c. search needs) (λ c. search needs) (λ c. search needs) correct-by-requires-2 (λ c. search needs) (λ c. search needs))

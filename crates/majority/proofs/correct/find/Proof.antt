@@ -24,10 +24,10 @@ returns c = let s = c .before .before .before .before .before .before in found-m
 abbrev start : tie.Else1 → tie.Start
 start c = c .before .before .before .before .before .before
 
-listed : (c : tie.Else1) → Listed (foundIn (start c .args .shape) (start c .args .syn .now) (start c .args .loud)) (wordLength (start c .args .shape)) (c .before .locate .result) (c .before .locate .last .1 .1 .1 .1 .1 .0)
+listed : (c : tie.Else1) → Listed (foundIn (start c .args .shape) (start c .args .syn .now) (start c .args .loud)) (wordLength (start c .args .shape)) (c .before .locate .result) (c .before .locate .last .1 .1 .1 .1 .0)
 listed c = c .before .locate .ensures .few (c .if1 .left)
 
-inside : (c : tie.Else1) → Within (start c .args .shape) (c .before .locate .result) (c .before .locate .last .1 .1 .1 .1 .1 .0)
+inside : (c : tie.Else1) → Within (start c .args .shape) (c .before .locate .result) (c .before .locate .last .1 .1 .1 .1 .0)
 inside c = within (start c .pre .0) (omega (arith, c .if1 .left, bounds (start c .args .shape) (start c .pre .0) .n2)) (listed c)
 
 evaluate-requires : tie.Need-evaluate-requires

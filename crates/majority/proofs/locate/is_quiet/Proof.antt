@@ -14,10 +14,10 @@ use Rattle.majority.proofs.locate.is_quiet.Statement.{statement}
 use Rattle.majority.proofs.locate.is_quiet.Tie as tie
 
 abbrev Inv-loop : tie.InvT-loop
-Inv-loop shape tabled table syn own shifts row column n silent₀ t₀ silent t = (1 ≤ t) × (t ≤ n) × (silent ≡ shows t (checkIn shape syn (row * shape .q + column)) 0)
+Inv-loop shape table syn own shifts row column n silent₀ t₀ silent t = (1 ≤ t) × (t ≤ n) × (silent ≡ shows t (checkIn shape syn (row * shape .q + column)) 0)
 
 abbrev μ-loop : tie.MeasureT-loop
-μ-loop shape tabled table syn own shifts row column n silent₀ t₀ silent t = n - t
+μ-loop shape table syn own shifts row column n silent₀ t₀ silent t = n - t
 
 loop-holds : tie.Need-loop-holds Inv-loop μ-loop
 loop-holds c =

@@ -13,10 +13,10 @@ use Rattle.majority.proofs.locate.locate.Statement.{statement}
 use Rattle.majority.proofs.locate.locate.Tie as tie
 
 abbrev Inv-loop : tie.InvT-loop
-Inv-loop shape tabled table syn loud places₀ q n limit found₀ row₀ places found row = (row ≤ q) × (found < limit) × Listed (foundIn shape syn loud) (row * q) found places
+Inv-loop shape table syn loud places₀ q n limit found₀ row₀ places found row = (row ≤ q) × (found < limit) × Listed (foundIn shape syn loud) (row * q) found places
 
 abbrev μ-loop : tie.MeasureT-loop
-μ-loop shape tabled table syn loud places₀ q n limit found₀ row₀ places found row = q - row
+μ-loop shape table syn loud places₀ q n limit found₀ row₀ places found row = q - row
 
 add-limit : tie.Need-add-limit Inv-loop μ-loop
 add-limit c = omega (arith, bounds _ (c .before .before .before .pre .0) .n8)

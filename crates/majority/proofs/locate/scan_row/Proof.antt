@@ -13,10 +13,10 @@ use Rattle.majority.proofs.locate.scan_row.Statement.{statement}
 use Rattle.majority.proofs.locate.scan_row.Tie as tie
 
 abbrev Inv-loop : tie.InvT-loop
-Inv-loop shape tabled table syn loud row places₀ count q n limit value shifts own k₀ c₀ places k c = (c ≤ q) × (k < limit) × Listed (foundIn shape syn loud) (row * q + c) k places
+Inv-loop shape table syn loud row places₀ count q n limit value shifts own k₀ c₀ places k c = (c ≤ q) × (k < limit) × Listed (foundIn shape syn loud) (row * q + c) k places
 
 abbrev μ-loop : tie.MeasureT-loop
-μ-loop shape tabled table syn loud row places₀ count q n limit value shifts own k₀ c₀ places k c = q - c
+μ-loop shape table syn loud row places₀ count q n limit value shifts own k₀ c₀ places k c = q - c
 
 add-limit : tie.Need-add-limit Inv-loop μ-loop
 add-limit c = omega (arith, bounds _ (c .before .before .before .pre .0) .n8)

@@ -13,10 +13,10 @@ use Rattle.majority.proofs.vote.gather.Statement.{statement}
 use Rattle.majority.proofs.vote.gather.Tie as tie
 
 abbrev Inv-loop : tie.InvT-loop
-Inv-loop shape tabled table syn j n values₀ t₀ values t = (t ≤ n) × Begins 8 t (checkIn shape syn j) values
+Inv-loop shape table syn j n values₀ t₀ values t = (t ≤ n) × Begins 8 t (checkIn shape syn j) values
 
 abbrev μ-loop : tie.MeasureT-loop
-μ-loop shape tabled table syn j n values₀ t₀ values t = n - t
+μ-loop shape table syn j n values₀ t₀ values t = n - t
 
 -- the check is in the table, and the direction in the list
 inside : (c : tie.After-number-by Inv-loop μ-loop) → c .number-by .result < 248

@@ -13,10 +13,10 @@ use Rattle.verify.proofs.compare.any_masked.Statement.{statement}
 use Rattle.verify.proofs.compare.any_masked.Tie as tie
 
 abbrev Inv-loop : tie.InvT-loop
-Inv-loop shape tabled table syn places count x₀ x = (x ≤ count) × (any x (λ y. isMasked shape syn (at places y)) ≡ false)
+Inv-loop shape table syn places count x₀ x = (x ≤ count) × (any x (λ y. isMasked shape syn (at places y)) ≡ false)
 
 abbrev μ-loop : tie.MeasureT-loop
-μ-loop shape tabled table syn places count x₀ x = count - x
+μ-loop shape table syn places count x₀ x = count - x
 
 -- the list has 8 entries
 inside : (c : tie.In-loop Inv-loop μ-loop) → c .before .loop .x < 8

@@ -1,5 +1,5 @@
 -- `verify::compare::is_clean` meets its contract. What holds of the list, the errors and the table is what the definitions say (Table.antt).
-use mathlib.Core.Path.{sym, _∙_}
+use mathlib.Core.Path.{refl, sym, _∙_}
 use native.Mathlib.Omega.{arith}
 use borrow.Author.Needs.{needs}
 use Rattle.gtb.proofs.Bounds.{bounds}
@@ -47,7 +47,7 @@ is-clean-by-requires-2 : tie.Need-is-clean-by-requires-2
 is-clean-by-requires-2 c κs =
     let e = c .before .before .before .before .before .before .before .before .before in
     let p = e .before .before .before .before .before .before .pre in
-    (p .0, untabled _ _, p .3 .size, inside e)
+    (p .0, untabled _ _ refl, p .3 .size, inside e)
 
 returns-3 : tie.Need-returns-3
 returns-3 c =

@@ -18,10 +18,10 @@ use Rattle.verify.proofs.compare.is_masked.Statement.{statement}
 use Rattle.verify.proofs.compare.is_masked.Tie as tie
 
 abbrev Inv-loop : tie.InvT-loop
-Inv-loop shape tabled table syn j n t₀ t = (t ≤ n) × (any t (λ u. eqb (at syn (checkOf shape j u)) 0) ≡ false)
+Inv-loop shape table syn j n t₀ t = (t ≤ n) × (any t (λ u. eqb (at syn (checkOf shape j u)) 0) ≡ false)
 
 abbrev μ-loop : tie.MeasureT-loop
-μ-loop shape tabled table syn j n t₀ t = n - t
+μ-loop shape table syn j n t₀ t = n - t
 
 loop-holds : tie.Need-loop-holds Inv-loop μ-loop
 loop-holds c = (let b = bounds _ (c .before .before .pre .0) in omega arith, any-zero _)
