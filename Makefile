@@ -22,6 +22,8 @@ bench: target/bin/tally target/staticlib/libhost.a target/staticlib/libharness.a
 
 # Made where they are missing; make brings them up to date.
 target/bin/tally:
+	@echo "There is no program here yet. First it is proved, with every crate below it, and then it is built."
+	@echo "That takes up to 5 minutes on two cores. Each crate gets a line when it is done: rt: NAME proved (SECONDS s)"
 	rt check tally
 
 target/staticlib/lib%.a:
