@@ -5,6 +5,7 @@ use command::Choice;
 use libc::STDERR_FILENO;
 use libc::STDIN_FILENO;
 use libc::STDOUT_FILENO;
+use watch::Watch;
 ghost use mathlib.Core.Path.{_≡_};
 ghost use lib.ListN.{length};
 ghost use Rattle.tally.specs.Block.{Block};
@@ -27,6 +28,24 @@ fn output_buffer() -> [u8; 491584]
 fn complain(name: &[u8]) {
     io::write_all(STDERR_FILENO, b"tally: ");
     os::fail(name);
+}
+
+// Writes to standard output. Where that fails, it is said in place of the progress line.
+fn put(seen: Watch, text: &[u8]) -> bool {
+    if io::write_all(STDOUT_FILENO, text) {
+        return true;
+    }
+    watch::clear(seen);
+    complain(b"standard output");
+    false
+}
+
+// The usage, where `--help` asks for it.
+fn help() {
+    if io::write_all(STDOUT_FILENO, &command::usage()) {
+        return;
+    }
+    complain(b"standard output");
 }
 
 // An argument is refused.
@@ -78,28 +97,31 @@ fn run(fd: i32) -> bool {
     if got.failed {
         return false;
     }
-    let names = lines::put_outcome_names(&mut out, 0);
-    let mut written = io::write_all(STDOUT_FILENO, &out[..names]);
     let mut seen = watch::begin();
+    let names = lines::put_outcome_names(&mut out, 0);
+    let mut written = put(seen, &out[..names]);
     let mut reader = capture::begin();
     while written && got.count > 0 {
         let count = got.count;
         left -= count;
         reader = capture::take_block(reader, &block[..count], &mut line, &mut out);
         let at = reader.at;
-        written = io::write_all(STDOUT_FILENO, &out[..at]);
+        written = put(seen, &out[..at]);
         let pages = reader.tally.session.pages;
         let lowest = reader.tally.session.lowest;
         seen = watch::look(seen, &out[..at], left, pages, lowest);
         let stop = !written || capture::has_ended(reader);
         got = read_block(fd, &mut block, left, stop);
     }
-    if got.failed || !written {
+    if got.failed {
         watch::clear(seen);
-        return !got.failed;
+        return false;
+    }
+    if !written {
+        return true;
     }
     let end = capture::finish(reader, &mut out);
-    if io::write_all(STDOUT_FILENO, &out[..end]) {
+    if put(seen, &out[..end]) {
         watch::finish(seen, &out[..end]);
     }
     true
@@ -145,9 +167,7 @@ fn main() {
                 complain(&space);
             }
         }
-        Choice::Help => {
-            io::write_all(STDOUT_FILENO, &command::usage());
-        }
+        Choice::Help => help(),
         Choice::Unknown => {
             refuse(
                 &space[..size],

@@ -12,11 +12,13 @@ use crate::report::{Group, Unit, Verdict};
 use std::env;
 use std::ffi::{c_int, OsStr};
 use std::fs::{self, File};
+use std::io;
 use std::os::unix::process::CommandExt;
 use std::process::Stdio;
 use std::time::{Duration, Instant};
 
 extern "C" {
+    fn close(file: c_int) -> c_int;
     fn geteuid() -> c_int;
 }
 
@@ -333,14 +335,19 @@ fn silence(program: &Program, random: &mut Random) -> Verdict {
     Ok(2)
 }
 
-/// After a complaint there is no summary, nor after a write that failed.
+/// After a complaint there is no summary. A full disk and a closed standard output get one, of the usage too.
 fn faults(program: &Program) -> Verdict {
-    let full = File::options().write(true).open("/dev/full").map_err(|error| format!("/dev/full: {error}"))?;
-    let written = program.run_command(&[], CAPTURE.as_bytes(), |command| {
-        command.stdout(Stdio::from(full));
-    })?;
-    if !written.error.is_empty() {
-        return Err(format!("after a failed write it says {:?}", String::from_utf8_lossy(&written.error)));
+    for arguments in [&[][..], &[OsStr::new("--help")]] {
+        let full = File::options().write(true).open("/dev/full").map_err(|error| format!("/dev/full: {error}"))?;
+        let written = program.run_command(arguments, CAPTURE.as_bytes(), |command| {
+            command.stdout(Stdio::from(full));
+        })?;
+        expect_refusal(&written, "standard output", "No space left on device")?;
+        let written = program.run_command(arguments, CAPTURE.as_bytes(), |command| {
+            // SAFETY: close may be called between fork and exec.
+            unsafe { command.pre_exec(|| if close(1) == 0 { Ok(()) } else { Err(io::Error::last_os_error()) }) };
+        })?;
+        expect_refusal(&written, "standard output", "Bad file descriptor")?;
     }
     let folder = env::temp_dir();
     let terminal = crate::terminal::Terminal::open()?;
@@ -350,5 +357,5 @@ fn faults(program: &Program) -> Verdict {
     })?;
     let error = terminal.read_all()?;
     expect_refusal(&Written { output: written.output, error }, &folder.to_string_lossy(), "Is a directory")?;
-    Ok(2)
+    Ok(5)
 }

@@ -24,8 +24,8 @@ abbrev μ-loop : tie.MeasureT-loop
 abbrev at-test : tie.After-block4 Inv-loop μ-loop → tie.Then2 Inv-loop μ-loop
 at-test c = c .before .before .before .before .before .before .before .before .before .before .before .before
 
-slice-aggregate-write-all : tie.Need-slice-aggregate-write-all Inv-loop μ-loop
-slice-aggregate-write-all c = prefix _ _ (c .before .before .put-outcome-names .ensures .room)
+slice-aggregate-put : tie.Need-slice-aggregate-put Inv-loop μ-loop
+slice-aggregate-put c = prefix _ _ (c .before .before .put-outcome-names .ensures .room)
 
 loop-holds : tie.Need-loop-holds Inv-loop μ-loop
 loop-holds c =
@@ -40,8 +40,8 @@ take-block-requires c κs =
     let inv = c .before .before .before .before .before .before .loop .inv in
     (inv .2, prefix-short _ _ (inv .4 .size) (inv .4 .fits), inv .0, inv .1)
 
-slice-aggregate-write-all-2 : tie.Need-slice-aggregate-write-all-2 Inv-loop μ-loop
-slice-aggregate-write-all-2 c = let taken = c .before .before .before .take-block .ensures in prefix _ _ (omega (arith, taken .within, taken .size))
+slice-aggregate-put-2 : tie.Need-slice-aggregate-put-2 Inv-loop μ-loop
+slice-aggregate-put-2 c = let taken = c .before .before .before .take-block .ensures in prefix _ _ (omega (arith, taken .within, taken .size))
 
 slice-aggregate-look : tie.Need-slice-aggregate-look Inv-loop μ-loop
 slice-aggregate-look c = let taken = c .before .before .before .before .before .take-block .ensures in prefix _ _ (omega (arith, taken .within, taken .size))
@@ -63,11 +63,11 @@ loop-again c =
 finish-requires : tie.Need-finish-requires Inv-loop μ-loop
 finish-requires c κs = c .before .before .before .before .loop .inv .1
 
-slice-aggregate-write-all-3 : tie.Need-slice-aggregate-write-all-3 Inv-loop μ-loop
-slice-aggregate-write-all-3 c = prefix _ _ (c .before .before .finish .ensures .within)
+slice-aggregate-put-3 : tie.Need-slice-aggregate-put-3 Inv-loop μ-loop
+slice-aggregate-put-3 c = prefix _ _ (c .before .before .finish .ensures .within)
 
 slice-aggregate-finish-2 : tie.Need-slice-aggregate-finish-2 Inv-loop μ-loop
 slice-aggregate-finish-2 c = prefix _ _ (c .before .before .before .before .before .finish .ensures .within)
 
 pub run-spec : {M : Type 1} → statement M
-run-spec = tie.close (tie.spec Inv-loop μ-loop (λ c κs. search needs) (λ c κs. search needs) (λ c κs. search needs) (λ c κs. search needs) (λ c. search needs) (λ c κs. search needs) (λ c. search needs) (λ c. search needs) (λ c κs. search needs) (λ c. search needs) slice-aggregate-write-all (λ c κs. search needs) (λ c κs. search needs) (λ c κs. search needs) loop-holds (λ c. search needs) (λ c. search needs) slice-aggregate-take-block (λ c. search needs) (λ c. search needs) take-block-requires (λ c. search needs) slice-aggregate-write-all-2 (λ c κs. search needs) (λ c. search needs) slice-aggregate-look (λ c κs. search needs) (λ c κs. search needs) (λ c. sym (at-test c .before .before .before .loop .inv .4 .size)) read-block-requires-2 loop-less loop-again (λ c κs. search needs) (λ c. search needs) (λ c. sym (c .before .before .before .before .loop .inv .1)) finish-requires (λ c. search needs) slice-aggregate-write-all-3 (λ c κs. search needs) (λ c. search needs) slice-aggregate-finish-2 (λ c κs. search needs) (λ c. search needs) (λ c. search needs))
+run-spec = tie.close (tie.spec Inv-loop μ-loop (λ c κs. search needs) (λ c κs. search needs) (λ c κs. search needs) (λ c κs. search needs) (λ c. search needs) (λ c κs. search needs) (λ c. search needs) (λ c κs. search needs) (λ c. search needs) (λ c κs. search needs) (λ c. search needs) slice-aggregate-put (λ c κs. search needs) (λ c κs. search needs) loop-holds (λ c. search needs) (λ c. search needs) slice-aggregate-take-block (λ c. search needs) (λ c. search needs) take-block-requires (λ c. search needs) slice-aggregate-put-2 (λ c κs. search needs) (λ c. search needs) slice-aggregate-look (λ c κs. search needs) (λ c κs. search needs) (λ c. sym (at-test c .before .before .before .loop .inv .4 .size)) read-block-requires-2 loop-less loop-again (λ c κs. search needs) (λ c. search needs) (λ c. search needs) (λ c. sym (c .before .before .before .before .loop .inv .1)) finish-requires (λ c. search needs) slice-aggregate-put-3 (λ c κs. search needs) (λ c. search needs) slice-aggregate-finish-2 (λ c κs. search needs) (λ c. search needs) (λ c. search needs))
