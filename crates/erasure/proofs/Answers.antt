@@ -20,7 +20,7 @@ use Rattle.correction.specs.declared.Decoded.{Decoded}
 use Rattle.correction.specs.declared.Decoded.the-variants.{Refused}
 use Rattle.correction.specs.Answer.{decodedNumber}
 use Rattle.erasure.specs.Fill.{rising, fillStatus, Filling}
-use Rattle.erasure.specs.Steps.{Decision, Tested}
+use Rattle.erasure.specs.Steps.{Decision, PlacesTested}
 
 -- a refusal by a test
 refused-filling : {s : Shape} {word places scratch word′ scratch′ : List ℕ} {r : Decoded} (e : Refusal) → fillStatus s word places scratch ≡ status.Refused e
@@ -79,7 +79,7 @@ module _ (s : Shape) (law : Lawful s) (word places scratch : List ℕ) where
 
   -- ---- the others, and the work
   module _ {word′ scratch′ : List ℕ} {r : Decoded} (sw : length word ≡ wordLength s) (ss : length scratch ≡ scratchLength s)
-      (h : Tested s word places word′ r) (cleared : scratch′ ≡ replicate (length scratch) 0) where
+      (h : PlacesTested s word places word′ r) (cleared : scratch′ ≡ replicate (length scratch) 0) where
     abbrev ordered : Status
     ordered = unless (rising (wordLength s) places) (status.Refused Refusal.Places) status.Done
 
@@ -115,13 +115,13 @@ module _ (s : Shape) (law : Lawful s) (word places scratch : List ℕ) where
         (either (narrow (s .b) word))
 
 -- ---- what the steps past test 2 give
-pub answers-wide : {s : Shape} {word places : List ℕ} → narrow (s .b) word ≡ false → Tested s word places word (Refused Refusal.Width)
+pub answers-wide : {s : Shape} {word places : List ℕ} → narrow (s .b) word ≡ false → PlacesTested s word places word (Refused Refusal.Width)
 answers-wide e = record { wide = λ f. (refl, refl); unordered = λ t. absurd (clash t e); decided = λ t. absurd (clash t e) }
 
 pub answers-unordered : {s : Shape} {word places : List ℕ} → narrow (s .b) word ≡ true → rising (wordLength s) places ≡ false
-    → Tested s word places word (Refused Refusal.Places)
+    → PlacesTested s word places word (Refused Refusal.Places)
 answers-unordered e f = record { wide = λ w. absurd (clash e w); unordered = λ t g. (refl, refl); decided = λ t u. absurd (clash u f) }
 
 pub answers-decided : {s : Shape} {word places word′ : List ℕ} {r : Decoded} → narrow (s .b) word ≡ true → rising (wordLength s) places ≡ true
-    → Decision s word places word′ r → Tested s word places word′ r
+    → Decision s word places word′ r → PlacesTested s word places word′ r
 answers-decided e f d = record { wide = λ w. absurd (clash e w); unordered = λ t g. absurd (clash f g); decided = λ t u. d }

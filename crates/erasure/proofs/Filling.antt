@@ -1,6 +1,6 @@
 -- Filling in leaves one answer and one word; with few places it never leaves a choice, and undoes damage on them alone; with none it tells whether the word is a codeword.
 use mathlib.Core.Path.{_≡_, refl, sym, ap, _∙_, subst}
-use mathlib.Core.Bool.{true, not, _&&_}
+use mathlib.Core.Bool.{true, not, _&&_, _||_}
 use mathlib.Core.List.{List, []}
 use mathlib.Core.Logic.{_⊎_, inl, inr, ⊎-elim}
 use Prim.Native.Nat.{ℕ, _<_, _≤_}
@@ -8,9 +8,9 @@ use native.Mathlib.Omega.{arith}
 use lib.Dec.{eqb, lit<}
 use lib.ListN.{length}
 use lib.Seq.{ext-getD}
-use borrow.Author.Tests.{eqb-true, eq-eqb}
-use Rattle.parity.specs.Count.{any}
-use Rattle.parity.proofs.Tests.{and-left}
+use borrow.Author.Tests.{eqb-true, eq-eqb, not-false}
+use Rattle.parity.specs.Count.{any, count}
+use Rattle.parity.proofs.Tests.{and-left, or-no}
 use Rattle.parity.proofs.Sums.{count-none}
 use Rattle.gtb.specs.declared.Shape.{Shape}
 use Rattle.gtb.specs.declared.Refusal.{Refusal}
@@ -150,6 +150,16 @@ pub fill-right : {s : Shape} {word places scratch word′ scratch′ v : List �
 fill-right {s} {word} {places} {scratch} tests few stored f =
     let p = passed s word places scratch tests in
     decision-right (p .law) few (rising-places (p .rises)) stored (f .decided tests .0)
+
+-- ---- wrong symbols that are not listed
+-- where the positions that are listed or wrong are fewer than codewords are apart, no other codeword agrees
+pub never-another : (s : Shape) → Lawful s → (word places v : List ℕ) → Codeword s v
+    → count (wordLength s) (λ j. isListed places j || not (eqb (at v j) (at word j))) < minimumDistance (s .n) → (u : List ℕ) → Agrees s word places u → u ≡ v
+never-another s law word places v stored few u a =
+    few-unambiguous s law (λ j. isListed places j || not (eqb (at v j) (at word j))) few .one u v (a .codeword) stored
+    (λ j l off.
+    let (unlisted, right) = or-no (isListed places j) (not (eqb (at v j) (at word j))) off in
+    a .same j l unlisted ∙ sym (eqb-true _ _ (not-false _ right)))
 
 -- ---- no places
 -- what agrees with the word is the word

@@ -85,7 +85,7 @@ abbrev pub Decision : Shape → List ℕ → List ℕ → List ℕ → Decoded �
 Decision s word places word′ r = FilledIn s word places word′ r ⊎ (NoWord s word places word′ r ⊎ SeveralWords s word places word′ r)
 
 -- tests 3 and 12, then the work
-pub record Tested (s : Shape) (word places word′ : List ℕ) (r : Decoded) : Type 0 where
+pub record PlacesTested (s : Shape) (word places word′ : List ℕ) (r : Decoded) : Type 0 where
   pub wide : narrow (s .b) word ≡ false → (r ≡ Refused Refusal.Width) × (word′ ≡ word)
   pub unordered : narrow (s .b) word ≡ true → rising (wordLength s) places ≡ false → (r ≡ Refused Refusal.Places) × (word′ ≡ word)
   pub decided : narrow (s .b) word ≡ true → rising (wordLength s) places ≡ true → Decision s word places word′ r

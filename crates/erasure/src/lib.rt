@@ -20,7 +20,7 @@ ghost use lib.ListN.{length};
 ghost use Rattle.gtb.specs.Shape.{Lawful, wordLength, scratchLength};
 ghost use Rattle.gtb.specs.Square.{Word};
 ghost use Rattle.erasure.specs.Fill.{Filling};
-ghost use Rattle.erasure.specs.Steps.{Places, Solution, Decision, Tested};
+ghost use Rattle.erasure.specs.Steps.{Places, Solution, Decision, PlacesTested};
 
 // The changes at the places that make the word a codeword: how many such lists of changes there are, and the one.
 // Unknown k is the change at place k, so that a row needs as many bits as there are places.
@@ -66,7 +66,7 @@ fn decide(shape: Shape, word: &mut [u32], places: &[u32], scratch: &mut [u32]) -
 // Tests 3 and 12, then the work.
 fn judge(shape: Shape, word: &mut [u32], places: &[u32], scratch: &mut [u32]) -> Decoded
     requires { ⌜ Lawful shape × (length (now word) ≡ wordLength shape) × (length (now scratch) ≡ scratchLength shape) ⌝ }
-    ensures { λ r. ⌜ Tested shape (now (word .entry)) (now (places .entry)) (now (word .exit)) r ⌝ }
+    ensures { λ r. ⌜ PlacesTested shape (now (word .entry)) (now (places .entry)) (now (word .exit)) r ⌝ }
 {
     if !gtb::is_narrow(word, shape.b) {
         return Decoded::Refused(Refusal::Width);

@@ -7,7 +7,7 @@ use Prim.Native.Nat.{ℕ, _<_, _≤_}
 use native.Mathlib.Omega.{arith}
 use lib.Dec.{eqb, lit≤}
 use borrow.Author.Tests.{eqb-false}
-use lib.ListN.{length, length-replicate}
+use lib.ListN.{length}
 use Rattle.parity.proofs.Tests.{either}
 use Rattle.gtb.specs.declared.Shape.{Shape}
 use Rattle.gtb.specs.declared.Refusal.{Refusal}
@@ -60,14 +60,6 @@ refusal-small Refusal.Directions = lit≤ tt
 refusal-small Refusal.BeyondTwo = lit≤ tt
 refusal-small Refusal.Slope = lit≤ tt
 refusal-small Refusal.Bill = lit≤ tt
-
--- a refusal leaves a scratch of the same length
-pub scratch-size : (e : Refusal) (scratch : List ℕ) → length (scratchAfter e scratch) ≡ length scratch
-unfolding scratchAfter
-scratch-size e scratch =
-    ⊎-elim (λ (early : isEarly e ≡ true). rw early)
-    (λ (late : isEarly e ≡ false). rw late (length-replicate (length scratch) 0))
-    (either (isEarly e))
 
 -- ---- a shape is turned down by 1 or by 18
 pub shape-refusal-both : (P : Refusal → Type 0) → P Refusal.Shape → P Refusal.Slope → (s : Shape) → P (shapeRefusal s)

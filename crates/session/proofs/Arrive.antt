@@ -58,10 +58,6 @@ status-passed σ h =
     let (law, h₁) = unless-done (lawful (σ .shape)) _ _ h in
     (law, unless-done (consistent σ) _ _ h₁ .0)
 
-pub status-right : (σ : Session) → Lawful (σ .shape) → Consistent σ → sessionStatus σ ≡ status.Done
-unfolding sessionStatus
-status-right σ law right = rw (law, right)
-
 -- tests that are passed
 pub past-done : (t next : Status) → past t status.Refused next ≡ status.Done → (t ≡ status.Done) × (next ≡ status.Done)
 past-done status.Done next h = (refl, h)
