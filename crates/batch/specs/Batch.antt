@@ -1,4 +1,4 @@
--- A bundle of words: the arrivals of a whole run in one call (RULES 5.1).
+-- A bundle of words: the arrivals of a whole run in one call (RULES 5.3).
 use mathlib.Core.Path.{_≡_}
 use mathlib.Core.Bool.{Bool, _&&_}
 use mathlib.Core.List.{List, [], _∷_, _++_}

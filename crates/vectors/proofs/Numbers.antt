@@ -3,7 +3,7 @@ use mathlib.Core.Path.{_≡_, refl, sym, _∙_}
 use mathlib.Core.Bool.{Bool, true, false, not}
 use mathlib.Core.List.{List}
 use mathlib.Core.Logic.{⊎-elim, _⊎_}
-use Prim.Native.Nat.{ℕ, _*_, _/_, _≤_}
+use Prim.Native.Nat.{ℕ, _+_, _*_, _/_, _<_, _≤_}
 use native.Mathlib.Nat.{mul-le-mul}
 use native.Mathlib.Omega.{arith}
 use lib.Dec.{eqb, ltb}
@@ -16,10 +16,10 @@ use Rattle.gtb.specs.declared.Shape.{Shape}
 use Rattle.gtb.specs.declared.Refusal.{Refusal}
 use Rattle.gtb.specs.declared.Status.{Status}
 use Rattle.gtb.specs.declared.Status.the-variants as status
-use Rattle.gtb.specs.Shape.{lawful, Lawful, wordLength}
+use Rattle.gtb.specs.Shape.{lawful, Lawful, wordLength, infoLength}
 use Rattle.gtb.specs.Square.{at}
 use Rattle.gtb.specs.Answer.{unless}
-use Rattle.gtb.proofs.Answers.{unless-done}
+use Rattle.gtb.proofs.Answers.{unless-done, unless-passed}
 use Rattle.gtb.proofs.Bounds.{bounds}
 use Rattle.distance.specs.Distance.{differences, Near}
 use Rattle.correction.specs.declared.Decoded.{Decoded}
@@ -28,16 +28,21 @@ use Rattle.correction.specs.Reading.{Reader, Meaning, changesBy, acceptedBy, Re
 use Rattle.correction.proofs.Readings.{corrected-not, read-accepted}
 use Rattle.decoder.specs.Damage.{Explains}
 use Rattle.decoder.specs.Decode.{clean}
+use Rattle.decoder.proofs.Meaning.{decode-meets}
 use Rattle.majority.specs.Majority.{vote}
 use Rattle.double.specs.Double.{two}
 use Rattle.erasure.specs.Fill.{fillStatus, FilledIn, NoWord, SeveralWords, Filling}
-use Rattle.page.proofs.Pages.{page-facts, marks-few}
+use Rattle.page.specs.declared.PageRead.the-variants as page
+use Rattle.page.specs.Page.{pageOf}
+use Rattle.page.proofs.Pages.{page-facts, marks-few, no-page}
 use Rattle.session.specs.declared.Counted.the-variants as counted
 use Rattle.session.specs.Session.{sessionStatus, past, countedOf}
 use Rattle.energy.proofs.Sums.{bill-small}
 use Rattle.coverage.specs.declared.Covered.the-variants as covered
 use Rattle.coverage.specs.Coverage.{coverCount, coverOf}
 use Rattle.coverage.proofs.Marks.{cover-small}
+use Rattle.host.specs.Bytes.{symbolsOf}
+use Rattle.host.specs.Exported.{wordOf, pageIn}
 use Rattle.vectors.specs.Numbers.{Numbers, NoRefusal}
 
 pub numbers : Numbers
@@ -110,16 +115,27 @@ count-number (status.Refused e) u n k h = let z : _≡_ {A = ℕ} 0 1 = cc in ab
 count-number status.Done true n k h = cc
 count-number status.Done false n k h = let z : _≡_ {A = ℕ} 0 1 = cc in absurd (omega arith)
 
+page-few : (s : Shape) (symbols : List ℕ) (p c : ℕ) → pageOf s symbols ≡ page.Page p c → (p < 1024) × (c < 1024) × (1024 * p + c < 2147483648)
+page-few s symbols p c h =
+    let f = page-facts s symbols p c h in
+    (f .page, omega (arith, f .length, marks-few s symbols .1), omega (arith, f .page, f .length, marks-few s symbols .1))
+
 pub no-refusal : NoRefusal
-unfolding coverOf countedOf
+unfolding coverOf countedOf wordOf pageIn
 no-refusal = record {
   clean = λ k. few clean Explains k (λ l u. omega arith);
   vote = λ {s = s} k. few vote (λ s. Near s (s .n / 2)) k (λ l u. omega arith);
   two = λ k. few two (λ s. Near s 2) k (λ l u. omega arith);
   filled = λ {s} {w} {places} {x} k f. fill-few k (fillStatus s w places x) refl f;
-  page = λ s symbols p c h.
-      let f = page-facts s symbols p c h in
-      (f .page, omega (arith, f .length, marks-few s symbols .1), omega (arith, f .page, f .length, marks-few s symbols .1));
+  page = page-few;
+  wordBytes = λ s bytes k h.
+      let (law, h₁) = unless-passed (lawful s) _ _ (λ e. corrected-not _ k e) h in
+      let (size, read) = unless-passed (eqb (length bytes) (4 * wordLength s)) _ _ (λ e. corrected-not _ k e) h₁ in
+      few clean Explains k (λ l u. omega arith) (decode-meets s (symbolsOf bytes)) read;
+  pageBytes = λ s bytes p c h.
+      let (law, h₁) = unless-passed (lawful s) _ _ no-page h in
+      let (size, read) = unless-passed (eqb (length bytes) (4 * infoLength s)) _ _ no-page h₁ in
+      page-few s (symbolsOf bytes) p c read;
   cover = λ σ bytes k h. rw (sym (cover-number (sessionStatus σ) (eqb (length bytes) 256) (coverCount (σ .calls)) k h)) (cover-small (σ .calls));
   counted = λ σ small f k h. rw (sym (count-number (sessionStatus σ) (ltb f 256) (getD (σ .calls) f 0) k h)) (small f);
   bill = bill-small;

@@ -25,6 +25,7 @@ use Rattle.energy.specs.declared.Billed.the-variants as billed
 use Rattle.energy.specs.Energy.{billOf, billedNumber}
 use Rattle.coverage.specs.declared.Covered.the-variants as covered
 use Rattle.coverage.specs.Coverage.{coverOf, coveredNumber}
+use Rattle.host.specs.Exported.{wordOf, pageIn}
 use Rattle.verify.specs.declared.Verdict.the-variants as verdict
 use Rattle.verify.specs.Verify.{verdictNumber}
 
@@ -70,6 +71,10 @@ pub record NoRefusal : Type 0 where
   pub vote : {s : Shape} {w w′ : List ℕ} {r : Decoded} (k : ℕ) → Voting s w w′ r → r ≡ decoded.Corrected k → k ≤ 7
   pub two : {s : Shape} {w w′ : List ℕ} {r : Decoded} (k : ℕ) → ReadingTwo s w w′ r → r ≡ decoded.Corrected k → k ≤ 7
   pub filled : {s : Shape} {w places x w′ x′ : List ℕ} {r : Decoded} (k : ℕ) → Filling s w places x w′ x′ r → r ≡ decoded.Corrected k → k ≤ 961
+  -- of the exported pair
+  pub wordBytes : (s : Shape) (bytes : List ℕ) (k : ℕ) → wordOf s bytes ≡ decoded.Corrected k → k ≤ 7
+  pub pageBytes : (s : Shape) (bytes : List ℕ) (p c : ℕ) → pageIn s bytes ≡ page.Page p c → (p < 1024) × (c < 1024) × (1024 * p + c < 2147483648)
+  -- of the page reader
   pub page : (s : Shape) (symbols : List ℕ) (p c : ℕ) → pageOf s symbols ≡ page.Page p c → (p < 1024) × (c < 1024) × (1024 * p + c < 2147483648)
   pub cover : (σ : Session) (bytes : List ℕ) (k : ℕ) → coverOf σ bytes ≡ covered.Functions k → k ≤ 256
   pub counted : (σ : Session) → ((f : ℕ) → getD (σ .calls) f 0 < 4294967296) → (f k : ℕ) → countedOf σ f ≡ counted.Calls k → k < 4294967296
