@@ -1,11 +1,17 @@
 -- Each line is computed from the definitions.
-use mathlib.Core.Path.{refl}
+use mathlib.Core.Path.{_≡_, refl}
+use mathlib.Core.Bool.{true}
+use mathlib.Core.List.{[], _∷_}
 use native.Mathlib.Omega.{arith}
-use lib.ListN.{length}
+use lib.Dec.{eqb}
+use lib.ListN.{length, getD}
 use borrow.Author.Tests.{lt-ltb, le-ltb}
 use Rattle.parity.specs.Xor.{_⊕_, xorSum, when}
 use Rattle.parity.specs.Count.{bit, sum, count, any, all, firstValue, lowestNot}
 use Rattle.parity.specs.Lists.{tabulate}
+use Rattle.parity.proofs.Tests.{clash}
+use Rattle.gtb.specs.declared.Refusal.{Refusal}
+use Rattle.gtb.specs.Answer.{refusalNumber, isEarly, scratchAfter}
 use Rattle.gtb.specs.Shape.{orders, isOrder, lawful, regular, sloped, fitsSlope, shapeRefusal, slopeOf, keptChecks, scratchLength}
 use Rattle.gtb.specs.Square.{lineOf, narrow, syndrome, silentTest}
 use Rattle.encoder.specs.Contract.{statusOf}
@@ -19,7 +25,7 @@ use Rattle.session.specs.Session.{pagesOf, lowestOf, consistent, freshOf, fresh
 use Rattle.session.specs.Arrival.{isWay, wayOf, arrivalStatus, outcomeOf}
 use Rattle.energy.specs.Energy.{millis, billOf}
 use Rattle.coverage.specs.Coverage.{coverOf}
-use Rattle.batch.specs.Batch.{wholeRun, batchStatus}
+use Rattle.batch.specs.Batch.{wholeRun, batchStatus, allValues, valuesOf}
 use Rattle.verify.specs.Verify.{verdictOf}
 use Rattle.lines.specs.Text.{decimal, spell, sameBytes, outcomeName, outcomeText}
 use Rattle.lines.specs.Content.{valuesIn, contentOf}
@@ -28,7 +34,7 @@ use Rattle.host.specs.Bytes.{symbolsOf, bytesOf}
 use Rattle.judge.specs.Judge.{lineContent, passed, fault, judgedOf, start}
 use Rattle.capture.specs.Output.{outcomeLine}
 use Rattle.capture.specs.Feed.{feed, closing, outputOf}
-use Rattle.vectors.specs.Pinned.{Orders, Limits, Refusals}
+use Rattle.vectors.specs.Pinned.{Orders, Limits, Scratch, Refusals}
 
 pub orders-of-tests : Orders
 unfolding shapeRefusal lawful regular sloped fitsSlope isOrder orders any all sessionStatus consistent pagesOf lowestOf bit sum count lowestNot countedOf billOf coverOf arrivalStatus isWay wayOf batchStatus lookingOf readOf narrow fillStatus rising scratchLength keptChecks verdictOf pageOf functions zeros writeStatus outcomeOf overflows countOf
@@ -57,15 +63,18 @@ orders-of-tests = record {
 }
 
 pub limits : Limits
-unfolding lawful regular sloped fitsSlope isOrder orders any all pageOf narrow functions zeros countedOf sessionStatus consistent pagesOf lowestOf bit sum count lowestNot millis tabulate wholeRun readOf acceptedBy changesBy restoredBy votedAt majority shows firstValue mended silentTest syndrome xorSum when lineOf slopeOf _⊕_ statusOf scratchLength keptChecks symbolsOf bytesOf contentOf valuesIn content.small sameBytes spell decimal lineContent outputOf closing feed start judgedOf fault passed outcomeLine outcomeText outcomeName freshStatus freshOf shapeRefusal
+unfolding outcomeOf overflows countOf valuesOf allValues lawful regular sloped fitsSlope isOrder orders any all pageOf narrow functions zeros countedOf sessionStatus consistent pagesOf lowestOf bit sum count lowestNot millis tabulate wholeRun readOf acceptedBy changesBy restoredBy votedAt majority shows firstValue mended silentTest syndrome xorSum when lineOf slopeOf _⊕_ statusOf scratchLength keptChecks symbolsOf bytesOf contentOf valuesIn content.small sameBytes spell decimal lineContent outputOf closing feed start judgedOf fault passed outcomeLine outcomeText outcomeName freshStatus freshOf shapeRefusal
 limits = record {
   falling-slopes = refl;
   full-page = refl;
   last-function = refl;
+  last-count = refl;
   each-billed = refl;
   words-none = refl;
   words-64 = refl;
   words-65 = refl;
+  bundle-values = refl;
+  shipped-scratch = refl;
   half-of-two = refl;
   extraction = λ e. e .answer;
   symbols = refl;
@@ -80,6 +89,32 @@ limits = record {
   two-values = refl;
   other-words = refl;
 }
+
+others : (e : Refusal) → isEarly e ≡ true → any 5 (λ i. eqb (getD (1 ∷ 2 ∷ 11 ∷ 16 ∷ 18 ∷ []) i 0) (refusalNumber e)) ≡ true
+unfolding any
+others Refusal.Shape h = refl
+others Refusal.Length h = refl
+others Refusal.Width h = absurd (clash h refl)
+others Refusal.Uncorrectable h = absurd (clash h refl)
+others Refusal.Page h = absurd (clash h refl)
+others Refusal.Count h = absurd (clash h refl)
+others Refusal.Function h = absurd (clash h refl)
+others Refusal.Tail h = absurd (clash h refl)
+others Refusal.Overflow h = absurd (clash h refl)
+others Refusal.Syntax h = absurd (clash h refl)
+others Refusal.Figures h = refl
+others Refusal.Places h = absurd (clash h refl)
+others Refusal.Unfillable h = absurd (clash h refl)
+others Refusal.Ambiguous h = absurd (clash h refl)
+others Refusal.NoMajority h = absurd (clash h refl)
+others Refusal.Directions h = refl
+others Refusal.BeyondTwo h = absurd (clash h refl)
+others Refusal.Slope h = refl
+others Refusal.Bill h = absurd (clash h refl)
+
+pub scratch : Scratch
+unfolding scratchAfter
+scratch = record { kept = (refl, refl, refl, refl, refl); others = others; zeros = λ e xs h. rw h refl }
 
 pub refusals : Refusals
 refusals = record { clean = refl; vote = refl; two = refl }

@@ -3,13 +3,16 @@ use mathlib.Core.Path.{_≡_}
 use mathlib.Core.Bool.{true, false}
 use mathlib.Core.List.{List, [], _∷_}
 use Prim.Native.Nat.{ℕ}
-use lib.ListN.{length, replicate}
+use lib.Dec.{eqb}
+use lib.ListN.{length, getD, replicate}
+use Rattle.parity.specs.Count.{any}
 use Rattle.parity.specs.Lists.{tabulate}
 use Rattle.gtb.specs.declared.Shape.{Shape}
 use Rattle.gtb.specs.declared.Refusal.{Refusal}
 use Rattle.gtb.specs.declared.Status.{Status}
 use Rattle.gtb.specs.declared.Status.the-variants.{Done, Refused}
-use Rattle.gtb.specs.Shape.{standard, lawful, shapeRefusal}
+use Rattle.gtb.specs.Shape.{standard, lawful, shapeRefusal, scratchLength}
+use Rattle.gtb.specs.Answer.{refusalNumber, isEarly, scratchAfter}
 use Rattle.encoder.specs.Contract.{Extraction}
 use Rattle.correction.specs.declared.Decoded.the-variants as decoded
 use Rattle.decoder.specs.Decode.{clean, decodeOf}
@@ -28,7 +31,7 @@ use Rattle.energy.specs.declared.Billed.the-variants as billed
 use Rattle.energy.specs.Energy.{millis, billOf}
 use Rattle.coverage.specs.declared.Covered.the-variants as covered
 use Rattle.coverage.specs.Coverage.{coverOf}
-use Rattle.batch.specs.Batch.{wholeRun, batchStatus}
+use Rattle.batch.specs.Batch.{wholeRun, batchStatus, valuesOf}
 use Rattle.verify.specs.declared.Verdict.the-variants as verdict
 use Rattle.verify.specs.Verify.{verdictOf}
 use Rattle.lines.specs.Text.{ascii}
@@ -59,6 +62,10 @@ miscounted s = record { shape = s; taken = replicate 1024 false; calls = replica
 -- one with page 0 taken, and all counts at their largest
 abbrev pub worn : Session
 worn = record { shape = small; taken = true ∷ replicate 1023 false; calls = replicate 256 4294967295; pages = 1; lowest = 1 }
+
+-- one with all counts one below that
+abbrev pub nearlyWorn : Session
+nearlyWorn = record { shape = small; taken = true ∷ replicate 1023 false; calls = replicate 256 4294967294; pages = 1; lowest = 1 }
 
 -- what is printed for a capture whose first three lines have a fault
 abbrev pub faulty : List ℕ
@@ -93,10 +100,13 @@ pub record Limits : Type 0 where
   pub falling-slopes : lawful (sloping (2 ∷ 0 ∷ 0 ∷ 0 ∷ 0 ∷ 0 ∷ 0 ∷ [])) ≡ true
   pub full-page : pageOf (standard 17 4 9) (0 ∷ 222 ∷ replicate 222 255) ≡ page.Page 0 222
   pub last-function : countedOf (record { shape = small; taken = replicate 1024 false; calls = replicate 256 0; pages = 0; lowest = 0 }) 255 ≡ counted.Calls 0
+  pub last-count : outcomeOf nearlyWorn (Page 1 (1 ∷ []) 0) ≡ outcome.Taken 1 0
   pub each-billed : millis (λ f. f) (tabulate 256 (λ f. f)) ≡ 5559680
   pub words-none : wholeRun small [] ≡ false
   pub words-64 : wholeRun small (replicate 576 0) ≡ true
   pub words-65 : wholeRun small (replicate 585 0) ≡ false
+  pub bundle-values : valuesOf (outcome.Taken 5 1 ∷ outcome.Refused Refusal.Page ∷ []) ≡ 0 ∷ 5 ∷ 1 ∷ 2 ∷ 5 ∷ 0 ∷ replicate 186 0
+  pub shipped-scratch : scratchLength (standard 17 4 32) ≡ 650
   pub half-of-two : majorityOf small (12 ∷ 2 ∷ 7 ∷ 3 ∷ 1 ∷ 2 ∷ 6 ∷ 3 ∷ 5 ∷ []) ≡ decoded.Corrected 1
   -- what was lent for the answer may hold anything
   pub extraction : {scratch′ symbols′ : List ℕ} {r : Status}
@@ -113,6 +123,12 @@ pub record Limits : Type 0 where
   pub other-names : outputOf (ascii "q n\n") ≡ faulty
   pub two-values : outputOf (ascii "q n b\n3 2\n") ≡ faulty
   pub other-words : outputOf (ascii "q n b\n3 2 8\nwords\n") ≡ faulty
+
+-- after which refusals the scratch is as lent: 1, 2, 11, 16, 18; after every other it is zeros
+pub record Scratch : Type 0 where
+  pub kept : (isEarly Refusal.Shape ≡ true) × (isEarly Refusal.Length ≡ true) × (isEarly Refusal.Figures ≡ true) × (isEarly Refusal.Directions ≡ true) × (isEarly Refusal.Slope ≡ true)
+  pub others : (e : Refusal) → isEarly e ≡ true → any 5 (λ i. eqb (getD (1 ∷ 2 ∷ 11 ∷ 16 ∷ 18 ∷ []) i 0) (refusalNumber e)) ≡ true
+  pub zeros : (e : Refusal) (scratch : List ℕ) → isEarly e ≡ false → scratchAfter e scratch ≡ replicate (length scratch) 0
 
 -- the refusal of each reader
 pub record Refusals : Type 0 where
