@@ -22,27 +22,27 @@ pub struct Shape {
     pub slopes: [u32; 7],
 }
 
-// What is turned down, with the trade word of each; specs/Answer.antt has the numbers.
+// What is turned down; specs/Answer.antt has the numbers. Three have another word in the trade.
 pub enum Refusal {
-    Shape, // shape
-    Length, // length
-    Width, // width
+    Shape,
+    Length,
+    Width,
     Uncorrectable, // damage
-    Page, // page
-    Count, // count
-    Function, // function
-    Tail, // tail
+    Page,
+    Count,
+    Function,
+    Tail,
     Overflow, // worn
     Syntax, // text
-    Figures, // figures
-    Places, // places
-    Unfillable, // none
-    Ambiguous, // several
-    NoMajority, // vote
-    Directions, // directions
-    BeyondTwo, // pair
-    Slope, // slope
-    Bill, // bill
+    Figures,
+    Places,
+    Unfillable,
+    Ambiguous,
+    NoMajority,
+    Directions,
+    BeyondTwo,
+    Slope,
+    Bill,
 }
 
 // The answer of an entry that carries no value.
