@@ -1,3 +1,4 @@
 pub mod Choice
 pub mod Counting
 pub mod Shown
+pub mod Said

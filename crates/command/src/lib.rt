@@ -1,12 +1,16 @@
 // The program in a person's hands (RULES 7.5): what its arguments mean, and what it says besides the tally.
+mod said;
 mod shown;
 
+pub use said::complaint;
+pub use said::ending;
+pub use said::too_many;
+pub use said::unknown;
 pub use shown::progress;
-pub use shown::summary;
 ghost use mathlib.Core.Path.{_≡_};
 ghost use Rattle.command.specs.Choice.{choiceOf, meaningOf};
 ghost use Rattle.command.specs.Counting.{more, byLetter, stepOf, countedIn};
-ghost use Rattle.command.specs.Shown.{usageText, clearText};
+ghost use Rattle.command.specs.Shown.{usageText};
 
 // What to do: read standard input, or the file that is named, or say how the program is used. The last two are faults.
 pub enum Choice {
@@ -24,9 +28,18 @@ pub struct Counts {
     pub refused: u32,
 }
 
+// What the next of the first three lines should be, or the one at fault should have been; `Shape` where line 2 has three values. Nothing once words are read.
+pub enum Expected {
+    ShapeNames,
+    ShapeValues,
+    Shape,
+    WordNames,
+    Nothing,
+}
+
 // A short text: the first `size` bytes.
 pub struct Text {
-    pub bytes: [u8; 96],
+    pub bytes: [u8; 320],
     pub size: usize,
 }
 
@@ -77,13 +90,6 @@ pub fn usage() -> [u8; 541]
       Then the functions that were called: function, calls. If the line\n\
       'function calls' is missing, there is no tally: the first three lines are at fault,\n\
       or the input could not be read to its end. More: man tally.\n"
-}
-
-// The progress line taken away.
-pub fn clearing() -> [u8; 4]
-    ensures { λ r. ⌜ r ≡ clearText ⌝ }
-{
-    *b"\r\x1b[K"
 }
 
 // One more, unless the number is full.

@@ -3,10 +3,10 @@ use crate::Text;
 ghost use Prim.Native.Nat.{_+_, _≤_};
 ghost use lib.ListN.{length};
 ghost use Rattle.lines.specs.Text.{Put};
-ghost use Rattle.command.specs.Shown.{numbered, lowestText, progressText, summaryText, Held};
+ghost use Rattle.command.specs.Shown.{numbered, lowestText, progressText, Held};
 
 // A number and what it counts.
-fn put_numbered(out: &mut [u8], at: usize, value: u32, text: &[u8]) -> usize
+pub fn put_numbered(out: &mut [u8], at: usize, value: u32, text: &[u8]) -> usize
     requires { ⌜ at + 10 + length (now text) ≤ length (now out) ⌝ }
     ensures { λ r. ⌜ Put (now (out .entry)) at (numbered value (now (text .entry))) (now (out .exit)) r ⌝ }
 {
@@ -36,27 +36,10 @@ fn put_progress(out: &mut [u8], read: u32, pages: u32, lowest: u32) -> usize
     put_lowest(out, c, lowest)
 }
 
-fn put_summary(out: &mut [u8], taken: u32, again: u32, refused: u32) -> usize
-    requires { ⌜ 96 ≤ length (now out) ⌝ }
-    ensures { λ r. ⌜ Put (now (out .entry)) 0 (summaryText taken again refused) (now (out .exit)) r ⌝ }
-{
-    let a = put_numbered(out, 0, taken, b" taken, ");
-    let b = put_numbered(out, a, again, b" again, ");
-    put_numbered(out, b, refused, b" refused\n")
-}
-
 pub fn progress(read: u32, pages: u32, lowest: u32) -> Text
     ensures { λ r. ⌜ Held r (progressText read pages lowest) ⌝ }
 {
-    let mut bytes = [0u8; 96];
+    let mut bytes = [0u8; 320];
     let size = put_progress(&mut bytes, read, pages, lowest);
-    Text { bytes, size }
-}
-
-pub fn summary(taken: u32, again: u32, refused: u32) -> Text
-    ensures { λ r. ⌜ Held r (summaryText taken again refused) ⌝ }
-{
-    let mut bytes = [0u8; 96];
-    let size = put_summary(&mut bytes, taken, again, refused);
     Text { bytes, size }
 }

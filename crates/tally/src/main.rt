@@ -1,14 +1,16 @@
-// The tally of a capture, a file or standard input, to standard output. What is decided is decided in `capture` and `command`; this moves bytes.
-mod watch;
-
+// The tally of a capture, a file or standard input, to standard output. What to do is decided in `command` and `protocol`; this makes the system calls and reports what came of them.
 use command::Choice;
+use command::Text;
 use libc::STDERR_FILENO;
 use libc::STDIN_FILENO;
 use libc::STDOUT_FILENO;
-use watch::Watch;
+use protocol::Action;
+use protocol::State;
 ghost use mathlib.Core.Path.{_≡_};
+ghost use Prim.Native.Nat.{_≤_};
 ghost use lib.ListN.{length};
-ghost use Rattle.tally.specs.Block.{Block};
+ghost use Rattle.protocol.specs.Steps.{Sound, Stepped};
+ghost use Rattle.tally.specs.Read.{Acted};
 
 // Room for a block, or for a line.
 fn buffer() -> [u8; 16384]
@@ -24,20 +26,19 @@ fn output_buffer() -> [u8; 491584]
     [0; 491584]
 }
 
-// Of what is named, the reason of the call that has just failed. A write that succeeds leaves that reason alone.
-fn complain(name: &[u8]) {
-    io::write_all(STDERR_FILENO, b"tally: ");
-    os::fail(name);
+// To standard error. What could not be said there is not said elsewhere.
+fn tell(text: Text)
+    requires { ⌜ text .size ≤ length (text .bytes) ⌝ }
+{
+    let bytes = text.bytes;
+    let size = text.size;
+    io::write_all(STDERR_FILENO, &bytes[..size]);
 }
 
-// Writes to standard output. Where that fails, it is said in place of the progress line.
-fn put(seen: Watch, text: &[u8]) -> bool {
-    if io::write_all(STDOUT_FILENO, text) {
-        return true;
-    }
-    watch::clear(seen);
-    complain(b"standard output");
-    false
+// Of what is named, the reason of the call that has just failed. A write that succeeds leaves that reason alone.
+fn complain(name: &[u8]) {
+    tell(command::complaint(false));
+    os::fail(name);
 }
 
 // The usage, where `--help` asks for it.
@@ -50,86 +51,110 @@ fn help() {
 
 // An argument is refused.
 fn refuse(name: &[u8], reason: &[u8]) {
-    io::write_all(STDERR_FILENO, b"tally: ");
+    tell(command::complaint(false));
     io::write_all(STDERR_FILENO, name);
     io::write_all(STDERR_FILENO, reason);
 }
 
-// How many bytes came, none at the end; or the read failed.
-struct Got {
-    count: usize,
-    failed: bool,
+// A time before 1970, or one that can't be told, counts as 0.
+fn since_1970(time: i64) -> u64 {
+    if time > 0 { time as u64 } else { 0 }
 }
 
-// Reads a block, unless there is a reason to stop; `left` is what the limit leaves.
-fn read_block(fd: i32, block: &mut [u8], left: usize, stop: bool) -> Got
-    requires { ⌜ length (now block) ≡ 16384 ⌝ }
-    ensures { λ r. ⌜ Block left (now (block .exit)) (r .count) ⌝ }
+// The clock's second.
+fn second() -> u64 {
+    let mut now: i64 = 0;
+    since_1970(libc::time(&mut now))
+}
+
+// Reads a block.
+fn read(fd: i32, state: State, block: &mut [u8]) -> State
+    requires { ⌜ Sound state × (length (now block) ≡ 16384) ⌝ }
+    ensures { λ r. ⌜ Acted 3 state (now (block .exit)) r ⌝ }
 {
-    if stop || left == 0 {
-        return Got {
-            count: 0,
-            failed: false,
-        };
-    }
-    let want = capture::wanted(left);
+    let want = protocol::wanted(state);
     let got = libc::read(fd, &mut block[..want]);
     if got < 0 {
-        return Got {
-            count: 0,
-            failed: true,
-        };
+        return protocol::read_failed(state);
     }
     let count = io::count(got, &block[..want]);
-    Got {
-        count,
-        failed: false,
+    protocol::received(state, count)
+}
+
+// Writes to standard output.
+fn write(state: State, text: &[u8]) -> State
+    requires { ⌜ Sound state ⌝ }
+    ensures { λ r. ⌜ Stepped 1 state r ⌝ }
+{
+    if io::write_all(STDOUT_FILENO, text) {
+        return protocol::done(state);
+    }
+    protocol::write_failed(state)
+}
+
+// Names what failed, with the system's reason.
+fn blame(state: State, name: &[u8]) -> State
+    requires { ⌜ Sound state ⌝ }
+    ensures { λ r. ⌜ Stepped 0 state r ⌝ }
+{
+    tell(protocol::complaint(state));
+    os::fail(name);
+    protocol::done(state)
+}
+
+// What is to be done, where the reader is not needed for it. Of the others there is nothing to do here.
+fn act(fd: i32, name: &[u8], state: State, block: &mut [u8], out: &[u8]) -> State
+    requires { ⌜ Sound state × (length (now block) ≡ 16384) × (length (now out) ≡ 491584) ⌝ }
+    ensures { λ r. ⌜ Acted 0 state (now (block .exit)) r ⌝ }
+{
+    let action = state.action;
+    let size = state.size;
+    match action {
+        Action::Read => read(fd, state, block),
+        Action::Names => write(state, &protocol::names()),
+        Action::Write => write(state, &out[..size]),
+        Action::Look => protocol::looked(state, second()),
+        Action::Draw => {
+            tell(protocol::progress(state));
+            protocol::done(state)
+        }
+        Action::Last => write(state, &out[..size]),
+        Action::Say => {
+            tell(protocol::ending(state));
+            protocol::done(state)
+        }
+        Action::BlameInput => blame(state, name),
+        Action::BlameOutput => blame(state, b"standard output"),
+        Action::Take => protocol::done(state),
+        Action::Close => protocol::done(state),
+        Action::Stop => protocol::done(state),
     }
 }
 
-// Answers whether the input could be read. The first block is read before anything is written, so that one that can't be leaves no output. After a failed read or write there is no second table, so that it is not taken for the tally of the whole input.
-fn run(fd: i32) -> bool {
+// The loop: what is next, until there is nothing.
+fn run(fd: i32, name: &[u8]) {
     let mut block = buffer();
     let mut line = buffer();
     let mut out = output_buffer();
-    let mut left = capture::limit();
-    let mut got = read_block(fd, &mut block, left, false);
-    if got.failed {
-        return false;
-    }
-    let mut seen = watch::begin();
-    let names = lines::put_outcome_names(&mut out, 0);
-    let mut written = put(seen, &out[..names]);
     let mut reader = capture::begin();
-    while written && got.count > 0 {
-        let count = got.count;
-        left -= count;
-        reader = capture::take_block(reader, &block[..count], &mut line, &mut out);
-        let at = reader.at;
-        written = put(seen, &out[..at]);
-        let pages = reader.tally.session.pages;
-        let lowest = reader.tally.session.lowest;
-        seen = watch::look(seen, &out[..at], left, pages, lowest);
-        let stop = !written || capture::has_ended(reader);
-        got = read_block(fd, &mut block, left, stop);
-    }
-    if got.failed {
-        watch::clear(seen);
-        return false;
-    }
-    if !written {
-        return true;
-    }
-    let end = capture::finish(reader, &mut out);
-    if put(seen, &out[..end]) {
-        watch::finish(seen, &out[..end]);
-    }
-    true
-}
-
-fn run_named(fd: i32, name: &[u8]) {
-    if !run(fd) {
-        complain(name);
+    let error = libc::isatty(STDERR_FILENO) == 1;
+    let output = libc::isatty(STDOUT_FILENO) == 1;
+    let mut state = protocol::begin(error, output, second());
+    while protocol::goes_on(state) {
+        let action = state.action;
+        if let Action::Take = action {
+            let from = state.from;
+            let count = state.count;
+            let taken = protocol::take(state, reader, &block[from..count], &mut line, &mut out);
+            reader = taken.reader;
+            state = taken.state;
+            continue;
+        }
+        if let Action::Close = action {
+            state = protocol::close(state, reader, &mut out);
+            continue;
+        }
+        state = act(fd, name, state, &mut block, &out);
     }
 }
 
@@ -139,17 +164,14 @@ fn run_file(name: &[u8]) {
         complain(name);
         return;
     }
-    run_named(fd, name);
+    run(fd, name);
 }
 
 // The second argument is one too many.
 fn refuse_second() {
     let mut space = io::buffer();
     let size = os::arg(2, &mut space);
-    refuse(
-        &space[..size],
-        b": one argument too many; tally --help says how it is used\n",
-    );
+    refuse(&space[..size], &command::too_many());
 }
 
 // An argument that is longer than any name is no file's.
@@ -159,7 +181,7 @@ fn main() {
     let whole = os::errno() == 0;
     let choice = command::choose(os::arg_count(), &space[..size]);
     match choice {
-        Choice::Standard => run_named(STDIN_FILENO, b"standard input"),
+        Choice::Standard => run(STDIN_FILENO, b"standard input"),
         Choice::File => {
             if whole {
                 run_file(&space[..size]);
@@ -168,12 +190,7 @@ fn main() {
             }
         }
         Choice::Help => help(),
-        Choice::Unknown => {
-            refuse(
-                &space[..size],
-                b": no such option; tally --help says how it is used\n",
-            );
-        }
+        Choice::Unknown => refuse(&space[..size], &command::unknown()),
         Choice::TooMany => refuse_second(),
     }
 }
