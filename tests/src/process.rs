@@ -4,10 +4,12 @@ use crate::terminal::Terminal;
 use std::ffi::OsStr;
 use std::fmt::Display;
 use std::fs::{self, File, Permissions};
-use std::io::Write;
+use std::io::{Read, Write};
+use std::os::fd::OwnedFd;
 use std::os::unix::fs::PermissionsExt;
+use std::os::unix::net::UnixStream;
 use std::path::{absolute, Path, PathBuf};
-use std::process::{Child, ChildStdin, Command, Stdio};
+use std::process::{Child, Command, Stdio};
 use std::sync::atomic::{AtomicUsize, Ordering};
 use std::thread::ScopedJoinHandle;
 use std::time::Duration;
@@ -53,7 +55,25 @@ impl Program {
         })
     }
 
-    /// The same from a file, so that every read but the last gets as much as it asks for.
+    /// The same: all that the program writes, and what it leaves of its input.
+    pub fn run_leaving<'a>(
+        &self,
+        pieces: impl Iterator<Item = &'a [u8]> + Send,
+    ) -> Result<(Written, Vec<u8>), String> {
+        let problem = |error: std::io::Error| error.to_string();
+        let (here, mut there) = UnixStream::pair().map_err(problem)?;
+        let input = OwnedFd::from(there.try_clone().map_err(problem)?);
+        let child = self.start(self.command().stdin(input))?;
+        thread::scope(|scope| {
+            scope.spawn(move || feed(here, pieces, Duration::ZERO));
+            let output = child.wait_with_output().map_err(problem)?;
+            let mut rest = vec![];
+            there.read_to_end(&mut rest).map_err(problem)?;
+            Ok((Written { output: output.stdout, error: output.stderr }, rest))
+        })
+    }
+
+    /// From a file, so that every read but the last gets as much as it asks for.
     pub fn run_file(&self, input: &[u8]) -> Result<Vec<u8>, String> {
         let file = TemporaryFile::new(input)?;
         finish(self.start(self.command().stdin(file.open()?))?)
@@ -153,7 +173,7 @@ fn about<E: Display>(path: &Path) -> impl Fn(E) -> String + '_ {
 }
 
 /// Writes the pieces with a pause after each. After a fault the program may end without reading on.
-fn feed<'a>(mut pipe: ChildStdin, pieces: impl Iterator<Item = &'a [u8]>, pause: Duration) {
+fn feed<'a>(mut pipe: impl Write, pieces: impl Iterator<Item = &'a [u8]>, pause: Duration) {
     for piece in pieces {
         if pipe.write_all(piece).is_err() {
             break;

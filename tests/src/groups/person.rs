@@ -1,12 +1,12 @@
 //! The linked program in a person's hands: its arguments, and what it says on standard error.
 
-use super::faults::{first_lines, second_lines, SHAPE};
+use super::faults::{first_lines, second_lines, third_lines, SHAPE};
 use super::text::compare;
 use crate::capture::{heading, recording, text, word_lines};
 use crate::process::{Program, TemporaryFile, Written};
 use crate::random::Random;
 use crate::reference::page::PAGES;
-use crate::reference::program::tally;
+use crate::reference::program::{fault, tally};
 use crate::reference::shape::Shape;
 use crate::report::{Group, Unit, Verdict};
 use std::env;
@@ -25,6 +25,9 @@ extern "C" {
 /// A capture of one page.
 const CAPTURE: &str = "q n b\n3 2 8\nword\n5 2 7 3 1 2 6 3 5\n";
 
+/// The summary of no answers.
+const NO_WORDS: &str = "0 taken, 0 again, 0 refused\n";
+
 /// A line of the terminal emptied.
 const CLEAR: &str = "\r\x1b[K";
 
@@ -42,6 +45,7 @@ pub fn group(program: &Program) -> Group {
     test("names with odd letters", |program, _| odd_names(program));
     test("progress and summary", progress);
     test("a summary alone", summary);
+    test("a fault in the first three lines", |program, _| first_three(program));
     test("no terminal, no word", silence);
     test("nothing to say after a fault", |program, _| faults(program));
     group
@@ -218,6 +222,27 @@ fn summary_of(output: &[u8]) -> String {
     format!("{} taken, {} again, {} refused\n", count("taken"), count("again"), count("refused"))
 }
 
+/// What was expected in a line, which was answered with this refusal.
+fn expected_there(line: usize, refusal: u32) -> &'static str {
+    match (line, refusal) {
+        (1, _) => "tally: line 1: expected 'q n b'\n",
+        (2, 1) => {
+            "tally: line 2: expected q one of 3, 5, 7, 11, 13, 17, 19, 23, 29, 31, \
+             n from 2 to the smaller of q and 8, b from 1 to 32\n"
+        }
+        (2, _) => "tally: line 2: expected the three values of q, n and b\n",
+        _ => "tally: line 3: expected 'word'\n",
+    }
+}
+
+/// What stands there at the end. The refused line of a fault is the answer to no word.
+fn ending_of(input: &[u8], output: &[u8]) -> String {
+    match fault(input) {
+        None => summary_of(output),
+        Some((line, refusal)) => expected_there(line, refusal as u32).to_string() + NO_WORDS,
+    }
+}
+
 /// What a terminal got: the progress lines, all cleared, and what is left at the end.
 fn shown(error: &[u8]) -> Result<(Vec<String>, String), String> {
     let text = String::from_utf8_lossy(error).into_owned();
@@ -236,11 +261,11 @@ fn shown(error: &[u8]) -> Result<(Vec<String>, String), String> {
 fn progress_of(input: &[u8], written: &Written) -> Result<Vec<String>, String> {
     expect_tally(input, &Written { output: written.output.clone(), error: vec![] })?;
     let (lines, last) = shown(&written.error)?;
-    let summary = summary_of(&written.output);
-    if last == summary {
+    let ending = ending_of(input, &written.output);
+    if last == ending {
         Ok(lines)
     } else {
-        Err(format!("at the end it says {last:?}, expected {summary:?}"))
+        Err(format!("at the end it says {last:?}, expected {ending:?}"))
     }
 }
 
@@ -322,6 +347,27 @@ fn summary(program: &Program, random: &mut Random) -> Verdict {
         return Err(format!("both terminals: {:?}", String::from_utf8_lossy(&written.error)));
     }
     Ok(2 * inputs.len() as u64 + 1)
+}
+
+/// A fault in each of the first three lines, of every kind, or the input's end before them: a person is told which line
+/// and what was expected there, and no word is counted. A script is told nothing.
+fn first_three(program: &Program) -> Verdict {
+    let mut tried = 0;
+    for (line, inputs) in (1..).zip([first_lines(), second_lines(), third_lines()]) {
+        for (input, refusal) in inputs {
+            let input = input.as_bytes();
+            let written = program.run_watched([input].into_iter(), Duration::ZERO, false, true)?;
+            let wanted = expected_there(line, refusal).to_string() + NO_WORDS;
+            let (_, said) = shown(&written.error)?;
+            if said != wanted {
+                return Err(format!("{:?}: it says {said:?}, expected {wanted:?}", String::from_utf8_lossy(input)));
+            }
+            expect_tally(input, &Written { output: written.output, error: vec![] })?;
+            expect_tally(input, &program.run_arguments(&[], input)?)?;
+            tried += 2;
+        }
+    }
+    Ok(tried)
 }
 
 /// Standard error no terminal, in a run long enough for progress.

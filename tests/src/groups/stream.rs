@@ -155,8 +155,12 @@ fn long(program: &Program, shape: Shape, random: &mut Random) -> Verdict {
     Ok(2)
 }
 
+/// What is said where the limit was reached, whether anything follows or not.
+const LIMIT: &str = "tally: 4294967295 bytes read, the most that are read; what follows counts as absent\n";
+
 /// More bytes than are read: a page's newline is byte `last`, the first byte being 1. Up to 2^32 - 1
-/// that is a page; one byte later the newline counts as absent. Nothing after it is read.
+/// that is a page; one byte later the newline counts as absent. Nothing after it is read, and standard
+/// error, which is no terminal, says so.
 fn without_end(program: &Program, last: usize) -> Verdict {
     let start = heading(SHAPE).into_bytes();
     let end = b"\n5 2 7 3 1 2 6 3 5\n";
@@ -168,6 +172,13 @@ fn without_end(program: &Program, last: usize) -> Verdict {
     let outcome =
         if last <= MAX_INPUT { "taken 1 0\nfunction calls\n3 1\n5 1\n" } else { "refused 10 0\nfunction calls\n" };
     let expected = format!("outcome page fixed\nrefused 10 0\n{outcome}");
-    let difference = compare(expected.as_bytes(), program.run_pieces(pieces, Duration::ZERO));
-    difference.map_or(Ok(1), Err)
+    let (written, rest) = program.run_leaving(pieces)?;
+    let unread = [&end[..], &after[..]].concat();
+    if rest != unread[unread.len() - after.len() - (last - MAX_INPUT)..] {
+        return Err(format!("{} bytes are left of the input, expected {}", rest.len(), after.len() + last - MAX_INPUT));
+    }
+    if written.error != LIMIT.as_bytes() {
+        return Err(format!("it says {:?}, expected {LIMIT:?}", String::from_utf8_lossy(&written.error)));
+    }
+    compare(expected.as_bytes(), Ok(written.output)).map_or(Ok(1), Err)
 }

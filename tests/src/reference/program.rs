@@ -14,7 +14,7 @@ pub fn tally(input: &[u8]) -> Vec<u8> {
     let mut lines = input.split_inclusive(|&byte| byte == b'\n');
     let mut output = String::from("outcome page fixed\n");
     match opening(&mut lines) {
-        Err(refusal) => output += &outcome_line(Outcome::Refused(refusal)),
+        Err((_, refusal)) => output += &outcome_line(Outcome::Refused(refusal)),
         Ok(mut session) => {
             for line in lines {
                 output += &outcome_line(word_line(&mut session, line));
@@ -25,14 +25,23 @@ pub fn tally(input: &[u8]) -> Vec<u8> {
     output.into_bytes()
 }
 
-/// Lines 1 to 3, judged in order.
-fn opening<'a>(lines: &mut impl Iterator<Item = &'a [u8]>) -> Result<Session, Refusal> {
-    expect(lines.next(), b"q n b")?;
-    let shape = values(text(lines.next())?).ok_or(Refusal::Syntax)?;
-    let [q, n, b] = shape[..] else { return Err(Refusal::Syntax) };
-    let session = Session::fresh(Shape::new(q, n, b))?;
-    expect(lines.next(), b"word")?;
+/// Which of the first three lines is at fault, and by what.
+pub fn fault(input: &[u8]) -> Option<(usize, Refusal)> {
+    opening(&mut input.split_inclusive(|&byte| byte == b'\n')).err()
+}
+
+/// Lines 1 to 3, judged in order. Of a fault the number of the line too.
+fn opening<'a>(lines: &mut impl Iterator<Item = &'a [u8]>) -> Result<Session, (usize, Refusal)> {
+    expect(lines.next(), b"q n b").map_err(|refusal| (1, refusal))?;
+    let session = shape(lines.next()).and_then(Session::fresh).map_err(|refusal| (2, refusal))?;
+    expect(lines.next(), b"word").map_err(|refusal| (3, refusal))?;
     Ok(session)
+}
+
+fn shape(line: Option<&[u8]>) -> Result<Shape, Refusal> {
+    let shape = values(text(line)?).ok_or(Refusal::Syntax)?;
+    let [q, n, b] = shape[..] else { return Err(Refusal::Syntax) };
+    Ok(Shape::new(q, n, b))
 }
 
 fn expect(line: Option<&[u8]>, name: &[u8]) -> Result<(), Refusal> {
