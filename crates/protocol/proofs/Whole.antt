@@ -452,3 +452,142 @@ whole-run {c} {input = input} run b =
     (⊎-elim (λ f. ended-output (e .blocks) (b .tally) (b .held) (b .line) (e .run) (e .end) few f (e .rest) ∙ ap outputOf (sym (e .delivered)))
     (λ n. limit-output (e .blocks) (b .tally) (b .held) (b .line) (e .run) (e .end) few (omega (arith, n)) (e .rest) ∙ ap outputOf (sym (e .delivered))))
     (e .why)
+
+-- ---- how much is read
+step-left : {c c₁ : Config} {input text input₁ : List ℕ} {ok : Bool} → Step c input text ok c₁ input₁ → length input + c₁ .state .left ≡ length input₁ + c .state .left
+unfolding movedOf closedOf lookedOf
+step-left (Received c block bytes rest read asked none same) =
+    omega (arith, length-append bytes rest, left-is (c .state) false block (c .out) bytes rest read asked none same)
+step-left (ReadFailed c block input read) = refl
+step-left (Done c input done) = refl
+step-left (WriteFailed c input w) = refl
+step-left (Taken c line out input r a t) = refl
+step-left (Looked c input second a) =
+    ap (λ (n : ℕ). length input + n) (pick (λ (x : State). x .left ≡ c .state .left) (eqb second (c .state .watch .second)) (λ t. refl) (λ f. refl))
+step-left (Closed c out input s a k) = refl
+
+run-left : {c c₂ : Config} {input output input₂ : List ℕ} {well : Bool} → Run c input output well c₂ input₂ → length input + c₂ .state .left ≡ length input₂ + c .state .left
+run-left (End c input stop) = refl
+run-left (On c c₁ c₂ input input₁ input₂ text output ok well step run) = omega (arith, step-left step, run-left run)
+
+-- at most so many bytes are read, whatever goes wrong
+pub read-bytes : {c c₂ : Config} {input output input₂ : List ℕ} {well : Bool} → Run c input output well c₂ input₂ → Beginning c → length input ≤ length input₂ + readLimit
+unfolding begun
+read-bytes run b = omega (arith, run-left run, ap (λ (s : State). s .left) (b .state))
+
+-- ---- a run in which a call fails
+record PartAt (reader : Reader) (line ahead wait input output : List ℕ) : Type 0 where
+  blocks : List (List ℕ)
+  text : List ℕ
+  final : Reader
+  buffer : List ℕ
+  rest : List ℕ
+  run : BlockRun reader line blocks text final buffer
+  begins : wait ++ input ≡ joined blocks ++ rest
+  is : output ≡ ahead ++ text
+
+part-as : {reader : Reader} {line ahead ahead′ wait wait′ input input′ output : List ℕ} → ahead ≡ ahead′ → wait′ ++ input′ ≡ wait ++ input
+    → (output ≡ []) ⊎ PartAt reader line ahead wait input output → (output ≡ []) ⊎ PartAt reader line ahead′ wait′ input′ output
+part-as a b (inl n) = inl n
+part-as a b (inr p) =
+    inr (record {
+      blocks = p .blocks; text = p .text; final = p .final; buffer = p .buffer; rest = p .rest; run = p .run; begins = b ∙ p .begins;
+      is = p .is ∙ ap (λ (x : List ℕ). x ++ p .text) a;
+    })
+
+-- after what has been handed out
+part-after : {reader : Reader} {line wait input output : List ℕ} (text : List ℕ) → (output ≡ []) ⊎ PartAt reader line [] wait input output
+    → (text ++ output ≡ []) ⊎ PartAt reader line text wait input (text ++ output)
+part-after {reader} {line} {wait} {input} text (inl n) =
+    inr (record { blocks = []; text = []; final = reader; buffer = line; rest = wait ++ input; run = None reader line; begins = refl; is = ap (λ (x : List ℕ). text ++ x) n })
+part-after text (inr p) =
+    inr (record {
+      blocks = p .blocks; text = p .text; final = p .final; buffer = p .buffer; rest = p .rest; run = p .run; begins = p .begins; is = ap (λ (x : List ℕ). text ++ x) (p .is);
+    })
+
+last-broken : {c c₂ : Config} {input output input₂ : List ℕ} {well : Bool} → Run c input output well c₂ input₂ → well ≡ false → rank (c .state .action) ≡ 2
+    → rank (c .state .then) ≤ 1 → output ≡ []
+last-broken (End c input stop) e a f = refl
+last-broken (On c c₁ c₂ input input₁ input₂ text output ok well (Received _ block bytes rest read asked none same) run) e a f = absurd (omega (arith, ap rank read))
+last-broken (On c c₁ c₂ input input₁ input₂ text output ok well (ReadFailed _ block _ read) run) e a f = absurd (omega (arith, ap rank read))
+last-broken (On c c₁ c₂ input input₁ input₂ text output ok well (Done _ _ done) run) e a f = absurd (clash (quiet run f (omega arith) .good) e)
+last-broken (On c c₁ c₂ input input₁ input₂ text output ok well (WriteFailed _ _ w) run) e a f = quiet run (omega arith) (omega arith) .none
+last-broken (On c c₁ c₂ input input₁ input₂ text output ok well (Taken _ line out _ r b t) run) e a f = absurd (omega (arith, ap rank b))
+last-broken (On c c₁ c₂ input input₁ input₂ text output ok well (Looked _ _ second b) run) e a f = absurd (omega (arith, ap rank b))
+last-broken (On c c₁ c₂ input input₁ input₂ text output ok well (Closed _ out _ s b k) run) e a f = absurd (omega (arith, ap rank b))
+
+closed-broken : (s : State) (size : ℕ) {reader : Reader} {block line out input output input₂ : List ℕ} {c₂ : Config} {well : Bool}
+    → Run (record { state = closedOf s size (take size out); reader = reader; block = block; line = line; out = out }) input output well c₂ input₂ → well ≡ false → output ≡ []
+unfolding closedOf
+closed-broken s size run e = last-broken run e refl (omega arith)
+
+piece-part : (s : State) (block line out input : List ℕ) (reader reader′ : Reader) (size : ℕ) (line′ out′ : List ℕ) → s .action ≡ Take
+    → Inv s (isEnded (reader .tally .phase)) (waitOf s block) input → BlockTaken reader line (take size (waitOf s block)) line′ out′ reader′ → {output : List ℕ}
+    → (output ≡ []) ⊎ PartAt reader′ line′ (aheadOf (takenOf s size reader′ (take (reader′ .at) out′)) out′) (waitOf (takenOf s size reader′ (take (reader′ .at) out′)) block) input output
+    → (output ≡ []) ⊎ PartAt reader line (aheadOf s out) (waitOf s block) input output
+unfolding movedOf watchedOf
+piece-part s block line out input reader reader′ size line′ out′ a inv taken (inl n) = inl n
+piece-part s block line out input reader reader′ size line′ out′ a inv taken (inr p) =
+    let piece = take size (waitOf s block) in
+    let text = take (reader′ .at) out′ in
+    let named = has-named inv (λ r. omega (arith, ap rank a)) in
+    inr (record {
+      blocks = piece ∷ p .blocks; text = text ++ p .text; final = p .final; buffer = p .buffer; rest = p .rest;
+      run = Block reader reader′ (p .final) line line′ (p .buffer) piece text (p .text) (p .blocks) (record { out = out′; taken = taken; wrote = refl }) (p .run);
+      begins =
+          ap (λ (x : List ℕ). x ++ input) (split size (s .from) (take (s .count) block)) ∙ append-assoc piece (drop (s .from + size) (take (s .count) block)) input
+          ∙ ap (λ (x : List ℕ). piece ++ x) (p .begins) ∙ sym (append-assoc piece (joined (p .blocks)) (p .rest));
+      is =
+          p .is ∙ ap (λ (b : Bool). cond b text namesOutcome ++ p .text) named
+          ∙ sym (ap (λ (x : List ℕ). x ++ (text ++ p .text)) (ahead-none s out named (ap (λ (x : Action). handedIn x (take (s .size) out)) a)));
+    })
+
+looked-part : (s : State) (fault : Bool) (block out input : List ℕ) (second : ℕ) (look : s .action ≡ Look) (inv : Inv s fault (waitOf s block) input) {reader : Reader} {line output : List ℕ}
+    → (output ≡ []) ⊎ PartAt reader line (aheadOf (lookedOf s second) out) (waitOf (lookedOf s second) block) input output
+    → (output ≡ []) ⊎ PartAt reader line (aheadOf s out) (waitOf s block) input output
+looked-part s fault block out input second look inv {reader} {line} {output} p =
+    let none = look-none s fault block out input second look inv in
+    let named = look-named s fault block out input second look inv in
+    ⊎-elim
+    (λ (x : eqb second (s .watch .second) ≡ true).
+    let q = subst (λ (t : State). (output ≡ []) ⊎ PartAt reader line (aheadOf t out) (waitOf t block) input output) (same-second s fault block out input second look inv x) p in
+    part-as {wait = waitOf s block} {input = input} (ahead-none (towardOf (nextOf s) Stop s) out named (look-next s fault block out input second look inv .hands (take (s .size) out)) ∙ sym none) refl q)
+    (λ (x : eqb second (s .watch .second) ≡ false).
+    let q = subst (λ (t : State). (output ≡ []) ⊎ PartAt reader line (aheadOf t out) (waitOf t block) input output) (other-second s fault block out input second look inv x) p in
+    part-as {wait = waitOf s block} {input = input} (ahead-none (drawing s fault block out input second look inv) out named refl ∙ sym none) refl q)
+    (either (eqb second (s .watch .second)))
+
+breaks : {c c₂ : Config} {input output input₂ : List ℕ} {well : Bool} → Run c input output well c₂ input₂ → well ≡ false
+    → Inv (c .state) (isEnded (c .reader .tally .phase)) (waiting c) input → (output ≡ []) ⊎ PartAt (c .reader) (c .line) (aheadOf (c .state) (c .out)) (waiting c) input output
+breaks (End c input stop) e inv = inl refl
+breaks (On c c₁ c₂ input input₁ input₂ text output ok well (Received _ block bytes rest read asked none same) run) e inv =
+    let fault = isEnded (c .reader .tally .phase) in
+    part-as (ahead-is (c .state) fault block (c .out) bytes rest read asked none same)
+    (rw (inv .read (ap rank read), wait-is (c .state) fault block (c .out) bytes rest read asked none same))
+    (breaks run e (received-inv (c .state) fault block (c .out) bytes rest read asked none same))
+breaks (On c c₁ c₂ input input₁ input₂ text output ok well (ReadFailed _ block _ read) run) e inv = inl (quiet run (omega arith) (omega arith) .none)
+breaks (On c c₁ c₂ input input₁ input₂ text output ok well (Done _ _ done) run) e inv =
+    let n = inv .then done in
+    let named = has-named inv (λ r. not-done (c .state .action) r done) in
+    part-as {wait = waiting c} {input = input} (sym (ap (λ (b : Bool). cond b (handed c) namesOutcome) named)) refl
+    (part-after (handed c)
+    (part-as {wait = waiting c} {input = input} (ahead-none (doneOf (c .state)) (c .out) named (n .hands (take (c .state .size) (c .out)))) refl
+    (breaks run e (next-inv (c .state) (c .state .then) (isEnded (c .reader .tally .phase)) (waiting c) input n (inv .ended) named))))
+breaks (On c c₁ c₂ input input₁ input₂ text output ok well (WriteFailed _ _ w) run) e inv = inl (quiet run (omega arith) (omega arith) .none)
+breaks (On c c₁ c₂ input input₁ input₂ text output ok well (Taken _ line out _ r a t) run) e inv =
+    piece-part (c .state) (c .block) (c .line) (c .out) input (c .reader) (r .reader) (t .size) line out a inv (t .taken)
+    (breaks run e (piece-inv (c .state) (c .block) (c .line) (c .out) input (c .reader) (r .reader) (t .size) line out a inv (t .taken)))
+breaks (On c c₁ c₂ input input₁ input₂ text output ok well (Looked _ _ second a) run) e inv =
+    looked-part (c .state) (isEnded (c .reader .tally .phase)) (c .block) (c .out) input second a inv
+    (breaks run e (looked-inv (c .state) (isEnded (c .reader .tally .phase)) (c .block) (c .out) input second a inv))
+breaks (On c c₁ c₂ input input₁ input₂ text output ok well (Closed _ out _ s a k) run) e inv = inl (closed-broken (c .state) (s .size) run e)
+
+-- if a call fails, nothing was handed out, or the first name line and the answers to blocks that the input begins with: no second table
+pub broken-run : {c c₂ : Config} {input output input₂ : List ℕ} → Run c input output false c₂ input₂ → Beginning c → (output ≡ []) ⊎ Part c input output
+unfolding begun
+broken-run {c} {input = input} run b =
+    ⊎-elim (λ n. inl n)
+    (λ p. inr (record {
+      blocks = p .blocks; text = p .text; last = p .final; buffer = p .buffer; rest = p .rest; run = p .run; begins = p .begins; is = p .is;
+    }))
+    (rw (b .state) at (breaks run refl (begin-inv input b)))
