@@ -4,7 +4,7 @@ use mathlib.Core.List.{List}
 use Prim.Native.Nat.{ℕ, _+_, _*_}
 use lib.Dec.{eqb}
 use lib.ListN.{length}
-use Rattle.parity.specs.Xor.{_⊕_}
+use Rattle.parity.specs.Xor.{_⊕_, when}
 use Rattle.parity.specs.Count.{count}
 use Rattle.parity.specs.Lists.{tabulate}
 use Rattle.gtb.specs.declared.Shape.{Shape}
@@ -30,3 +30,7 @@ damaged v e = tabulate (length v) (λ j. at v j ⊕ at e j)
 -- the word with the error that a function gives taken off
 unfoldable pub mended : Shape → List ℕ → (ℕ → ℕ) → List ℕ
 mended s w error = tabulate (wordLength s) (λ j. at w j ⊕ error j)
+
+-- the symbols f with x XORed onto position i
+unfoldable pub off : (ℕ → ℕ) → ℕ → ℕ → ℕ → ℕ
+off f i x j = f j ⊕ when (eqb j i) x

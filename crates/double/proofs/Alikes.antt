@@ -11,9 +11,9 @@ use Rattle.gtb.specs.Shape.{wordLength}
 use Rattle.gtb.specs.Square.{lineOf, syndrome, silentTest}
 use Rattle.gtb.specs.Alike.{reslope, Alike}
 use Rattle.gtb.proofs.Alikes.{silent-alike}
-use Rattle.correction.specs.Error.{onCheck}
+use Rattle.correction.specs.Error.{onCheck, off}
 use Rattle.correction.proofs.Slopes.{AlikeReader, check-alike}
-use Rattle.double.specs.Double.{off, single, twoAt, two}
+use Rattle.double.specs.Double.{single, twoAt, two}
 
 module _ (s : Shape) (slopes : List ℕ) (alike : Alike s slopes) where
   -- a row has no slope

@@ -10,7 +10,7 @@ use lib.Dec.{eqb}
 use borrow.Author.Tests.{ne-eqb, eqb-true, eqb-false, not-true, not-false}
 use Rattle.parity.specs.Xor.{_⊕_, when}
 use Rattle.parity.specs.Count.{any}
-use Rattle.parity.proofs.Xors.{self, twice, zero-l, zero-r, eq-of-zero, when-zero}
+use Rattle.parity.proofs.Xors.{self, twice, zero-l, zero-r, eq-of-zero, when-zero, when-here, when-there}
 use Rattle.parity.proofs.XorSums.{none}
 use Rattle.parity.proofs.Tests.{either, clash, and-both, not-of-false, any-elim, any-no}
 use Rattle.parity.proofs.Pigeon.{count-others}
@@ -27,7 +27,6 @@ use Rattle.correction.proofs.Errors.{mended-at}
 use Rattle.correction.proofs.Near.{errorOf}
 use Rattle.double.specs.declared.Pair.{Pair}
 use Rattle.double.specs.Steps.{pairOf, FirstLine, LastLine, Tried, Parts}
-use Rattle.double.proofs.Pairs.{when-here, when-there}
 use Rattle.double.proofs.Lone.{lone, lone-check}
 
 -- the word differs from v at p and at r, which may be one position, and nowhere else

@@ -9,7 +9,7 @@ use lib.Dec.{eqb}
 use borrow.Author.Tests.{eqb-true, eqb-false, not-true}
 use Rattle.parity.specs.Xor.{_⊕_}
 use Rattle.parity.specs.Count.{count}
-use Rattle.parity.proofs.Xors.{xors, zero-r, twice, eq-of-zero, lt-pow, when-lt}
+use Rattle.parity.proofs.Xors.{xors, twice, eq-of-zero}
 use Rattle.parity.proofs.Tests.{either, and-left, and-right, and-both, not-of-false, any-elim, any-intro}
 use Rattle.parity.proofs.First.{first-some, first-none}
 use Rattle.parity.proofs.Pigeon.{count-others}
@@ -22,31 +22,18 @@ use Rattle.gtb.proofs.Words.{silent-test, test-cong}
 use Rattle.gtb.proofs.Crossing.{private-check}
 use Rattle.distance.specs.Distance.{Near}
 use Rattle.distance.proofs.Near.{near-unique}
-use Rattle.correction.specs.Error.{onCheck, mended}
-use Rattle.correction.proofs.Errors.{mended-at}
+use Rattle.correction.specs.Error.{onCheck, mended, off}
+use Rattle.correction.proofs.Errors.{mended-at, off-here, off-there, off-narrow}
 use Rattle.correction.proofs.Near.{errorOf, support, outside, error-size, near-shown, near-private, error-near}
-use Rattle.double.specs.Double.{off, single, twoAt, two}
+use Rattle.double.specs.Double.{single, twoAt, two}
 use Rattle.double.specs.Steps.{pairOf}
-use Rattle.double.proofs.Pairs.{when-here, when-there, pair-narrow, pair-few}
+use Rattle.double.proofs.Pairs.{pair-narrow, pair-few}
 use Rattle.double.proofs.Lone.{lone, lone-check}
-
--- ---- the value of a symbol, with x taken off at i
-off-here : (f : ℕ → ℕ) (i x : ℕ) → off f i x i ≡ f i ⊕ x
-unfolding off
-off-here f i x = ap (λ (y : ℕ). f i ⊕ y) (when-here i x)
-
-off-there : (f : ℕ → ℕ) (i x j : ℕ) → (j ≡ i → ⊥) → off f i x j ≡ f j
-unfolding off
-off-there f i x j ne = ap (λ (y : ℕ). f j ⊕ y) (when-there i x j ne) ∙ zero-r (f j)
 
 -- both corrections at once
 off-pair : (f : ℕ → ℕ) (a x b y j : ℕ) → off (off f a x) b y j ≡ f j ⊕ pairOf a x b y j
 unfolding off pairOf
 off-pair f a x b y j = simp xors
-
-off-narrow : (k : ℕ) (f : ℕ → ℕ) (i x j : ℕ) → f j < 2 ^ k → x < 2 ^ k → off f i x j < 2 ^ k
-unfolding off
-off-narrow k f i x j lf lx = lt-pow k _ _ lf (when-lt k (eqb j i) x lx)
 
 -- this check of j passes
 abbrev passes : Shape → (ℕ → ℕ) → ℕ → ℕ → Bool

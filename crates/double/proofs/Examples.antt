@@ -8,9 +8,9 @@ use Rattle.parity.specs.Lists.{tabulate}
 use Rattle.gtb.specs.Shape.{standard, orders, isOrder, lawful, regular, sloped, fitsSlope, slopeOf}
 use Rattle.gtb.specs.Square.{lineOf, narrow, syndrome, silentTest}
 use Rattle.correction.specs.declared.Decoded.the-variants.{Corrected}
-use Rattle.correction.specs.Error.{mended}
+use Rattle.correction.specs.Error.{mended, off}
 use Rattle.correction.specs.Reading.{changesBy, restoredBy, acceptedBy, readOf}
-use Rattle.double.specs.Double.{off, single, twoAt, twoOf, twoRestored}
+use Rattle.double.specs.Double.{single, twoAt, twoOf, twoRestored}
 
 abbrev pub stored : List ℕ
 stored = 3 ∷ 6 ∷ 5 ∷ 5 ∷ 3 ∷ 6 ∷ 6 ∷ 5 ∷ 3 ∷ []

@@ -9,7 +9,7 @@ use lib.Dec.{eqb}
 use borrow.Author.Tests.{ne-eqb, eqb-true}
 use Rattle.parity.specs.Xor.{when}
 use Rattle.parity.specs.Count.{count, any}
-use Rattle.parity.proofs.Xors.{when-zero}
+use Rattle.parity.proofs.Xors.{when-zero, when-here}
 use Rattle.parity.proofs.XorSums.{only}
 use Rattle.parity.proofs.Tests.{either, clash, and-both, not-of-false, any-elim, any-intro, any-no}
 use Rattle.parity.proofs.Sums.{bit-true}
@@ -18,7 +18,6 @@ use Rattle.gtb.specs.declared.Shape.{Shape}
 use Rattle.gtb.specs.Shape.{wordLength}
 use Rattle.gtb.specs.Square.{lineOf, syndrome}
 use Rattle.correction.specs.Error.{onCheck}
-use Rattle.double.proofs.Pairs.{when-here}
 
 -- one member at most: it is here, or there is none
 pub lone : (n : ℕ) (p : ℕ → Bool) → 0 < n → count n p ≤ 1 → (i : ℕ) × (i < n) × ((m : ℕ) → m < n → p m ≡ true → m ≡ i)

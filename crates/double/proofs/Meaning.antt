@@ -18,14 +18,14 @@ use Rattle.gtb.proofs.Rows.{syndrome-width}
 use Rattle.distance.specs.Distance.{Near}
 use Rattle.distance.proofs.Near.{near-within}
 use Rattle.correction.specs.declared.Decoded.the-variants.{Corrected, Refused}
-use Rattle.correction.specs.Error.{weight, damaged, onCheck}
+use Rattle.correction.specs.Error.{weight, damaged, onCheck, off}
 use Rattle.correction.specs.Answer.{decodedWord}
 use Rattle.correction.specs.Reading.{readOf}
 use Rattle.correction.proofs.Near.{damaged-near, near-meant}
 use Rattle.correction.proofs.Readings.{read-accepted, Meant, means-read, read-means, meets}
 use Rattle.decoder.specs.Decode.{clean, decodeOf, restored}
 use Rattle.decoder.proofs.Meaning.{explains-near, clean-meant}
-use Rattle.double.specs.Double.{off, single, twoAt, two, twoOf, twoRestored, ReadingTwo}
+use Rattle.double.specs.Double.{single, twoAt, two, twoOf, twoRestored, ReadingTwo}
 use Rattle.double.proofs.Equation.{two-right}
 
 -- the change at a position is a check's value, or 0

@@ -9,7 +9,7 @@ use lib.Dec.{eqb}
 use borrow.Author.Tests.{eq-eqb, ne-eqb, eqb-true, eqb-false}
 use Rattle.parity.specs.Xor.{_⊕_, xorSum, when}
 use Rattle.parity.specs.Count.{bit, sum, count}
-use Rattle.parity.proofs.Xors.{zero-l, zero-r, lt-pow, when-xor, when-lt, when-zero}
+use Rattle.parity.proofs.Xors.{zero-l, zero-r, lt-pow, when-xor, when-lt, when-zero, when-here, when-there}
 use Rattle.parity.proofs.XorSums.{xs-zero, xs-suc, cong, linear, only}
 use Rattle.parity.proofs.Tests.{either}
 use Rattle.parity.proofs.Sums.{bit-le, sum-cong, sum-add, sum-only, count-sum}
@@ -18,15 +18,6 @@ use Rattle.gtb.specs.Shape.{wordLength}
 use Rattle.gtb.specs.Square.{at}
 use Rattle.correction.specs.Steps.{Lists}
 use Rattle.double.specs.Steps.{pairOf}
-
--- x at position a, and nothing elsewhere
-pub when-here : (a x : ℕ) → when (eqb a a) x ≡ x
-unfolding when
-when-here a x = ap (λ (b : Bool). when b x) (eq-eqb a a refl)
-
-pub when-there : (a x j : ℕ) → (j ≡ a → ⊥) → when (eqb j a) x ≡ 0
-unfolding when
-when-there a x j ne = ap (λ (b : Bool). when b x) (ne-eqb j a ne)
 
 one-place : (n a x : ℕ) (g : ℕ → Bool) → a < n → xorSum n (λ j. when (g j) (when (eqb j a) x)) ≡ when (g a) x
 one-place n a x g l =

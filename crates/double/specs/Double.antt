@@ -3,7 +3,6 @@ use mathlib.Core.Bool.{Bool, not, _&&_}
 use mathlib.Core.List.{List}
 use Prim.Native.Nat.{ℕ}
 use lib.Dec.{eqb, leb}
-use Rattle.parity.specs.Xor.{_⊕_, when}
 use Rattle.parity.specs.Count.{any, firstValue}
 use Rattle.gtb.specs.declared.Shape.{Shape}
 use Rattle.gtb.specs.declared.Refusal.{Refusal}
@@ -11,12 +10,8 @@ use Rattle.gtb.specs.Shape.{wordLength}
 use Rattle.gtb.specs.Square.{silentTest}
 use Rattle.distance.specs.Distance.{Near}
 use Rattle.correction.specs.declared.Decoded.{Decoded}
-use Rattle.correction.specs.Error.{onCheck}
+use Rattle.correction.specs.Error.{onCheck, off}
 use Rattle.correction.specs.Reading.{Reader, restoredBy, readOf, Reads}
-
--- the symbols f with x XORed onto position i
-unfoldable pub off : (ℕ → ℕ) → ℕ → ℕ → ℕ → ℕ
-off f i x j = f j ⊕ when (eqb j i) x
 
 -- at most one symbol is wrong: what some position's row check shows, taken off there, silences every check
 unfoldable pub single : Shape → (ℕ → ℕ) → Bool

@@ -39,8 +39,8 @@ unless-never false refusal next ne last h = ne refl h
 pub unless-done : (t : Bool) (e : Refusal) (next : Status) → unless t (Refused e) next ≡ Done → (t ≡ true) × (next ≡ Done)
 unless-done t e next = unless-passed t (Refused e) next (never-done e)
 
--- no number is above 19
-pub refusal-small : (e : Refusal) → refusalNumber e ≤ 19
+-- no number is above 20
+pub refusal-small : (e : Refusal) → refusalNumber e ≤ 20
 refusal-small Refusal.Shape = lit≤ tt
 refusal-small Refusal.Length = lit≤ tt
 refusal-small Refusal.Width = lit≤ tt
@@ -60,6 +60,7 @@ refusal-small Refusal.Directions = lit≤ tt
 refusal-small Refusal.BeyondTwo = lit≤ tt
 refusal-small Refusal.Slope = lit≤ tt
 refusal-small Refusal.Bill = lit≤ tt
+refusal-small Refusal.Far = lit≤ tt
 
 -- ---- a shape is turned down by 1 or by 18
 pub shape-refusal-both : (P : Refusal → Type 0) → P Refusal.Shape → P Refusal.Slope → (s : Shape) → P (shapeRefusal s)

@@ -27,6 +27,7 @@ refusalNumber Refusal.Directions = 16
 refusalNumber Refusal.BeyondTwo = 17
 refusalNumber Refusal.Slope = 18
 refusalNumber Refusal.Bill = 19
+refusalNumber Refusal.Far = 20
 
 -- as one number: 0, or 2^31 plus the refusal's
 abbrev pub statusNumber : Status → ℕ
@@ -59,6 +60,7 @@ isEarly Refusal.Directions = true
 isEarly Refusal.BeyondTwo = false
 isEarly Refusal.Slope = true
 isEarly Refusal.Bill = false
+isEarly Refusal.Far = false
 
 -- the scratch after a refusal: as lent after an early one, zeros after every other
 unfoldable pub scratchAfter : Refusal → List ℕ → List ℕ

@@ -43,6 +43,7 @@ pub enum Refusal {
     BeyondTwo,
     Slope,
     Bill,
+    Far,
 }
 
 // The answer of an entry that carries no value.

@@ -28,6 +28,7 @@ pub fn refusal(refusal: Refusal) -> u32
         Refusal::BeyondTwo => 17,
         Refusal::Slope => 18,
         Refusal::Bill => 19,
+        Refusal::Far => 20,
     }
 }
 

@@ -4,9 +4,11 @@ use mathlib.Core.Bool.{Bool, true, false}
 use Prim.Native.Nat.{ℕ, zero, suc, _+_, _*_, _/_, _%_, _^_, _<_}
 use native.Mathlib.Nat.{mod-lt, zero-lt-suc}
 use native.Mathlib.Omega.{arith}
+use lib.Dec.{eqb}
 use lib.Pow.{pow-pos}
 use lib.Bits.{bitXor, differ, xor-step, xor-zero-l, xor-zero-r, xor-comm, xor-self, xor-lt}
 use lib.Arith.{bin-ind, digits-div, digits-mod}
+use borrow.Author.Tests.{eq-eqb, ne-eqb}
 use Rattle.parity.specs.Xor.{_⊕_, when}
 
 differ-lt : (x y : ℕ) → x < 2 → y < 2 → differ x y < 2
@@ -105,3 +107,12 @@ pub when-zero : (t : Bool) → when t 0 ≡ 0
 unfolding when
 when-zero true = refl
 when-zero false = refl
+
+-- x at place a, and nothing elsewhere
+pub when-here : (a x : ℕ) → when (eqb a a) x ≡ x
+unfolding when
+when-here a x = ap (λ (b : Bool). when b x) (eq-eqb a a refl)
+
+pub when-there : (a x j : ℕ) → (j ≡ a → ⊥) → when (eqb j a) x ≡ 0
+unfolding when
+when-there a x j ne = ap (λ (b : Bool). when b x) (ne-eqb j a ne)

@@ -66,6 +66,7 @@ numbers = record {
   r17 = refl;
   r18 = refl;
   r19 = refl;
+  r20 = refl;
   status = (refl, λ e. refl);
   read = (λ k. refl, λ e. refl);
   page = (λ p c. refl, λ e. refl);

@@ -111,6 +111,7 @@ others Refusal.Directions h = refl
 others Refusal.BeyondTwo h = absurd (clash h refl)
 others Refusal.Slope h = refl
 others Refusal.Bill h = absurd (clash h refl)
+others Refusal.Far h = absurd (clash h refl)
 
 pub scratch : Scratch
 unfolding scratchAfter

@@ -54,6 +54,7 @@ pub record Numbers : Type 0 where
   pub r17 : refusalNumber Refusal.BeyondTwo ≡ 17
   pub r18 : refusalNumber Refusal.Slope ≡ 18
   pub r19 : refusalNumber Refusal.Bill ≡ 19
+  pub r20 : refusalNumber Refusal.Far ≡ 20
   pub status : (statusNumber status.Done ≡ 0) × above statusNumber status.Refused 2147483648
   pub read : ((k : ℕ) → decodedNumber (decoded.Corrected k) ≡ k) × above decodedNumber decoded.Refused 2147483648
   pub page : ((p c : ℕ) → readNumber (page.Page p c) ≡ 1024 * p + c) × above readNumber page.Refused 2147483648
