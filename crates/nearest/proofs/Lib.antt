@@ -1,3 +1,5 @@
 pub mod Equation
 pub mod Meaning
 pub mod Alikes
+pub mod Ways
+pub mod Examples
