@@ -1,0 +1,93 @@
+-- Demand 3 of arrivals whose words decode_nearest restored first.
+use mathlib.Core.Path.{_≡_, refl, _∙_}
+use mathlib.Core.Bool.{true}
+use mathlib.Core.List.{List}
+use mathlib.Core.Logic.{inl, inr, ⊎-elim}
+use Prim.Native.Nat.{ℕ, _-_, _≤_, zero-le}
+use native.Mathlib.Omega.{arith}
+use lib.ListN.{replicate, length-replicate}
+use Rattle.gtb.specs.declared.Shape.{Shape}
+use Rattle.gtb.specs.Shape.{Lawful, scratchLength}
+use Rattle.gtb.specs.Square.{at, Word}
+use Rattle.gtb.specs.Positions.{Encodes}
+use Rattle.distance.specs.Distance.{Near}
+use Rattle.correction.specs.Error.{weight, damaged}
+use Rattle.correction.specs.Answer.{decodedWord}
+use Rattle.correction.proofs.Near.{damaged-near, near-damages}
+use Rattle.nearest.specs.Nearest.{nearest, nearestOf, nearestWord}
+use Rattle.nearest.proofs.Meaning.{nearest-meant, nearest-meets, restoring-near}
+use Rattle.nearest.proofs.Alikes.{nearest-alike}
+use Rattle.session.specs.declared.Session.{Session}
+use Rattle.session.specs.declared.Fresh.{Fresh}
+use Rattle.session.specs.declared.Outcome.{Outcome}
+use Rattle.session.specs.Session.{Beginning}
+use Rattle.session.specs.Arrival.{wayBy, isWay, wayOf, theWays}
+use Rattle.session.specs.Recording.{Sheet, symbolsOf, Recording, Arrival, Brings, Fits}
+use Rattle.session.specs.Claim.{Run, Demand3}
+use Rattle.session.proofs.NoDamage.{noDamage, no-damage-word, no-damage-clean, no-damage-weight, no-damage-same}
+use Rattle.session.proofs.Asked.{Asked, asked}
+use Rattle.session.proofs.Demand.{demand3-ways}
+use Rattle.repair.specs.Repair.{Repaired, RepairedFits}
+
+-- ---- the clean way and no damage
+clean-known : (k : ℕ) → k ≡ 0 → isWay k ≡ true
+unfolding isWay
+clean-known k e = rw e
+
+clean-allowed : (s : Shape) (k : ℕ) → k ≡ 0 → wayOf k .Allowed s (at (noDamage s))
+unfolding wayOf
+clean-allowed s k e = rw e (no-damage-clean s, rw (no-damage-weight s) zero-le)
+
+-- ---- a repaired word is the stored one, so that the arrival brings the page undamaged
+pub repaired-brings : {s : Shape} {a : Arrival} {p : Sheet} → Lawful s → Repaired s a p → Brings theWays s a p 0
+repaired-brings {s} {a} {p} law x = record {
+  known = clean-known (a .way) (x .way);
+  stored = x .stored;
+  encodes = x .encodes;
+  error = noDamage s;
+  damage = no-damage-word s;
+  allowed = clean-allowed s (a .way) (x .way);
+  changed = no-damage-weight s;
+  word =
+      restoring-near law (x .restoring) (damaged-near s (s .n - 1) (x .stored) (x .error) (x .encodes .codeword) (x .damage) (omega (arith, x .few))) .1
+      ∙ no-damage-same s (x .stored);
+  scratch = x .scratch;
+}
+
+repaired-fits : {s : Shape} {pages : List Sheet} {arrivals : List Arrival} → Lawful s → RepairedFits s pages arrivals → Fits theWays s pages arrivals
+repaired-fits law f = record {
+  each = λ j l. ⊎-elim (λ t. inl t) (λ b. inr (b .0, b .1, 0, repaired-brings law (b .2))) (f .each j l);
+  every = λ i l. let b = f .every i l in (b .0, b .1, 0, repaired-brings law (b .2));
+}
+
+-- demand 3
+pub repaired-demand3 : (s : Shape) (pages : List Sheet) (arrivals : List Arrival) (answers : List Outcome) (begin : Fresh) (end : Session)
+    → Recording s pages → RepairedFits s pages arrivals → Beginning s begin → Run theWays (begin .session) arrivals answers end
+    → Demand3 theWays s pages begin arrivals answers end
+repaired-demand3 s pages arrivals answers begin end r f = demand3-ways s pages arrivals answers begin end r (repaired-fits (r .lawful) f)
+
+-- ---- such an arrival is there for every page and every damage to at most n - 1 digits
+pub repaired-any : (s : Shape) (p : Sheet) (stored error : List ℕ) → Encodes s (symbolsOf s p) stored → Word s error → weight s (at error) ≤ s .n - 1
+    → (a : Arrival) × Repaired s a p
+repaired-any s p stored error encodes damage few =
+    let came : List ℕ = damaged stored error in (
+      record { way = 0; word = decodedWord came (nearestWord s came) (nearestOf s came); scratch = replicate (scratchLength s) 0 },
+      record {
+        stored = stored;
+        encodes = encodes;
+        error = error;
+        damage = damage;
+        few = few;
+        answer = nearestOf s came;
+        restoring = nearest-meets s came;
+        way = refl;
+        scratch = length-replicate (scratchLength s) 0;
+      },
+    )
+
+-- ---- and as a way of an arrival, which it is not, it would be sound
+pub nearest-asked : Asked (wayBy nearest (λ s e. weight s e ≤ s .n - 1))
+nearest-asked =
+    asked nearest (λ s. Near s (s .n - 1)) _ nearest-meant nearest-alike refl (λ s v e stored word few. (refl, damaged-near s (s .n - 1) v e stored word few))
+    (λ s w v k fits x. let d = near-damages x in record { codeword = x .codeword; damages = d; allowed = rw (d .changed) (x .few) })
+    (λ s fits. rw (no-damage-weight s) zero-le)

@@ -1,0 +1,36 @@
+-- Arrivals of words that decode_nearest restored first: any damage to at most n - 1 digits (RULES 3.5).
+use mathlib.Core.Path.{_≡_}
+use mathlib.Core.Logic.{_⊎_}
+use mathlib.Core.List.{List}
+use Prim.Native.Nat.{ℕ, _-_, _<_, _≤_}
+use lib.ListN.{length}
+use Rattle.gtb.specs.declared.Shape.{Shape}
+use Rattle.gtb.specs.declared.Refusal.{Refusal}
+use Rattle.gtb.specs.Shape.{scratchLength}
+use Rattle.gtb.specs.Square.{at, Word}
+use Rattle.gtb.specs.Positions.{Encodes}
+use Rattle.correction.specs.declared.Decoded.{Decoded}
+use Rattle.correction.specs.Error.{weight, damaged}
+use Rattle.nearest.specs.Nearest.{Restoring}
+use Rattle.session.specs.Arrival.{theWays}
+use Rattle.session.specs.Recording.{Sheet, sheetAt, symbolsOf, Arrival, arrivalAt, TurnedDown}
+
+-- the stored word of a page came with any damage to at most n - 1 digits, clean or not; decode_nearest was called on it, whatever it answered; and the
+-- word that this left is handed in the clean way, number 0, with a scratch of the right length
+pub record Repaired (s : Shape) (a : Arrival) (p : Sheet) : Type 0 where
+  pub stored : List ℕ
+  pub encodes : Encodes s (symbolsOf s p) stored
+  pub error : List ℕ
+  pub damage : Word s error
+  pub few : weight s (at error) ≤ s .n - 1
+  pub answer : Decoded
+  pub restoring : Restoring s (damaged stored error) (a .word) answer
+  pub way : a .way ≡ 0
+  pub scratch : length (a .scratch) ≡ scratchLength s
+
+-- each arrival is turned down or brings a page of the recording so, and each page comes at least once
+pub record RepairedFits (s : Shape) (pages : List Sheet) (arrivals : List Arrival) : Type 0 where
+  pub each : (j : ℕ) → j < length arrivals
+      → ((e : Refusal) × TurnedDown theWays s (arrivalAt arrivals j) e)
+      ⊎ ((i : ℕ) × (i < length pages) × Repaired s (arrivalAt arrivals j) (sheetAt pages i))
+  pub every : (i : ℕ) → i < length pages → (j : ℕ) × (j < length arrivals) × Repaired s (arrivalAt arrivals j) (sheetAt pages i)
