@@ -25,7 +25,7 @@ direction : (q u t l L : ℕ) → l < q → L < q → u * q + l ≡ t * q + L �
 direction q u t l L ll lL e = sym (digits-div u ll) ∙ ap (λ (x : ℕ). x / q) e ∙ digits-div t lL
 
 -- of the n checks on j one at most is check t × q + L
-one-check : (s : Shape) → Lawful s → (j v t L : ℕ) → j < wordLength s → t < s .n → L < s .q
+pub one-check : (s : Shape) → Lawful s → (j v t L : ℕ) → j < wordLength s → t < s .n → L < s .q
     → xorSum (s .n) (λ u. when (eqb (checkOf s j u) (t * s .q + L)) v) ≡ when (eqb (lineOf s t j) L) v
 unfolding when
 one-check s h j v t L lj lt lL =

@@ -6,10 +6,10 @@ use mathlib.Core.List.{List}
 use Prim.Native.Nat.{ℕ, _+_, _<_}
 use lib.Dec.{eqb}
 use lib.ListN.{length, set, length-set}
-use lib.Seq.{getD-set-same, getD-set-other}
+use lib.Seq.{getD-set-same, getD-set-other, ext-getD}
 use borrow.Author.Tests.{eqb-true, eqb-false}
 use Rattle.parity.specs.Xor.{_⊕_, xorSum, when}
-use Rattle.parity.proofs.Xors.{assoc, zero-r}
+use Rattle.parity.proofs.Xors.{assoc, self, zero-r}
 use Rattle.parity.proofs.XorSums.{xs-zero, more}
 use Rattle.parity.proofs.Tests.{either}
 use Rattle.gtb.specs.Square.{at}
@@ -43,3 +43,11 @@ toggled-more {k} {place} {value} {old} {new} i h e l = record {
       ∙ ap (λ (y : ℕ). at old x ⊕ (xorSum k (λ y. when (eqb (place y) x) (value y)) ⊕ when (eqb y x) (value k))) e
       ∙ ap (λ (y : ℕ). at old x ⊕ y) (more k (λ y. when (eqb (place y) x) (value y)) refl);
 }
+
+-- taken off again
+pub toggled-back : {k : ℕ} {place value : ℕ → ℕ} {old mid new : List ℕ} → Toggled k place value old mid → Toggled k place value mid new → new ≡ old
+toggled-back {k} {place} {value} {old} {mid} {new} a b =
+    ext-getD 0 new old (b .size ∙ a .size)
+    (λ e l.
+    let x : ℕ = xorSum k (λ i. when (eqb (place i) e) (value i)) in
+    b .entry e ∙ ap (λ (y : ℕ). y ⊕ x) (a .entry e) ∙ assoc (at old e) x x ∙ ap (λ (y : ℕ). at old e ⊕ y) (self x) ∙ zero-r (at old e))

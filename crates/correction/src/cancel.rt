@@ -10,7 +10,7 @@ ghost use Rattle.correction.specs.Shipped.{Tabled};
 ghost use Rattle.correction.specs.Steps.{quiet, Toggled, Within, Cancelled};
 
 // The n checks on position j.
-fn cancel_one(shape: Shape, table: &[u8], syn: &mut [u32; 248], j: usize, error: u32)
+pub fn cancel_one(shape: Shape, table: &[u8], syn: &mut [u32; 248], j: usize, error: u32)
     requires { ⌜ Lawful shape × Tabled shape (now table) × (length (now syn) ≡ 248) × (j < wordLength shape) ⌝ }
     ensures { λ _. ⌜ Toggled (shape .n) (checkOf shape j) (λ t. error) (now (syn .entry)) (now (syn .exit)) ⌝ }
 {

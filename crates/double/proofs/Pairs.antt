@@ -19,7 +19,7 @@ use Rattle.gtb.specs.Square.{at}
 use Rattle.correction.specs.Steps.{Lists}
 use Rattle.double.specs.Steps.{pairOf}
 
-one-place : (n a x : ℕ) (g : ℕ → Bool) → a < n → xorSum n (λ j. when (g j) (when (eqb j a) x)) ≡ when (g a) x
+pub one-place : (n a x : ℕ) (g : ℕ → Bool) → a < n → xorSum n (λ j. when (g j) (when (eqb j a) x)) ≡ when (g a) x
 one-place n a x g l =
     only n a (λ j. when (g j) (when (eqb j a) x)) l (λ i li ne. ap (when (g i)) (when-there a x i ne) ∙ when-zero (g i))
     ∙ ap (when (g a)) (when-here a x)

@@ -1,6 +1,6 @@
 // Reading a word with at most two wrong symbols, whether they cancel on a check or not.
 mod attempt;
-mod lines;
+pub mod lines;
 mod restore;
 
 use correction::Decoded;

@@ -36,7 +36,7 @@ pub fn last_line(shape: Shape, syn: &[u32; 248], t: usize) -> usize
 }
 
 // The position in a row on a line of direction u, from 1 on.
-fn on_row(shape: Shape, u: usize, row: usize, line: usize) -> usize
+pub fn on_row(shape: Shape, u: usize, row: usize, line: usize) -> usize
     requires { ⌜ Lawful shape × (1 ≤ u) × (u < shape .n) × (row < shape .q) × (line < shape .q) ⌝ }
     ensures { λ r. ⌜ OnRow shape u row line r ⌝ }
 {

@@ -26,27 +26,27 @@ use Rattle.correction.proofs.Readings.{Meant, means-read, meets}
 use Rattle.majority.specs.Majority.{shows, majority, votedAt, vote, majorityOf, voted, Voting}
 use Rattle.majority.proofs.Votes.{majority-is, majority-among}
 
-module _ (s : Shape) (law : Lawful s) (w v : List ℕ) (k : ℕ) (near : Near s (s .n / 2) w v k) where
-  -- a check that no other wrong position is on shows the error at j, be it zero or not
-  most : (j : ℕ) → j < wordLength s → s .n ≤ shows (s .n) (onCheck s (at w) j) (errorOf w v j) + count (wordLength s) (λ i. support w v i && not (eqb i j))
-  unfolding shows
-  most j lj =
-      omega (
-        arith,
-        crossing s law (support w v) j lj,
-        count-not (s .n) (others s (support w v) j),
-        count-le (s .n) (λ t. not (others s (support w v) j t)) (λ t. eqb (onCheck s (at w) j t) (errorOf w v j))
-            (λ t lt free. eq-eqb (onCheck s (at w) j t) (errorOf w v j) (near-private law near j t lj lt (not-true (others s (support w v) j t) free))),
-      )
+-- a check that no other wrong position is on shows the error at j, be it zero or not
+pub most-show : {s : Shape} {l k : ℕ} {w v : List ℕ} → Lawful s → Near s l w v k → (j : ℕ) → j < wordLength s
+    → s .n ≤ shows (s .n) (onCheck s (at w) j) (errorOf w v j) + count (wordLength s) (λ i. support w v i && not (eqb i j))
+unfolding shows
+most-show {s} {l} {k} {w} {v} law near j lj =
+    omega (
+      arith,
+      crossing s law (support w v) j lj,
+      count-not (s .n) (others s (support w v) j),
+      count-le (s .n) (λ t. not (others s (support w v) j t)) (λ t. eqb (onCheck s (at w) j t) (errorOf w v j))
+          (λ t lt free. eq-eqb (onCheck s (at w) j t) (errorOf w v j) (near-private law near j t lj lt (not-true (others s (support w v) j t) free))),
+    )
 
-  -- so the vote finds the error everywhere
-  pub vote-exact : (j : ℕ) → j < wordLength s → votedAt s (at w) j ≡ errorOf w v j
-  unfolding votedAt
-  vote-exact j lj =
-      let size : count (wordLength s) (support w v) ≤ s .n / 2 = omega (arith, error-size s w v, near .changed, near .few) in
-      majority-is (s .n) (count (wordLength s) (λ i. support w v i && not (eqb i j))) (onCheck s (at w) j) (errorOf w v j) (most j lj)
-      (omega (arith, others-le (wordLength s) (support w v) j))
-      (λ nz. omega (arith, count-others (wordLength s) (support w v) j lj (not-of-false (ne-eqb (errorOf w v j) 0 nz))))
+-- so the vote finds the error everywhere
+pub vote-exact : (s : Shape) → Lawful s → (w v : List ℕ) (k : ℕ) → Near s (s .n / 2) w v k → (j : ℕ) → j < wordLength s → votedAt s (at w) j ≡ errorOf w v j
+unfolding votedAt
+vote-exact s law w v k near j lj =
+    let size : count (wordLength s) (support w v) ≤ s .n / 2 = omega (arith, error-size s w v, near .changed, near .few) in
+    majority-is (s .n) (count (wordLength s) (λ i. support w v i && not (eqb i j))) (onCheck s (at w) j) (errorOf w v j) (most-show law near j lj)
+    (omega (arith, others-le (wordLength s) (support w v) j))
+    (λ nz. omega (arith, count-others (wordLength s) (support w v) j lj (not-of-false (ne-eqb (errorOf w v j) 0 nz))))
 
 -- a change is 0 or what a check shows, so below 2^b
 pub vote-narrow : (s : Shape) (w : List ℕ) → Word s w → (j : ℕ) → votedAt s (at w) j < 2 ^ s .b

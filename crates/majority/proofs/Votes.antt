@@ -94,7 +94,7 @@ majority-among n v =
     inl (first-none n (λ t. prevailing n v (v t)) v (any-no n (λ t. prevailing n v (v t)) h)))
     (either (any n (λ t. prevailing n v (v t))))
 
-shows-cong : (n : ℕ) (v v′ : ℕ → ℕ) (x : ℕ) → ((t : ℕ) → t < n → v t ≡ v′ t) → shows n v x ≡ shows n v′ x
+pub shows-cong : (n : ℕ) (v v′ : ℕ → ℕ) (x : ℕ) → ((t : ℕ) → t < n → v t ≡ v′ t) → shows n v x ≡ shows n v′ x
 unfolding shows
 shows-cong n v v′ x h = count-cong n _ _ (λ t l. ap (λ (y : ℕ). eqb y x) (h t l))
 

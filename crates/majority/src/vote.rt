@@ -23,7 +23,7 @@ pub fn hit(value: u32, x: u32) -> usize
 }
 
 // What the n checks on position j show.
-fn gather(shape: Shape, table: &[u8], syn: &[u32; 248], j: usize) -> [u32; 8]
+pub fn gather(shape: Shape, table: &[u8], syn: &[u32; 248], j: usize) -> [u32; 8]
     requires { ⌜ Lawful shape × Tabled shape (now table) × (j < wordLength shape) ⌝ }
     ensures { λ r. ⌜ Begins 8 (shape .n) (checkIn shape (now (syn .entry)) j) r ⌝ }
 {
@@ -36,7 +36,7 @@ fn gather(shape: Shape, table: &[u8], syn: &[u32; 248], j: usize) -> [u32; 8]
 }
 
 // How many of the first n values are x.
-fn shown(values: &[u32; 8], n: usize, x: u32) -> usize
+pub fn shown(values: &[u32; 8], n: usize, x: u32) -> usize
     requires { ⌜ n ≤ 8 ⌝ }
     ensures { λ r. ⌜ r ≡ shows n (at (now (values .entry))) x ⌝ }
 {
