@@ -33,10 +33,10 @@ use Rattle.correction.proofs.Near.{errorOf, support, outside, error-size}
 use Rattle.nearest.specs.Nearest.{reaches, steps, nearestAt, nearest}
 
 -- ---- where symbols differ from a word, and at how many positions
-abbrev wrong : (ℕ → ℕ) → List ℕ → ℕ → Bool
+abbrev pub wrong : (ℕ → ℕ) → List ℕ → ℕ → Bool
 wrong f v j = not (eqb (f j ⊕ at v j) 0)
 
-abbrev wrongs : Shape → (ℕ → ℕ) → List ℕ → ℕ
+abbrev pub wrongs : Shape → (ℕ → ℕ) → List ℕ → ℕ
 wrongs s f v = count (wordLength s) (wrong f v)
 
 -- at how many positions other than j
@@ -68,7 +68,7 @@ module _ (s : Shape) (f : ℕ → ℕ) (v : List ℕ) (j x : ℕ) (lj : j < word
       (λ (g : wrong f v j ≡ false). omega (arith, without (wordLength s) (wrong f v) j g))
       (either (wrong f v j))
 
-  one-more : wrongs s f v ≤ suc (wrongs s (off f j x) v)
+  pub one-more : wrongs s f v ≤ suc (wrongs s (off f j x) v)
   one-more = omega (arith, with-others, rest-same, others-le (wordLength s) (wrong (off f j x) v) j)
 
   -- a symbol that is wrong then leaves no fewer
@@ -76,7 +76,7 @@ module _ (s : Shape) (f : ℕ → ℕ) (v : List ℕ) (j x : ℕ) (lj : j < word
   no-fewer h = let one = count-others (wordLength s) (wrong (off f j x) v) j lj h in (omega (arith, with-others, rest-same), omega arith)
 
 -- what is wrong at j, taken off there, leaves one fewer
-one-fewer : (s : Shape) (f : ℕ → ℕ) (v : List ℕ) (j : ℕ) → j < wordLength s → wrong f v j ≡ true → suc (wrongs s (off f j (f j ⊕ at v j)) v) ≤ wrongs s f v
+pub one-fewer : (s : Shape) (f : ℕ → ℕ) (v : List ℕ) (j : ℕ) → j < wordLength s → wrong f v j ≡ true → suc (wrongs s (off f j (f j ⊕ at v j)) v) ≤ wrongs s f v
 one-fewer s f v j lj h =
     let x : ℕ = f j ⊕ at v j in
     let gone : wrong (off f j x) v j ≡ false = not-of-true (eq-eqb _ 0 (ap (λ (y : ℕ). y ⊕ at v j) (off-here f j x) ∙ simp xors)) in

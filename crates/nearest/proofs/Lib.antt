@@ -3,3 +3,7 @@ pub mod Meaning
 pub mod Alikes
 pub mod Ways
 pub mod Examples
+pub mod Changing
+pub mod Guessing
+pub mod Searching
+pub mod Finding

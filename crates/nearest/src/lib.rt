@@ -1,1 +1,21 @@
 // Reading a word with at most n - 1 wrong symbols, whether they cancel on a check or not.
+mod guesses;
+mod restore;
+mod search;
+
+use correction::Decoded;
+use correction::test;
+use gtb::Shape;
+use gtb::Status;
+ghost use Rattle.nearest.specs.Nearest.{Restoring};
+
+// Reading the nearest codeword: tests 1, 18, 2, 3, then the work.
+pub fn decode_nearest(shape: Shape, word: &mut [u32]) -> Decoded
+    ensures { λ r. ⌜ Restoring shape (now (word .entry)) (now (word .exit)) r ⌝ }
+{
+    let tested = test(shape, true, word);
+    match tested {
+        Status::Refused(e) => Decoded::Refused(e),
+        Status::Done => restore::restore(shape, word),
+    }
+}
