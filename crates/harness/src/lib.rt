@@ -22,6 +22,7 @@ ghost use Rattle.majority.specs.Majority.{Voting};
 ghost use Rattle.correction.specs.Answer.{decodedNumber};
 ghost use Rattle.erasure.specs.Fill.{Filling};
 ghost use Rattle.double.specs.Double.{ReadingTwo};
+ghost use Rattle.nearest.specs.Nearest.{Restoring};
 ghost use Rattle.page.specs.Page.{Writing};
 ghost use Rattle.session.specs.Session.{countedNumber};
 ghost use Rattle.energy.specs.Energy.{billedNumber};
@@ -98,6 +99,16 @@ pub extern "C" fn harness_decode_two(shape: &[u32], word: &mut [u32]) -> u32
         return gtb::number::refused(Refusal::Length);
     }
     correction::number::decoded(double::decode_two(load_shape(shape), word))
+}
+
+#[no_mangle]
+pub extern "C" fn harness_decode_nearest(shape: &[u32], word: &mut [u32]) -> u32
+    ensures { λ r. ⌜ Shaped (now (shape .entry)) (λ s. Crosses decodedNumber (Restoring s (now (word .entry)) (now (word .exit))) r) (now (word .exit) ≡ now (word .entry)) r ⌝ }
+{
+    if shape.len() != SHAPE {
+        return gtb::number::refused(Refusal::Length);
+    }
+    correction::number::decoded(nearest::decode_nearest(load_shape(shape), word))
 }
 
 #[no_mangle]
