@@ -4,6 +4,7 @@ mod bundles;
 mod contest;
 mod double;
 mod erasures;
+mod nearest;
 mod processor;
 mod program;
 mod proposals;
@@ -30,6 +31,12 @@ const VOTES: &str = "Reading by vote against a vote on the tuned reader's syndro
 const DOUBLE: &str =
     "Two wrong symbols that mask nothing: reading two wrong symbols against clean reading, both the library's.\n\n";
 
+const NEAREST: &str = "\
+The nearest codeword against clean reading, both the library's: of the same words where these are undamaged or
+random, else of words with an unmasked error of weight 1 to n - 1.
+
+";
+
 const PROPOSALS: &str = "Proposals: right ones checked, against reading the damaged words that they are for.\n\n";
 
 const BUNDLES: &str = "\
@@ -42,18 +49,20 @@ const TARGETS: &str = "\
 Targets: reading, writing, arrivals and the program at most 1.00 of the tuned counterpart, reading at most
 0.50 of the straightforward reader; dead cells at most 0.50 of the straightforward way for n places and
 1.50 for half of all; reading by vote at most 1.20 of the tuned vote; reading two wrong symbols at most
-1.50 of clean reading, checking a proposal at most 1.00 of it; a bundle of 64 words at most 0.90 of 64
-single arrivals.";
+1.50 of clean reading, the nearest codeword at most 1.15 of it for undamaged words, 1.50 for random ones and 8.00
+for stripes on (17, 4, 32), checking a proposal at most 1.00 of it; a bundle of 64 words at most 0.90 of 64 single
+arrivals.";
 
 /// Prints a table; gives the rows that miss their target.
 type Table = fn() -> Vec<String>;
 
 /// Each with what stands above it.
-const TABLES: [(&str, Table); 7] = [
+const TABLES: [(&str, Table); 8] = [
     (WORDS, words::table),
     (ERASURES, erasures::table),
     (VOTES, votes::table),
     (DOUBLE, double::table),
+    (NEAREST, nearest::table),
     (PROPOSALS, proposals::table),
     (BUNDLES, bundles::table),
     ("", program::table),

@@ -5,6 +5,7 @@ use crate::reference::coverage::cover;
 use crate::reference::double::decode_two;
 use crate::reference::energy::bill;
 use crate::reference::filler::fill;
+use crate::reference::nearest::decode_nearest;
 use crate::reference::page::{read_page, write_page};
 use crate::reference::reader::{decode, looked};
 use crate::reference::session::{Outcome, Session, CALLS_AT, MARKS_AT, PAGES_AT, SESSION_LEN};
@@ -20,6 +21,7 @@ pub enum Entry {
     Looked,
     DecodeMajority,
     DecodeTwo,
+    DecodeNearest,
     Fill,
     Check,
     ReadPage,
@@ -41,7 +43,8 @@ impl Entry {
         match self {
             Entry::Encode => &["data", "scratch", "word"],
             Entry::Extract => &["word", "scratch", "data"],
-            Entry::Decode | Entry::DecodeMajority | Entry::DecodeTwo | Entry::HostReadWord => &["word"],
+            Entry::Decode | Entry::DecodeMajority | Entry::DecodeTwo => &["word"],
+            Entry::DecodeNearest | Entry::HostReadWord => &["word"],
             Entry::Looked => &["word", "looked"],
             Entry::Fill => &["places", "word", "scratch"],
             Entry::Check => &["received", "proposed"],
@@ -162,6 +165,7 @@ impl Call {
             (Entry::Looked, [word, list]) => answer_of(looked(shape, word, list).map(|()| 0)),
             (Entry::DecodeMajority, [word]) => answer_of(decode_majority(shape, word)),
             (Entry::DecodeTwo, [word]) => answer_of(decode_two(shape, word)),
+            (Entry::DecodeNearest, [word]) => answer_of(decode_nearest(shape, word)),
             (Entry::Fill, [places, word, scratch]) => answer_of(fill(shape, places, word, scratch)),
             (Entry::Check, [received, proposed]) => answer_of(check(shape, received, proposed)),
             (Entry::ReadPage, [data]) => answer_of(page_answer(shape, data)),
@@ -301,9 +305,9 @@ pub fn difference(entry: Entry, expected: &After, found: &After) -> Option<Strin
 
 fn shown(answer: u64) -> String {
     match answer {
-        0x8000_0001..=0x8000_0013 => format!("refusal {}", answer - (1 << 31)),
-        0x1_0000_0001..=0x1_0000_0013 => format!("refusal {}", answer - (1 << 32)),
-        0x8000_0000_0000_0001..=0x8000_0000_0000_0013 => format!("refusal {}", answer - (1 << 63)),
+        0x8000_0001..=0x8000_0014 => format!("refusal {}", answer - (1 << 31)),
+        0x1_0000_0001..=0x1_0000_0014 => format!("refusal {}", answer - (1 << 32)),
+        0x8000_0000_0000_0001..=0x8000_0000_0000_0014 => format!("refusal {}", answer - (1 << 63)),
         _ => answer.to_string(),
     }
 }

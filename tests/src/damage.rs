@@ -60,16 +60,23 @@ pub fn allowed(way: u32, shape: Shape, random: &mut Random) -> Error {
             let weight = random.below(shape.n as usize);
             unmasked(shape, weight, random)
         }
-        VOTE => {
-            let weight = random.below(shape.most_votes() + 1);
-            make(random.pick(&STYLES), shape, weight, random)
-        }
-        TWO => {
-            let weight = random.below(3);
-            make(random.pick(&STYLES), shape, weight, random)
-        }
+        VOTE => any(shape, shape.most_votes(), random),
+        TWO => any(shape, 2, random),
         _ => panic!("{way} is no way of reading"),
     }
+}
+
+/// An error of any style that has at most so many symbols.
+pub fn any(shape: Shape, most: usize, random: &mut Random) -> Error {
+    let weight = random.below(most + 1);
+    make(random.pick(&STYLES), shape, weight, random)
+}
+
+/// So many symbols of one check, all changed alike, as a failing stripe of memory gives.
+pub fn stripe(shape: Shape, weight: usize, random: &mut Random) -> Error {
+    let mut error = make(Style::Line, shape, weight, random);
+    equalize(&mut error);
+    error
 }
 
 pub fn apply(error: &[(usize, u32)], word: &mut [u32]) {

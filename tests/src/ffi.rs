@@ -55,6 +55,7 @@ exported! {
     looked = harness_looked(shape: *const u32, word: *const u32, looked: *mut u32) -> u32;
     decode_majority = harness_decode_majority(shape: *const u32, word: *mut u32) -> u32;
     decode_two = harness_decode_two(shape: *const u32, word: *mut u32) -> u32;
+    decode_nearest = harness_decode_nearest(shape: *const u32, word: *mut u32) -> u32;
     fill = harness_fill(shape: *const u32, places: *const u32, word: *mut u32, scratch: *mut u32) -> u32;
     check = harness_check(shape: *const u32, received: *const u32, proposed: *const u32) -> u32;
     read_page = harness_read_page(shape: *const u32, data: *const u32) -> u32;

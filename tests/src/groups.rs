@@ -15,6 +15,7 @@ mod faults;
 pub mod figures;
 pub mod idle;
 pub mod looked;
+pub mod nearest;
 #[cfg(not(feature = "reference-only"))]
 pub mod pages;
 pub mod person;

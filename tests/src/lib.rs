@@ -10,10 +10,13 @@ pub mod ffi;
 pub mod groups;
 #[cfg(not(feature = "reference-only"))]
 mod library;
+pub mod light;
 pub mod process;
 pub mod random;
 pub mod reference;
 pub mod report;
 pub mod rivals;
 pub mod shrink;
+#[cfg(not(feature = "reference-only"))]
+pub mod slowest;
 pub mod terminal;

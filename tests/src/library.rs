@@ -18,6 +18,7 @@ impl Call {
             (Entry::Looked, [word, looked]) => ffi::looked(shape, word, looked).into(),
             (Entry::DecodeMajority, [word]) => ffi::decode_majority(shape, word).into(),
             (Entry::DecodeTwo, [word]) => ffi::decode_two(shape, word).into(),
+            (Entry::DecodeNearest, [word]) => ffi::decode_nearest(shape, word).into(),
             (Entry::Fill, [places, word, scratch]) => ffi::fill(shape, places, word, scratch).into(),
             (Entry::Check, [received, proposed]) => ffi::check(shape, received, proposed).into(),
             (Entry::ReadPage, [data]) => ffi::read_page(shape, data).into(),

@@ -6,8 +6,8 @@
 
 use shaftglimmer_tests::call::{Call, Make};
 use shaftglimmer_tests::groups::{
-    batches, coverage, double, energy, erasures, figures, idle, looked, person, proposals, reference, slopes, stream,
-    text, vectors, vote, ways,
+    batches, coverage, double, energy, erasures, figures, idle, looked, nearest, person, proposals, reference, slopes,
+    stream, text, vectors, vote, ways,
 };
 use shaftglimmer_tests::process::Program;
 use shaftglimmer_tests::report::{Group, Report};
@@ -34,7 +34,7 @@ fn main() -> ExitCode {
 type Grouped = fn(String, Make) -> Group;
 
 /// The groups whose calls the reference makes as well as the library.
-const OF_BOTH: [(&str, Grouped); 13] = [
+const OF_BOTH: [(&str, Grouped); 14] = [
     ("bench values", vectors::group),
     ("slopes", slopes::group),
     ("figures", figures::group),
@@ -46,6 +46,7 @@ const OF_BOTH: [(&str, Grouped); 13] = [
     ("votes", vote::group),
     ("ways", ways::group),
     ("two wrong symbols", double::group),
+    ("nearest codewords", nearest::group),
     ("bundles", batches::group),
     ("proposals", proposals::group),
 ];

@@ -12,6 +12,7 @@ pub mod double;
 pub mod elimination;
 pub mod energy;
 pub mod filler;
+pub mod nearest;
 pub mod page;
 pub mod program;
 pub mod reader;

@@ -2,7 +2,7 @@
 
 use super::contest::{heading, row, Times};
 use super::words::{race, some_words};
-use crate::damage::{apply, make, Style};
+use crate::damage::{apply, make, stripe, Style};
 use crate::ffi;
 use crate::random::Random;
 use crate::reference::shape::Shape;
@@ -34,15 +34,11 @@ impl Kind {
     }
 
     fn damage(self, shape: Shape, word: &mut [u32], random: &mut Random) {
-        let mut error = match self {
+        let error = match self {
             Kind::Undamaged => return,
             Kind::Spread => make(Style::Spread, shape, shape.most_votes(), random),
-            Kind::Stripe => make(Style::Line, shape, shape.most_votes(), random),
+            Kind::Stripe => stripe(shape, shape.most_votes(), random),
         };
-        if let Kind::Stripe = self {
-            let symbol = error[0].1;
-            error.iter_mut().for_each(|(_, other)| *other = symbol);
-        }
         apply(&error, word);
     }
 }

@@ -88,7 +88,7 @@ pub(super) fn batch_size(shape: Shape) -> usize {
 }
 
 /// A reader for one shape.
-type Decode<'a> = &'a dyn Fn(&mut [u32]) -> u32;
+pub(super) type Decode<'a> = &'a dyn Fn(&mut [u32]) -> u32;
 
 fn reading(shape: Shape, kind: Kind) -> Times {
     let words = some_words(shape, "reading", |word, random| kind.damage(shape, word, random));
@@ -120,7 +120,7 @@ pub(super) fn race<const C: usize>(shape: Shape, words: &[u32], readers: [Decode
 }
 
 /// A reader's work on a copy of the words.
-fn read_batch<'a>(shape: Shape, decode: Decode<'a>, words: &'a [u32]) -> Batch<'a> {
+pub(super) fn read_batch<'a>(shape: Shape, decode: Decode<'a>, words: &'a [u32]) -> Batch<'a> {
     let mut work = words.to_vec();
     Box::new(move || {
         work.copy_from_slice(words);
@@ -133,7 +133,7 @@ fn read_batch<'a>(shape: Shape, decode: Decode<'a>, words: &'a [u32]) -> Batch<'
 }
 
 /// Each answer, and the words as left.
-fn read_all(shape: Shape, decode: Decode, words: &mut [u32]) -> (Vec<u32>, Vec<u32>) {
+pub(super) fn read_all(shape: Shape, decode: Decode, words: &mut [u32]) -> (Vec<u32>, Vec<u32>) {
     let answers = words.chunks_exact_mut(shape.word_len()).map(decode).collect();
     (answers, words.to_vec())
 }

@@ -3,20 +3,21 @@
 use super::elsewhere::fresh;
 use crate::call::{answer_of, to_bytes, After, Call, Entry};
 use crate::capture::Page;
-use crate::damage::{allowed, damaged, list};
+use crate::damage::{allowed, any, damaged, list};
 use crate::random::Random;
 use crate::reference::page::FUNCTIONS;
 use crate::reference::session::{CALLS_AT, CLEAN, LOWEST_AT, OUTCOMES_LEN, PAGES_AT, SESSION_LEN, TWO, VOTE};
 use crate::reference::shape::{Refusal, Shape};
 use crate::reference::writer::codeword;
 
-pub const ENTRIES: [Entry; 19] = [
+pub const ENTRIES: [Entry; 20] = [
     Entry::Encode,
     Entry::Extract,
     Entry::Decode,
     Entry::Looked,
     Entry::DecodeMajority,
     Entry::DecodeTwo,
+    Entry::DecodeNearest,
     Entry::Fill,
     Entry::Check,
     Entry::ReadPage,
@@ -54,6 +55,7 @@ pub fn good(entry: Entry, shape: Shape, random: &mut Random) -> Call {
         Entry::Looked => vec![received(CLEAN, shape, &data, random), random.numbers(word.len())],
         Entry::DecodeMajority => vec![received(VOTE, shape, &data, random)],
         Entry::DecodeTwo => vec![received(TWO, shape, &data, random)],
+        Entry::DecodeNearest => vec![damaged(&codeword(shape, &data), &any(shape, shape.most_errors(), random))],
         Entry::Fill => dead_cells(shape, &data, scratch, random),
         Entry::Check => vec![received(CLEAN, shape, &data, random), codeword(shape, &data)],
         Entry::ReadPage => vec![page_data],

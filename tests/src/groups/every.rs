@@ -1,8 +1,10 @@
 //! Tests that a group has of many shapes. Letters in a test's name, (q, n) or (q, n, b), stand for the numbers.
 
-use crate::call::Make;
+use super::calls::turned_down;
+use super::expect::expect;
+use crate::call::{Call, Make};
 use crate::random::Random;
-use crate::reference::shape::{all_slopes, orders_and_directions, Shape};
+use crate::reference::shape::{all_slopes, orders_and_directions, Refusal, Shape};
 use crate::report::{Group, Verdict};
 
 /// The widths of a test whose order is q.
@@ -115,6 +117,38 @@ fn of_shapes(
     let mut tried = 0;
     for b in widths {
         tried += body(random.shape(q, n, b), random)?;
+    }
+    Ok(tried)
+}
+
+/// Tests 1, 18, 2, 3 of a reading, in this order, also of a word that would be refused after them.
+pub fn faults(make: Make, reading: fn(Shape, &[u32]) -> Call, shape: Shape, random: &mut Random) -> Verdict {
+    let mut tried = 0;
+    let mut refused = |shape: Shape, word: &[u32], refusal: Refusal| {
+        tried += 1;
+        let call = reading(shape, word);
+        expect(make, &call, &turned_down(&call, refusal))
+    };
+    let size = shape.word_len();
+    let word = random.symbols(shape, size);
+    let mut wide = word.clone();
+    if let Some(large) = shape.largest().checked_add(1) {
+        wide[random.below(size)] = large;
+        refused(shape, &wide, Refusal::Width)?;
+    }
+    for length in [0, size - 1, size + 1, 4 * size] {
+        let mut word = wide.clone();
+        word.resize(length, u32::MAX);
+        refused(shape, &word, Refusal::Length)?;
+    }
+    let mut slopes = shape.slopes;
+    slopes[shape.most_errors() - 1] = shape.q;
+    let sloped = shape.with_slopes(slopes);
+    for word in [&word, &wide, &wide[..size - 1]] {
+        refused(sloped, word, Refusal::Slope)?;
+        for shape in [Shape { q: 9, ..sloped }, Shape { n: 9, ..sloped }, Shape { b: 33, ..sloped }] {
+            refused(shape, word, Refusal::Shape)?;
+        }
     }
     Ok(tried)
 }

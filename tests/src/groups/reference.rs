@@ -1,13 +1,14 @@
-//! The reference against the rules' own statements, and its reader against trying everything.
+//! The reference against the rules' own statements, and two of its readers against trying everything.
 
 use super::faults::{EXAMPLE, SHAPE};
 use super::idle::CAPTURES;
 use crate::capture::heading;
 use crate::damage::{damaged, list, make, unmasked, Style, STYLES};
 use crate::random::Random;
-use crate::reference::brute::{all_explained, all_words, explanations, Explanation};
+use crate::reference::brute::{all_explained, all_words, explanations, nearby, Explanation};
 use crate::reference::elimination::Positions;
 use crate::reference::filler::{agreeing, Agreeing};
+use crate::reference::nearest::decode_nearest;
 use crate::reference::program::tally;
 use crate::reference::reader::decode;
 use crate::reference::shape::{Refusal, Shape};
@@ -110,15 +111,21 @@ fn codewords_that_agree(q: u32, n: u32, random: &mut Random) -> Verdict {
     Ok(rounds)
 }
 
-/// What reading must give for a word with these explanations.
-fn agrees(shape: Shape, received: &[u32], explained: &[Explanation]) -> Result<(), String> {
+/// What a way of reading must give for a word with these explanations, or without one.
+fn agrees(
+    read: fn(Shape, &mut [u32]) -> Result<u32, Refusal>,
+    refusal: Refusal,
+    shape: Shape,
+    received: &[u32],
+    explained: &[Explanation],
+) -> Result<(), String> {
     require(explained.windows(2).all(|pair| pair[0] == pair[1]), "a word has at most one explanation")?;
     let mut word = received.to_vec();
     let expected = match explained.first() {
         Some((codeword, weight)) => (Ok(*weight as u32), codeword.clone()),
-        None => (Err(Refusal::Uncorrectable), received.to_vec()),
+        None => (Err(refusal), received.to_vec()),
     };
-    let found = (decode(shape, &mut word), word);
+    let found = (read(shape, &mut word), word);
     if found == expected {
         Ok(())
     } else {
@@ -132,7 +139,8 @@ fn every_word(shape: Shape) -> Verdict {
     for received in &words {
         let explained: Vec<Explanation> =
             all.iter().filter(|(word, _)| word == received).map(|(_, by)| by.clone()).collect();
-        agrees(shape, received, &explained)?;
+        agrees(decode, Refusal::Uncorrectable, shape, received, &explained)?;
+        agrees(decode_nearest, Refusal::Far, shape, received, &nearby(shape, received))?;
     }
     Ok(words.len() as u64)
 }
@@ -141,7 +149,8 @@ fn sampled(shape: Shape, random: &mut Random) -> Verdict {
     let sent = random.codeword(shape);
     let (style, weight) = (random.pick(&STYLES), random.below(shape.n as usize + 3));
     let received = damaged(&sent, &make(style, shape, weight, random));
-    agrees(shape, &received, &explanations(shape, &received))?;
+    agrees(decode, Refusal::Uncorrectable, shape, &received, &explanations(shape, &received))?;
+    agrees(decode_nearest, Refusal::Far, shape, &received, &nearby(shape, &received))?;
     Ok(1)
 }
 

@@ -34,7 +34,7 @@ pub fn group(name: String, make: Make) -> Group {
 }
 
 fn vectors() -> Vec<Vector> {
-    let of_words = [positions(), words(), old_scratch(), dead_cells(), pages()];
+    let of_words = [positions(), words(), nearest(), old_scratch(), dead_cells(), pages()];
     let of_sessions = [arrivals(), masked_page(), idle(), figures(), shapes(), slopes()];
     of_words.into_iter().chain(of_sessions).flatten().collect()
 }
@@ -98,6 +98,21 @@ fn words() -> Vec<Vector> {
         vector("P7", encode(B8, &[1, 2, 3, 5]), Ok(0), &[&[1, 2, 3, 5], &[0; 5], &P7_WORD]),
         vector("marks 0 5", encode(B8, &[2, 2, 0, 5]), Ok(0), &[&[2, 2, 0, 5], &[0; 5], &IDLE_5_WORD]),
         vector("marks 0 0", encode(B8, &[4, 2, 0, 0]), Ok(0), &[&[4, 2, 0, 0], &[0; 5], &IDLE_WORD]),
+    ]
+}
+
+/// With three directions two wrong symbols come back, with two directions one.
+fn nearest() -> Vec<Vector> {
+    let nearest = |shape: Shape, word: &[u32]| Call::new(Entry::DecodeNearest, shape, &[word]);
+    vec![
+        unchanging("P4, nearest", nearest(B3, &P4_WORD), Ok(0)),
+        vector("P5, nearest", nearest(B3, &P5_WORD), Ok(2), &[&P4_WORD]),
+        vector("P6, nearest", nearest(B3, &P6_WORD), Ok(2), &[&P4_WORD]),
+        unchanging("three on a row, nearest", nearest(B3, &[3, 6, 5, 2, 4, 1, 6, 5, 3]), Err(Refusal::Far)),
+        vector("P7 with a 12, nearest", nearest(B8, &[12, 2, 7, 3, 1, 2, 6, 3, 5]), Ok(1), &[&P7_WORD]),
+        unchanging("P7 with a 12 and a 0, nearest", nearest(B8, &[12, 2, 7, 3, 0, 2, 6, 3, 5]), Err(Refusal::Far)),
+        unchanging("P4 cut off, nearest", nearest(B3, &P4_WORD[..8]), Err(Refusal::Length)),
+        unchanging("P4 with an 8, nearest", nearest(B3, &[8, 6, 5, 5, 3, 6, 6, 5, 3]), Err(Refusal::Width)),
     ]
 }
 

@@ -1,8 +1,7 @@
 //! Reading by vote: stripes of equal damage, every weight, masked and not, and every word of small shapes. What must come
 //! is said here where the damage settles it, by trying every codeword where these are few, and by the reference elsewhere.
 
-use super::calls::turned_down;
-use super::every::{Shapes, WIDTHS};
+use super::every::{faults, Shapes, WIDTHS};
 use super::expect::{expect, expect_nearest, expect_reference, restored};
 use crate::call::{Call, Entry, Make};
 use crate::damage::{any_line, damaged, make as damage, unmasked, Error, STYLES};
@@ -20,7 +19,7 @@ pub fn group(name: String, make: Make) -> Group {
     shapes.test("every weight, (q, n)", weights);
     shapes.test("other codewords, (q, n)", other_codewords);
     shapes.test("random words, (q, n)", random_words);
-    shapes.test("lengths, widths and shapes, (q, n)", faults);
+    shapes.test("lengths, widths and shapes, (q, n)", |make, shape, random| faults(make, vote, shape, random));
     group.test_all_words(&[2, 3], move |shape, _| every_word(make, shape));
     let small = [(3, 2, 2), (3, 2, 3), (3, 3, 3), (5, 4, 1), (5, 5, 1), (5, 5, 2), (7, 6, 1), (7, 7, 2)];
     group.test_drawn("sampled words of (q, n, b)", &small, 4, move |shape, random| sampled(make, shape, random));
@@ -102,38 +101,6 @@ fn random_words(make: Make, shape: Shape, random: &mut Random) -> Verdict {
         expect_reference(make, &call)?;
     }
     Ok(rounds)
-}
-
-/// Tests 1, 18, 2, 3 in this order, also of a word that would be refused with 15.
-fn faults(make: Make, shape: Shape, random: &mut Random) -> Verdict {
-    let mut tried = 0;
-    let mut refused = |shape: Shape, word: &[u32], refusal: Refusal| {
-        tried += 1;
-        let call = vote(shape, word);
-        expect(make, &call, &turned_down(&call, refusal))
-    };
-    let size = shape.word_len();
-    let word = random.symbols(shape, size);
-    let mut wide = word.clone();
-    if let Some(large) = shape.largest().checked_add(1) {
-        wide[random.below(size)] = large;
-        refused(shape, &wide, Refusal::Width)?;
-    }
-    for length in [0, size - 1, size + 1, 4 * size] {
-        let mut word = wide.clone();
-        word.resize(length, u32::MAX);
-        refused(shape, &word, Refusal::Length)?;
-    }
-    let mut slopes = shape.slopes;
-    slopes[shape.most_errors() - 1] = shape.q;
-    let sloped = shape.with_slopes(slopes);
-    for word in [&word, &wide, &wide[..size - 1]] {
-        refused(sloped, word, Refusal::Slope)?;
-        for shape in [Shape { q: 9, ..sloped }, Shape { n: 9, ..sloped }, Shape { b: 33, ..sloped }] {
-            refused(shape, word, Refusal::Shape)?;
-        }
-    }
-    Ok(tried)
 }
 
 /// What the definition says: the codeword that is near enough, if there is one.

@@ -58,6 +58,12 @@ pub fn all_explained(shape: Shape) -> Vec<(Vec<u32>, Explanation)> {
 
 /// All explanations of one received word, over every error of permitted weight.
 pub fn explanations(shape: Shape, received: &[u32]) -> Vec<Explanation> {
+    let by_unmasked = |(codeword, _): &Explanation| is_unmasked(shape, &xor(received, codeword));
+    nearby(shape, received).into_iter().filter(by_unmasked).collect()
+}
+
+/// All codewords that differ from the received word in at most n - 1 symbols, over every error of such weight.
+pub fn nearby(shape: Shape, received: &[u32]) -> Vec<Explanation> {
     let mut found = vec![];
     let mut error = vec![0; shape.word_len()];
     extend(shape, received, &mut error, 0, &mut found);
@@ -67,7 +73,7 @@ pub fn explanations(shape: Shape, received: &[u32]) -> Vec<Explanation> {
 /// Tries the error as it stands, then with one more symbol from position `from` on.
 fn extend(shape: Shape, received: &[u32], error: &mut [u32], from: usize, found: &mut Vec<Explanation>) {
     let word = xor(received, error);
-    if is_codeword(shape, &word) && is_unmasked(shape, error) {
+    if is_codeword(shape, &word) {
         found.push((word, weight(error)));
     }
     if weight(error) == shape.most_errors() {

@@ -31,6 +31,7 @@ pub enum Refusal {
     BeyondTwo = 17,
     Slope = 18,
     Bill = 19,
+    Far = 20,
 }
 
 impl Refusal {
