@@ -11,16 +11,20 @@ use Rattle.session.specs.Arrival.{outcomeValues}
 use Rattle.session.proofs.Joins.{outcome-size}
 use Rattle.batch.specs.Batch.{allValues, valuesOf}
 
-all-values-size : (answers : List Outcome) → length (allValues answers) ≡ 3 * length answers
+pub all-values-size : (answers : List Outcome) → length (allValues answers) ≡ 3 * length answers
 unfolding allValues
 all-values-size [] = refl
 all-values-size (answer ∷ rest) = omega (arith, length-append (outcomeValues answer) (allValues rest), outcome-size answer, all-values-size rest)
 
+pub all-values-join : (answers others : List Outcome) → allValues (answers ++ others) ≡ allValues answers ++ allValues others
+unfolding allValues
+all-values-join [] others = refl
+all-values-join (first ∷ rest) others =
+    ap (λ (xs : List ℕ). outcomeValues first ++ xs) (all-values-join rest others) ∙ sym (append-assoc (outcomeValues first) (allValues rest) (allValues others))
+
 all-values-more : (answers : List Outcome) (answer : Outcome) → allValues (answers ++ (answer ∷ [])) ≡ allValues answers ++ outcomeValues answer
 unfolding allValues
-all-values-more [] answer = append-nil (outcomeValues answer)
-all-values-more (first ∷ rest) answer =
-    ap (λ (xs : List ℕ). outcomeValues first ++ xs) (all-values-more rest answer) ∙ sym (append-assoc (outcomeValues first) (allValues rest) (outcomeValues answer))
+all-values-more answers answer = all-values-join answers (answer ∷ []) ∙ ap (λ (xs : List ℕ). allValues answers ++ xs) (append-nil (outcomeValues answer))
 
 -- 192 values, whatever the answers to at most 64 words
 pub values-size : (answers : List Outcome) → length answers ≤ 64 → length (valuesOf answers) ≡ 192

@@ -1,7 +1,7 @@
 -- Arrivals one after the other: two runs joined, and what an arrival leaves for the next.
 use mathlib.Core.Path.{_≡_, refl, ap, _∙_}
 use mathlib.Core.List.{List, _++_}
-use Prim.Native.Nat.{ℕ}
+use Prim.Native.Nat.{ℕ, suc}
 use lib.ListN.{length}
 use Rattle.session.specs.declared.Session.{Session}
 use Rattle.session.specs.declared.Outcome.{Outcome}
@@ -16,6 +16,11 @@ pub run-join : {ways : Ways} {σ middle end : Session} {first later : List Arriv
     → Run ways σ first answers middle → Run ways middle later others end → Run ways σ (first ++ later) (answers ++ others) end
 run-join stop later = later
 run-join (step h run) later = step h (run-join run later)
+
+-- each arrival has its answer
+pub run-answered : {ways : Ways} {σ end : Session} {arrivals : List Arrival} {answers : List Outcome} → Run ways σ arrivals answers end → length answers ≡ length arrivals
+run-answered stop = refl
+run-answered (step h run) = ap suc (run-answered run)
 
 -- an outcome has three values
 pub outcome-size : (r : Outcome) → length (outcomeValues r) ≡ 3

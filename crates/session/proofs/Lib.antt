@@ -20,3 +20,4 @@ pub mod Undamaged
 pub mod Alikes
 pub mod Joins
 pub mod Examples
+pub mod Growth

@@ -72,7 +72,7 @@ module _ (calls marks : List ℕ) where
   unfolding added
   added-at f l = at-tabulate 256 (λ f. getD calls f 0 + countOf f marks) f l
 
-  added-size : length (added calls marks) ≡ 256
+  pub added-size : length (added calls marks) ≡ 256
   unfolding added
   added-size = length-tabulate 256 (λ f. getD calls f 0 + countOf f marks)
 

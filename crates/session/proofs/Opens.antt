@@ -80,7 +80,7 @@ told-front : (r : Opening) (part rest : List ℕ) → ((number c k : ℕ) → r 
 told-front (opening.Page number c k) part rest h = ap (λ (ms : List ℕ). Page number ms k) (marks-front c part rest (h number c k refl .room))
 told-front (opening.Refused e) part rest h = refl
 
-tells-front : {o : Opened} {part : List ℕ} {r : Opening} → Tells o part r → (rest : List ℕ) → Tells o (part ++ rest) r
+pub tells-front : {o : Opened} {part : List ℕ} {r : Opening} → Tells o part r → (rest : List ℕ) → Tells o (part ++ rest) r
 tells-front {part = part} {r = r} h rest = record {
   brought = told-front r part rest (h .readable) ∙ h .brought;
   readable = λ number c k is.

@@ -1,5 +1,5 @@
 -- The last step of an arrival, answer by answer.
-use mathlib.Core.Path.{_≡_, _∙_}
+use mathlib.Core.Path.{_≡_, refl, _∙_}
 use mathlib.Core.Bool.{true, false}
 use mathlib.Core.List.{List}
 use Prim.Native.Nat.{ℕ}
@@ -9,8 +9,13 @@ use Rattle.session.specs.declared.Session.{Session}
 use Rattle.session.specs.declared.Outcome.the-variants.{Taken, Again, Refused}
 use Rattle.session.specs.declared.Arrived.{Arrived}
 use Rattle.session.specs.Session.{overflows, recorded}
-use Rattle.session.specs.Arrival.{Page, outcomeOf, sessionAfter}
+use Rattle.session.specs.Arrival.{Page, Bad, outcomeOf, sessionAfter}
 use Rattle.session.specs.Steps.{Settling}
+
+-- nothing was brought
+pub settle-bad : {σ : Session} {e : Refusal} → Settling σ (Bad e) (record { session = σ; outcome = Refused e })
+unfolding outcomeOf sessionAfter
+settle-bad = record { outcome = refl; session = refl }
 
 module _ {σ : Session} {number k : ℕ} {marks : List ℕ} where
   pub settle-again : getD (σ .taken) number false ≡ true → Settling σ (Page number marks k) (record { session = σ; outcome = Again number k })

@@ -13,7 +13,7 @@ ghost use Rattle.session.specs.Arrival.{isWay, wayOf, openWord};
 ghost use Rattle.session.specs.Steps.{Tells, Opens};
 
 // The page in a word that was read.
-fn find_page(shape: Shape, word: &[u32], symbols: &mut [u32], corrected: u32) -> Opening
+pub fn find_page(shape: Shape, word: &[u32], symbols: &mut [u32], corrected: u32) -> Opening
     requires { ⌜ Lawful shape × (length (now word) ≡ wordLength shape) × (length (now symbols) ≡ infoLength shape) ⌝ }
     ensures { λ r. ⌜ Tells (openWord shape (now (word .entry)) (Decoded.Corrected corrected)) (now (symbols .exit)) r ⌝ }
 {
