@@ -1,4 +1,8 @@
 pub mod Bytes
 pub mod Steps
-pub mod Words
+pub mod Pairs
 pub mod Standards
+pub mod Crossings
+pub mod Answers
+pub mod Values
+pub mod Boundary

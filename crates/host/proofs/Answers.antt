@@ -1,0 +1,174 @@
+-- What the entries answer and leave, by the tests passed.
+use mathlib.Core.Path.{_≡_, refl, sym, ap, _∙_, subst}
+use mathlib.Core.Bool.{true, false, cond, not}
+use mathlib.Core.List.{List, [], _∷_, _++_}
+use mathlib.Core.Logic.{⊎-elim}
+use Prim.Native.Nat.{ℕ, _+_, _-_, _^_, _<_}
+use native.Mathlib.Omega.{arith}
+use lib.ListN.{length, getD, take, drop, List·getD-map}
+use lib.Seq.{getD-drop, getD-take}
+use borrow.Author.Tests.{eq-eqb, ne-eqb}
+use denote.Enum.Declared.{tagOf}
+use types.Run.{OneOf}
+use Rattle.gtb.specs.declared.Shape.{Shape}
+use Rattle.gtb.specs.declared.Refusal.{Refusal}
+use Rattle.gtb.specs.declared.Status.the-variants.{Done}
+use Rattle.gtb.specs.declared.Status.the-variants as status
+use Rattle.gtb.specs.Shape.{lawful, Lawful}
+use Rattle.gtb.specs.Answer.{refusalNumber, statusNumber}
+use Rattle.correction.specs.declared.Decoded.{Decoded}
+use Rattle.correction.specs.declared.Decoded.the-variants as decoded
+use Rattle.correction.specs.Answer.{decodedWord}
+use Rattle.page.proofs.Parts.{marks-part}
+use Rattle.session.specs.declared.Session.{Session}
+use Rattle.session.specs.declared.Opening.{Opening}
+use Rattle.session.specs.declared.Opening.the-variants as opening
+use Rattle.session.specs.declared.Outcome.{Outcome}
+use Rattle.session.specs.declared.Outcome.the-variants.{Taken, Again, Refused}
+use Rattle.session.specs.declared.Arrived.{Arrived}
+use Rattle.session.specs.Session.{marked, freshOf, freshStatus}
+use Rattle.session.specs.Arrival.{wayOf, theWays, Opened, Page, openWord, isAccepted, wordAfter, outcomeValues, Arriving}
+use Rattle.session.specs.Steps.{Reading, openedBy, told, Settling, Tells, Deciding}
+use Rattle.session.proofs.Arrive.{whole-copy}
+use Rattle.session.proofs.Settle.{settle-bad, settle-again}
+use Rattle.session.proofs.Outcome.{the-type}
+use Rattle.batch.specs.declared.Delivered.{Delivered}
+use Rattle.batch.specs.Batch.{Batching}
+use Rattle.host.specs.Crossing.{shapeIn, isYes, sessionOf, valuesOf}
+use Rattle.host.specs.Entries.{lengthIn, FreshCrossing, sessionIn, Arrives, bundleIn, Delivers}
+use Rattle.host.specs.Steps.{AtValues}
+
+-- ---- a length, by the test of the shape
+module _ (size : Shape → ℕ) (values : List ℕ) {s : Shape} (is : s ≡ shapeIn values) where
+  pub length-none : lawful s ≡ false → 0 ≡ lengthIn size values
+  length-none h = rw (← is, h)
+
+  pub length-some : {r : ℕ} → Lawful s → r ≡ size s → r ≡ lengthIn size values
+  length-some h e = rw (← is, h) e
+
+-- ---- a fresh session
+module _ (s : Shape) (session : List ℕ) where
+  -- a refusal leaves the values
+  pub fresh-refused : {e : Refusal} {r : ℕ} → freshStatus s ≡ status.Refused e → r ≡ 2 ^ 31 + refusalNumber e → FreshCrossing s session session r
+  fresh-refused h is = record { answer = rw h is; left = rw h }
+
+  pub fresh-done : {σ : Session} {session′ : List ℕ} → freshStatus s ≡ Done → σ ≡ freshOf s → session′ ≡ valuesOf σ → FreshCrossing s session session′ 0
+  fresh-done h f v = record { answer = rw h; left = rw h (v ∙ ap valuesOf f) }
+
+-- ---- the session is written after a page was taken
+pub written : (session session′ : List ℕ) (σ : Session) (o : Outcome) {p k : ℕ} → o ≡ Taken p k → session′ ≡ valuesOf σ → session′ ≡ sessionIn session σ o
+written session session′ σ o h v = rw h v
+
+-- and as it was after every other answer
+pub as-it-was : (session : List ℕ) (σ : Session) (o : Outcome) → OneOf (1 ∷ 2 ∷ []) (tagOf the-type o) → session ≡ sessionIn session σ o
+as-it-was session σ (Taken p k) h = ⊎-elim (λ e. absurd (omega arith)) (λ e. absurd (omega arith)) h
+as-it-was session σ (Again p k) h = refl
+as-it-was session σ (Refused e) h = refl
+
+accepted : (o : Outcome) → OneOf (0 ∷ 1 ∷ []) (tagOf the-type o) → isAccepted o ≡ true
+accepted (Taken p k) h = refl
+accepted (Again p k) h = refl
+accepted (Refused e) h = ⊎-elim (λ e. absurd (omega arith)) (λ e. absurd (omega arith)) h
+
+-- ---- an arrival's steps at lent values
+module _ {values : List ℕ} {Promise : Session → Arrived → Type 0} where
+  pub at-values : {values′ : List ℕ} {σ : Session} (a : Arrived) → σ ≡ sessionOf values → Promise σ a → values′ ≡ sessionIn values (a .session) (a .outcome)
+      → AtValues values Promise values′ (a .outcome)
+  at-values a is holds left = record { after = a .session; holds = rw (← is) holds; left = left }
+
+  -- turned down: nothing is written
+  pub at-refused : {e : Refusal} → Promise (sessionOf values) (record { session = sessionOf values; outcome = Refused e }) → AtValues values Promise values (Refused e)
+  at-refused holds = record { after = sessionOf values; holds = holds; left = refl }
+
+  pub at-again : {number k : ℕ} → Promise (sessionOf values) (record { session = sessionOf values; outcome = Again number k }) → AtValues values Promise values (Again number k)
+  at-again holds = record { after = sessionOf values; holds = holds; left = refl }
+
+  -- a promise that another gives
+  pub at-other : {Other : Session → Arrived → Type 0} {values′ : List ℕ} {r : Outcome} → AtValues values Other values′ r
+      → ((a : Arrived) → Other (sessionOf values) a → a .outcome ≡ r → Promise (sessionOf values) a) → AtValues values Promise values′ r
+  at-other h other = record { after = h .after; holds = other _ (h .holds) refl; left = h .left }
+
+-- a page mark where it lies
+pub mark-lent : (values : List ℕ) (number : ℕ) → number < 1024 → marked (sessionOf values .taken) number ≡ isYes (getD values (12 + number) 0)
+unfolding sessionOf
+mark-lent values number l =
+    List·getD-map isYes (take 1024 (drop 12 values)) number 0
+    ∙ ap isYes (getD-take 1024 (drop 12 values) number 0 l ∙ getD-drop 12 values number 0)
+
+-- ---- the page in a word that was read
+module _ (values : List ℕ) {o : Opened} {symbols : List ℕ} {found : Opening} (opened : Tells o symbols found) where
+  brings : {r : Opening} → found ≡ r → told r symbols ≡ o
+  brings h = ap (λ (r : Opening). told r symbols) (sym h) ∙ opened .brought
+
+  pub page-refused : {e : Refusal} → found ≡ opening.Refused e → AtValues values (λ σ a. Settling σ o a) values (Refused e)
+  page-refused {e} h = at-refused (subst (λ (x : Opened). Settling (sessionOf values) x (record { session = sessionOf values; outcome = Refused e })) (brings h) settle-bad)
+
+  module _ {number c k : ℕ} (h : found ≡ opening.Page number c k) where
+    pub page-again : (getD values (12 + number) 0 ≡ 0 → ⊥) → AtValues values (λ σ a. Settling σ o a) values (Again number k)
+    page-again marked =
+        at-again
+        (subst (λ (x : Opened). Settling (sessionOf values) x (record { session = sessionOf values; outcome = Again number k })) (brings h)
+        (settle-again (mark-lent values number (opened .readable number c k h .low) ∙ ap not (ne-eqb _ _ marked))))
+
+    pub page-new : {values′ : List ℕ} {r : Outcome} → AtValues values (λ σ a. Settling σ (Page number (take (2 + c - 2) (drop 2 symbols)) k) a) values′ r
+        → AtValues values (λ σ a. Settling σ o a) values′ r
+    page-new new = at-other new (λ a settles _. subst (λ (x : Opened). Settling (sessionOf values) x a) (ap (λ (ms : List ℕ). Page number ms k) (marks-part c symbols) ∙ brings h) settles)
+
+-- ---- both steps, the word read where it lies
+module _ (way : ℕ) (values : List ℕ) {s : Shape} (same : sessionOf values .shape ≡ s) {word left : List ℕ} {found : Decoded} (read : Reading (wayOf way) s word left found) where
+  pub read-refused : {e : Refusal} → found ≡ decoded.Refused e → AtValues values (λ σ a. Deciding (wayOf way) σ word left a) values (Refused e)
+  read-refused h =
+      at-refused
+      (rw same (record {
+        settled = rw (sym (read .answer) ∙ h) settle-bad;
+        wordLeft = read .word ∙ rw h;
+      }))
+
+  module _ {k : ℕ} (h : found ≡ decoded.Corrected k) where
+    read-left : left ≡ wayOf way .word s word
+    read-left = read .word ∙ ap (decodedWord word (wayOf way .word s word)) h
+
+    read-brings : openedBy (wayOf way) s word ≡ openWord s left (decoded.Corrected k)
+    read-brings = rw (sym (read .answer) ∙ h, ← read-left)
+
+    read-page : {values′ word′ : List ℕ} {r : Outcome} → AtValues values (λ σ a. Settling σ (openWord s left (decoded.Corrected k)) a) values′ r
+        → word′ ≡ cond (isAccepted r) left word → AtValues values (λ σ a. Deciding (wayOf way) σ word word′ a) values′ r
+    read-page {r = r} at w =
+        at-other at
+        (λ a settles is.
+        record {
+          settled = subst (λ (o : Opened). Settling (sessionOf values) o a) (sym (ap (λ (x : Shape). openedBy (wayOf way) x word) same ∙ read-brings)) settles;
+          wordLeft = w ∙ ap (λ (v : List ℕ). wordAfter word v r) (read-left ∙ ap (λ (x : Shape). wayOf way .word x word) (sym same))
+              ∙ ap (wordAfter word (wayOf way .word (sessionOf values .shape) word)) (sym is);
+        })
+
+    -- what came is put back
+    pub read-undone : (came : List ℕ) {values′ word′ loaded : List ℕ} {r : Outcome} {e : Refusal} → AtValues values (λ σ a. Settling σ (openWord s left (decoded.Corrected k)) a) values′ r → r ≡ Refused e
+        → length came ≡ length word → loaded ≡ word ++ drop (length word) came → length left ≡ length word → word′ ≡ loaded ++ drop (length loaded) left
+        → AtValues values (λ σ a. Deciding (wayOf way) σ word word′ a) values′ r
+    read-undone came {loaded = loaded} at is size load same put =
+        let whole : loaded ≡ word = load ∙ whole-copy word came (sym size) in
+        read-page at (rw is (put ∙ whole-copy loaded left (ap length whole ∙ sym same) ∙ whole))
+
+    pub read-kept : {values′ : List ℕ} {r : Outcome} → AtValues values (λ σ a. Settling σ (openWord s left (decoded.Corrected k)) a) values′ r → OneOf (0 ∷ 1 ∷ []) (tagOf the-type r)
+        → AtValues values (λ σ a. Deciding (wayOf way) σ word left a) values′ r
+    read-kept {r = r} at keys = read-page at (rw (accepted r keys))
+
+-- ---- an arrival
+pub arrives : {session session′ : List ℕ} {way : ℕ} {word scratch word′ scratch′ outcome′ : List ℕ} {r : Outcome}
+    → AtValues session (λ σ a. Arriving theWays σ way word scratch word′ scratch′ a) session′ r → outcome′ ≡ outcomeValues r
+    → Arrives session way word scratch session′ word′ scratch′ outcome′ 0
+arrives {r = r} at o = record { arrived = record { session = at .after; outcome = r }; holds = at .holds; outcomeLeft = o; sessionLeft = at .left; answer = refl }
+
+-- ---- a bundle
+module _ (session : List ℕ) (way : ℕ) (words scratch outcomes : List ℕ) {σ : Session} (r : Delivered) {session′ words′ scratch′ outcomes′ : List ℕ} {answer : ℕ} (is : σ ≡ sessionOf session) (holds : Batching σ way words scratch outcomes words′ scratch′ outcomes′ r) (crossed : answer ≡ statusNumber (r .status)) where
+  delivers : session′ ≡ bundleIn session (r .session) → Delivers session way words scratch outcomes session′ words′ scratch′ outcomes′ answer
+  delivers left = record { delivered = r; holds = rw (← is) holds; sessionLeft = left; answer = crossed }
+
+  -- no page more: as it was; else written
+  pub delivers-kept : r .session .pages ≡ σ .pages → session′ ≡ session → Delivers session way words scratch outcomes session′ words′ scratch′ outcomes′ answer
+  delivers-kept same left = delivers (left ∙ sym (rw (eq-eqb (r .session .pages) (sessionOf session .pages) (same ∙ ap (λ (τ : Session). τ .pages) is))))
+
+  pub delivers-written : (r .session .pages ≡ σ .pages → ⊥) → session′ ≡ valuesOf (r .session) → Delivers session way words scratch outcomes session′ words′ scratch′ outcomes′ answer
+  delivers-written more left =
+      delivers (left ∙ sym (rw (ne-eqb (r .session .pages) (sessionOf session .pages) (λ e. more (e ∙ ap (λ (τ : Session). τ .pages) (sym is))))))

@@ -1,0 +1,82 @@
+-- `host::figures::agree` meets its contract: each test that is not passed tells a figure that is another.
+use mathlib.Core.Path.{_≡_, sym, ap, _∙_}
+use mathlib.Core.Bool.{Bool, not, Bool·not-not}
+use mathlib.Core.List.{List, map}
+use Prim.Native.Nat.{ℕ, _+_, _<_, zero-le}
+use native.Mathlib.Nat.{le-refl}
+use native.Mathlib.Omega.{arith}
+use lib.Dec.{eqb}
+use lib.ListN.{getD, List·getD-map}
+use borrow.Author.Tests.{eq-eqb}
+use Rattle.parity.specs.Count.{count}
+use Rattle.parity.proofs.Sums.{count-zero, count-bound}
+use Rattle.parity.proofs.Lowest.{full-count}
+use Rattle.session.specs.Session.{marked, pagesOf}
+use Rattle.session.proofs.Progress.{piece-more, lowest-found, lowest-facts, lowest-full, pages-differ, lowest-differs, both-agree, last-test}
+use Rattle.host.specs.Crossing.{isYes}
+use Rattle.host.proofs.figures.agree.Statement.{statement}
+use Rattle.host.proofs.figures.agree.Tie as tie
+
+abbrev marksAt : tie.Else1 → List Bool
+marksAt c = map isYes (c .before .before .args .marks .now)
+
+abbrev lowestAt : tie.Else1 → ℕ
+lowestAt c = c .before .before .args .lowest
+
+-- as many as are marked below the lowest number
+below : (c : tie.After-marked-in) → c .marked-in .result ≡ count (lowestAt (c .before)) (marked (marksAt (c .before)))
+below c =
+    let taken = marksAt (c .before) in
+    omega (arith, c .marked-in .ensures, piece-more taken 0 (lowestAt (c .before)) zero-le, count-zero (marked taken))
+
+-- and all together
+both : (c : tie.After-marked-in2) → c .before .before .marked-in .result + c .marked-in2 .result ≡ count 1024 (marked (marksAt (c .before .before .before)))
+both c =
+    let taken = marksAt (c .before .before .before) in
+    omega (arith, below (c .before .before), c .marked-in2 .ensures, piece-more taken (lowestAt (c .before .before .before)) 1024 (c .before .before .before .if1 .left))
+
+returns : tie.Need-returns
+returns c =
+    let taken = map isYes (c .before .before .args .marks .now) in
+    lowest-differs taken _ _ (λ e. omega (arith, e, c .if1 .taken, lowest-facts taken .upto))
+
+returns-2 : tie.Need-returns-2
+returns-2 c = lowest-differs (marksAt (c .before .before)) _ _ (λ e. c .if2 .taken (below (c .before) ∙ lowest-full (marksAt (c .before .before)) _ e))
+
+add-if3 : tie.Need-add-if3
+add-if3 c = omega (arith, both c, count-bound 1024 (marked (marksAt (c .before .before .before))))
+
+returns-3 : tie.Need-returns-3
+unfolding pagesOf
+returns-3 c = pages-differ (marksAt (c .before .before .before .before)) _ _ (λ e. c .if3 .taken (both (c .before) ∙ sym e))
+
+-- past these tests the number of pages is right, and all below the lowest number are taken
+right : (c : tie.Else3) → c .before .before .before .before .before .before .args .pages ≡ pagesOf (marksAt (c .before .before .before .before))
+unfolding pagesOf
+right c = sym (c .if3 .left) ∙ both (c .before)
+
+full : (c : tie.Else2) → count (lowestAt (c .before .before)) (marked (marksAt (c .before .before))) ≡ lowestAt (c .before .before)
+full c = sym (below (c .before)) ∙ c .if2 .left
+
+-- the place looked at last
+last : (c : tie.Else4) → lowestAt (c .before .before .before .before .before) < 1024
+last c = omega (arith, c .before .before .before .before .before .if1 .left, c .if4 .left)
+
+returns-4 : tie.Need-returns-4
+returns-4 c =
+    let e = c .if4 .taken in
+    let tested = c .before .before .before in
+    let taken = marksAt (tested .before .before) in
+    eq-eqb _ _ e ∙ both-agree taken _ _ (right (c .before))
+    (lowest-found taken _ (tested .before .before .if1 .left) (full-count _ (marked taken) (full tested)) (λ l. absurd (omega (arith, e, l))))
+
+returns-5 : tie.Need-returns-5
+returns-5 c =
+    let tested = c .before .before .before .before in
+    let begun = tested .before .before in
+    let marks = begun .before .before .args .marks .now in
+    sym (Bool·not-not (eqb (getD marks (lowestAt begun) 0) 0)) ∙ ap not (sym (List·getD-map isYes marks (lowestAt begun) 0))
+    ∙ last-test (marksAt begun) _ _ (right (c .before .before)) (last (c .before)) (full tested)
+
+pub agree-spec : {M : Type 1} → statement M
+agree-spec = tie.close (tie.spec returns (λ c κs. (zero-le, c .if1 .left, c .before .before .pre)) returns-2 (λ c κs. (c .before .before .if1 .left, le-refl 1024, c .before .before .before .before .pre)) add-if3 returns-3 (λ c. omega (arith, last c)) (λ c. omega (arith, last (c .before), c .before .before .before .before .before .before .before .before .pre)) returns-4 returns-5)

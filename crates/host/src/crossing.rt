@@ -1,0 +1,112 @@
+// A shape as ten values, a session as 10 + 2 + 1024 + 256, and an outcome as three.
+use gtb::Shape;
+use session::Outcome;
+use session::Session;
+ghost use mathlib.Core.Path.{_≡_};
+ghost use mathlib.Core.List.{map};
+ghost use lib.ListN.{length};
+ghost use Rattle.parity.specs.Count.{bit};
+ghost use Rattle.session.specs.Arrival.{outcomeValues};
+ghost use Rattle.host.specs.Crossing.{shapeIn, shapeValues, isYes, sessionOf, valuesOf};
+
+// How many values a shape crosses as.
+pub const SHAPE: usize = 10;
+
+// How many values a session crosses as.
+pub const LENGTH: usize = 1292;
+
+// The shape in the values.
+pub fn load_shape(values: &[u32]) -> Shape
+    requires { ⌜ length (now values) ≡ 10 ⌝ }
+    ensures { λ r. ⌜ r ≡ shapeIn (now (values .entry)) ⌝ }
+{
+    let mut slopes = [0u32; 7];
+    gtb::copy(&values[3..], &mut slopes);
+    Shape {
+        q: values[0],
+        n: values[1],
+        b: values[2],
+        slopes,
+    }
+}
+
+// The values of the shape.
+fn store_shape(shape: Shape, values: &mut [u32])
+    requires { ⌜ length (now values) ≡ 10 ⌝ }
+    ensures { λ _. ⌜ now (values .exit) ≡ shapeValues shape ⌝ }
+{
+    let slopes = shape.slopes;
+    values[0] = shape.q;
+    values[1] = shape.n;
+    values[2] = shape.b;
+    gtb::copy(&slopes, &mut values[3..]);
+}
+
+// A page mark is no where its value is 0.
+fn load_taken(values: &[u32]) -> [bool; 1024]
+    requires { ⌜ length (now values) ≡ 1024 ⌝ }
+    ensures { λ r. ⌜ r ≡ map isYes (now (values .entry)) ⌝ }
+{
+    let mut taken = [false; 1024];
+    for i in 0..1024 {
+        taken[i] = values[i] != 0;
+    }
+    taken
+}
+
+fn load_calls(values: &[u32]) -> [u32; 256]
+    requires { ⌜ length (now values) ≡ 256 ⌝ }
+    ensures { λ r. ⌜ r ≡ now (values .entry) ⌝ }
+{
+    let mut calls = [0u32; 256];
+    gtb::copy(values, &mut calls);
+    calls
+}
+
+// The session in the values.
+pub fn load(values: &[u32]) -> Session
+    requires { ⌜ length (now values) ≡ 1292 ⌝ }
+    ensures { λ r. ⌜ r ≡ sessionOf (now (values .entry)) ⌝ }
+{
+    Session {
+        shape: load_shape(&values[..10]),
+        taken: load_taken(&values[12..1036]),
+        calls: load_calls(&values[1036..]),
+        pages: values[10],
+        lowest: values[11],
+    }
+}
+
+// Yes crosses as 1, no as 0.
+fn store_taken(taken: [bool; 1024], values: &mut [u32])
+    requires { ⌜ length (now values) ≡ 1024 ⌝ }
+    ensures { λ _. ⌜ now (values .exit) ≡ map bit taken ⌝ }
+{
+    for i in 0..1024 {
+        values[i] = taken[i] as u32;
+    }
+}
+
+// The values of the session.
+pub fn store(session: Session, values: &mut [u32])
+    requires { ⌜ length (now values) ≡ 1292 ⌝ }
+    ensures { λ _. ⌜ now (values .exit) ≡ valuesOf session ⌝ }
+{
+    let shape = session.shape;
+    let taken = session.taken;
+    let calls = session.calls;
+    store_shape(shape, &mut values[..10]);
+    values[10] = session.pages;
+    values[11] = session.lowest;
+    store_taken(taken, &mut values[12..1036]);
+    gtb::copy(&calls, &mut values[1036..]);
+}
+
+// The three values of an outcome.
+pub fn put_outcome(values: &mut [u32], outcome: Outcome)
+    requires { ⌜ length (now values) ≡ 3 ⌝ }
+    ensures { λ _. ⌜ now (values .exit) ≡ outcomeValues outcome ⌝ }
+{
+    let three = session::number::outcome(outcome);
+    gtb::copy(&three, values);
+}

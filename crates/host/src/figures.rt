@@ -1,0 +1,42 @@
+// Test 11 on page marks that are lent as values: any value but 0 is yes.
+ghost use mathlib.Core.Path.{_≡_};
+ghost use mathlib.Core.Bool.{_&&_};
+ghost use mathlib.Core.List.{map};
+ghost use Prim.Native.Nat.{_+_, _-_, _≤_};
+ghost use lib.Dec.{eqb};
+ghost use lib.ListN.{length};
+ghost use Rattle.parity.specs.Count.{count};
+ghost use Rattle.session.specs.Session.{marked, pagesOf, lowestOf};
+ghost use Rattle.host.specs.Crossing.{isYes};
+
+// How many marks from one number on and below another are yes. The loop has no early exit, so that many are counted at once.
+fn marked_in(marks: &[u32], from: usize, to: usize) -> u32
+    requires { ⌜ (from ≤ to) × (to ≤ 1024) × (length (now marks) ≡ 1024) ⌝ }
+    ensures { λ r. ⌜ r ≡ count (to - from) (λ i. marked (map isYes (now (marks .entry))) (from + i)) ⌝ }
+{
+    let mut pages = 0u32;
+    for i in from..to {
+        pages += (marks[i] != 0) as u32;
+    }
+    pages
+}
+
+// Both figures are what the marks say. Each mark is looked at once.
+pub fn agree(marks: &[u32], pages: u32, lowest: u32) -> bool
+    requires { ⌜ length (now marks) ≡ 1024 ⌝ }
+    ensures { λ r. ⌜ r ≡ (eqb pages (pagesOf (map isYes (now (marks .entry)))) && eqb lowest (lowestOf (map isYes (now (marks .entry))))) ⌝ }
+{
+    if lowest > 1024 {
+        return false;
+    }
+    let at = lowest as usize;
+    let below = marked_in(marks, 0, at);
+    if below != lowest {
+        return false;
+    }
+    let above = marked_in(marks, at, 1024);
+    if below + above != pages {
+        return false;
+    }
+    at == 1024 || marks[at] == 0
+}
