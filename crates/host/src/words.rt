@@ -7,6 +7,7 @@ ghost use Rattle.decoder.specs.Decode.{Decoding};
 ghost use Rattle.decoder.specs.Looking.{Looking};
 ghost use Rattle.majority.specs.Majority.{Voting};
 ghost use Rattle.double.specs.Double.{ReadingTwo};
+ghost use Rattle.nearest.specs.Nearest.{Restoring};
 ghost use Rattle.erasure.specs.Fill.{Filling};
 ghost use Rattle.verify.specs.Verify.{verdictNumber, Checking};
 ghost use Rattle.host.specs.Crossing.{shapeIn};
@@ -55,6 +56,13 @@ pub extern "C" fn shaftglimmer_decode_two(shape: &[u32; 10], word: &mut [u32]) -
     ensures { λ r. ⌜ Crosses decodedNumber (ReadingTwo (shapeIn (now (shape .entry))) (now (word .entry)) (now (word .exit))) r ⌝ }
 {
     correction::number::decoded(double::decode_two(load_shape(shape), word))
+}
+
+#[no_mangle]
+pub extern "C" fn shaftglimmer_decode_nearest(shape: &[u32; 10], word: &mut [u32]) -> u32
+    ensures { λ r. ⌜ Crosses decodedNumber (Restoring (shapeIn (now (shape .entry))) (now (word .entry)) (now (word .exit))) r ⌝ }
+{
+    correction::number::decoded(nearest::decode_nearest(load_shape(shape), word))
 }
 
 #[no_mangle]
