@@ -1,11 +1,15 @@
-# make: the program and the static library for C. make run: the tally of the sample capture. make test: the whole gate.
+# make: the program and the libraries for C. make run: the tally of the sample capture. make test: the whole gate.
 PREFIX ?= /usr/local
 
-.PHONY: all run check test bench install install-built uninstall clean
+# Functions that go or change give the shared library another number.
+soname = libshaftglimmer.so.1
+
+.PHONY: all run check test bench libraries examples install install-built uninstall clean
 
 all:
 	rt check tally host
 	rt staticlib host
+	$(MAKE) --no-print-directory libraries
 
 run: target/bin/tally
 	target/bin/tally samples/capture.txt
@@ -29,6 +33,25 @@ target/bin/tally:
 target/staticlib/lib%.a:
 	rt staticlib $*
 
+libraries: target/libshaftglimmer.a target/libshaftglimmer.so
+
+target/libshaftglimmer.a: target/staticlib/libhost.a
+	cp $< $@
+
+# All of the archive; the map says which names it shows.
+target/$(soname): target/libshaftglimmer.a include/shaftglimmer.map
+	$(CC) -shared -Wl,-soname,$(soname) -Wl,--version-script,include/shaftglimmer.map -Wl,-z,defs -Wl,-z,now -Wl,-z,noexecstack \
+		-Wl,--whole-archive $< -Wl,--no-whole-archive -o $@
+
+target/libshaftglimmer.so: target/$(soname)
+	ln -sf $(soname) $@
+
+examples: $(patsubst examples/%.c,target/examples/%,$(wildcard examples/*.c))
+
+target/examples/%: examples/%.c examples/input.h include/shaftglimmer.h target/libshaftglimmer.a
+	@mkdir -p target/examples
+	$(CC) -std=c99 -O2 -Wall -Wextra -pedantic -Iinclude $< target/libshaftglimmer.a -o $@
+
 # PREFIX is where the files will be used, DESTDIR a folder to lay them out in before that.
 place = $(DESTDIR)$(PREFIX)
 
@@ -39,7 +62,9 @@ install: all
 install-built:
 	install -D -m 755 target/bin/tally $(place)/bin/tally
 	install -D -m 644 include/shaftglimmer.h $(place)/include/shaftglimmer.h
-	install -D -m 644 target/staticlib/libhost.a $(place)/lib/libshaftglimmer.a
+	install -D -m 644 target/libshaftglimmer.a $(place)/lib/libshaftglimmer.a
+	install -D -m 755 target/$(soname) $(place)/lib/$(soname)
+	ln -sf $(soname) $(place)/lib/libshaftglimmer.so
 	install -D -m 644 docs/man/tally.1 $(place)/share/man/man1/tally.1
 	install -D -m 644 docs/man/shaftglimmer.3 $(place)/share/man/man3/shaftglimmer.3
 	install -d $(place)/lib/pkgconfig
@@ -47,7 +72,8 @@ install-built:
 	chmod 644 $(place)/lib/pkgconfig/shaftglimmer.pc
 
 uninstall:
-	rm -f $(place)/bin/tally $(place)/include/shaftglimmer.h $(place)/lib/libshaftglimmer.a
+	rm -f $(place)/bin/tally $(place)/include/shaftglimmer.h
+	rm -f $(place)/lib/libshaftglimmer.a $(place)/lib/$(soname) $(place)/lib/libshaftglimmer.so
 	rm -f $(place)/share/man/man1/tally.1 $(place)/share/man/man3/shaftglimmer.3 $(place)/lib/pkgconfig/shaftglimmer.pc
 
 clean:

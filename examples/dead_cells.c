@@ -1,0 +1,49 @@
+/*
+ * Dead cells: a probe's memory test has named the cells of each word that are gone. The digits there are not
+ * believed, and the others say what they were. Up to 2 * n - 1 dead cells of a word never leave a choice.
+ *
+ *     dead_cells < text
+ *
+ * The text has decimal numbers: q, n and b; then for each word how many of its cells are gone, their places, which
+ * count from 0 and rise, and the digits of the word.
+ */
+#include "input.h"
+
+/* Fills word number i in and shows it. If it is refused, it stays as it came. */
+static int fill(const shaftglimmer_shape *shape, size_t i, const uint32_t *places, size_t count, uint32_t *word, size_t digits)
+{
+    static uint32_t scratch[SHAFTGLIMMER_SCRATCH_MOST];
+    size_t room = shaftglimmer_scratch_length(shape);
+    uint32_t answer = shaftglimmer_fill(shape, places, count, word, digits, scratch, room);
+    if (shaftglimmer_refusal_of(answer) != 0) {
+        return refused_word(i, shaftglimmer_refusal_of(answer));
+    }
+    printf("word %zu: %zu cells gone, %" PRIu32 " digits were wrong:", i, count, answer);
+    print_numbers(word, digits);
+    return 0;
+}
+
+int main(void)
+{
+    static uint32_t places[SHAFTGLIMMER_WORD_MOST], word[SHAFTGLIMMER_WORD_MOST];
+    shaftglimmer_shape shape;
+    if (!read_text_shape(stdin, &shape)) {
+        return complain("standard input", "has no shape");
+    }
+    size_t digits = shaftglimmer_word_length(&shape);
+    if (digits == 0) {
+        return refused("standard input", SHAFTGLIMMER_SHAPE);
+    }
+    int status = 0;
+    for (size_t i = 1; !at_end(stdin); i++) {
+        uint32_t count;
+        if (!read_number(stdin, &count) || count > digits) {
+            return complain("standard input", "has no number of cells where one is due");
+        }
+        if (!read_numbers(stdin, places, count) || !read_numbers(stdin, word, digits)) {
+            return complain("standard input", "has a word that is not whole");
+        }
+        status |= fill(&shape, i, places, count, word, digits);
+    }
+    return status;
+}
