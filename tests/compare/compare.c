@@ -6,14 +6,14 @@
 #include <string.h>
 #include <time.h>
 
-typedef uint32_t decode_t(const uint32_t *, size_t, uint32_t *, size_t);
-typedef uint32_t encode_t(const uint32_t *, size_t, const uint32_t *, size_t, uint32_t *, size_t, uint32_t *, size_t);
-decode_t before_harness_decode, after_harness_decode;
-encode_t before_harness_encode, after_harness_encode;
+typedef uint32_t decode_t(const uint32_t *, uint32_t *, size_t);
+typedef uint32_t encode_t(const uint32_t *, const uint32_t *, size_t, uint32_t *, size_t, uint32_t *, size_t);
+decode_t before_shaftglimmer_decode, after_shaftglimmer_decode;
+encode_t before_shaftglimmer_encode, after_shaftglimmer_encode;
 
 struct build { decode_t *decode; encode_t *encode; };
 static const struct build builds[2] = {
-    {before_harness_decode, before_harness_encode}, {after_harness_decode, after_harness_encode}};
+    {before_shaftglimmer_decode, before_shaftglimmer_encode}, {after_shaftglimmer_decode, after_shaftglimmer_encode}};
 
 enum kind { UNDAMAGED, DAMAGED, REFUSED, WRITE, KINDS };
 static const char *const names[KINDS] = {"read, undamaged", "read, damaged", "read, refused", "write"};
@@ -64,13 +64,13 @@ static void make(enum kind kind) {
     for (size_t i = 0; i < words; i++) {
         uint32_t *word = stored + i * size, *symbols = data + i * room, answer;
         for (size_t k = 0; k < room; k++) symbols[k] = random_number() & mask();
-        if (after_harness_encode(shape, 10, symbols, room, scratch, rows, whole, size) != 0) exit(1);
+        if (after_shaftglimmer_encode(shape, symbols, room, scratch, rows, whole, size) != 0) exit(1);
         do {
             memcpy(word, whole, size * sizeof *word);
             if (kind == DAMAGED) damage(word, 1 + i % (n - 1), 0);
             if (kind == REFUSED) damage(word, 2 + i % n, 2 + i % n < n);
             memcpy(tried, word, size * sizeof *word);
-            answer = after_harness_decode(shape, 10, tried, size);
+            answer = after_shaftglimmer_decode(shape, tried, size);
         } while (kind == DAMAGED ? answer != 1 + i % (n - 1) : kind == REFUSED && answer != (1u << 31) + 4);
     }
 }
@@ -89,8 +89,8 @@ static double turn(const struct build *build, enum kind kind) {
         if (kind != WRITE) memcpy(lent, stored, words * size * sizeof *lent);
         double start = now();
         for (size_t i = 0; i < words; i++)
-            answers += kind == WRITE ? build->encode(shape, 10, data + i * room, room, scratch, rows, lent + i * size, size)
-                                     : build->decode(shape, 10, lent + i * size, size);
+            answers += kind == WRITE ? build->encode(shape, data + i * room, room, scratch, rows, lent + i * size, size)
+                                     : build->decode(shape, lent + i * size, size);
         double took = now() - start;
         spent += took;
         if (took < best) best = took;

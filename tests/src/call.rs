@@ -8,8 +8,8 @@ use crate::reference::filler::fill;
 use crate::reference::nearest::decode_nearest;
 use crate::reference::page::{read_page, write_page};
 use crate::reference::reader::{decode, looked};
-use crate::reference::session::{Outcome, Session, CALLS_AT, MARKS_AT, PAGES_AT, SESSION_LEN};
-use crate::reference::shape::{Refusal, Shape, SHAPE_LEN};
+use crate::reference::session::{Outcome, Session, CALLS_AT, MARKS_AT, PAGES_AT};
+use crate::reference::shape::{Refusal, Shape};
 use crate::reference::voter::decode_majority;
 use crate::reference::writer::{encode, extract};
 
@@ -74,9 +74,14 @@ impl Entry {
         self.is_of_host() || self == Entry::Cover
     }
 
-    /// Those that are lent their shape as a slice.
+    /// Those that are lent their shape.
     pub fn takes_shape(self) -> bool {
         !self.takes_session() && !self.is_of_host()
+    }
+
+    /// Whether slice i has one length only and crosses without it: a session, and the outcome of an arrival.
+    pub fn is_fixed(self, i: usize) -> bool {
+        matches!(self.slice_names()[i], "session" | "outcome")
     }
 }
 
@@ -87,8 +92,6 @@ impl Entry {
 pub struct Call {
     pub entry: Entry,
     pub shape: Shape,
-    /// What is lent in place of the shape's own values, if anything is: a slice of any length.
-    pub lent_shape: Option<Vec<u32>>,
     pub number: u32,
     pub slices: Vec<Vec<u32>>,
 }
@@ -124,7 +127,7 @@ impl Call {
 
     pub fn numbered(entry: Entry, shape: Shape, number: u32, slices: &[&[u32]]) -> Call {
         let slices = slices.iter().map(|slice| slice.to_vec()).collect();
-        Call { entry, shape, lent_shape: None, number, slices }
+        Call { entry, shape, number, slices }
     }
 
     /// The call with another slice i.
@@ -134,29 +137,16 @@ impl Call {
         call
     }
 
-    /// The slice that the shape crosses as.
-    pub fn shape_values(&self) -> Vec<u32> {
-        self.lent_shape.clone().unwrap_or_else(|| self.shape.values().to_vec())
-    }
-
     /// Everything that is lent; long lists are cut off.
     pub fn text(&self) -> String {
         let slices = self.entry.slice_names().iter().zip(&self.slices);
         let slices: Vec<String> = slices.map(|(name, slice)| slice_text(name, slice)).collect();
-        let shape = brief(&self.shape_values());
+        let shape = brief(&self.shape.values());
         format!("{:?} of shape {shape}, number {}, {}", self.entry, self.number, slices.join(", "))
     }
 
     pub fn on_reference(&self) -> After {
-        let values = self.shape_values();
-        if self.entry.takes_shape() && values.len() != SHAPE_LEN {
-            return After { answer: answer_of(Err(Refusal::Length)), slices: self.slices.clone() };
-        }
-        self.of_shape(Shape::from_values(&values))
-    }
-
-    /// The reference's answer for this shape.
-    fn of_shape(&self, shape: Shape) -> After {
+        let shape = self.shape;
         let mut slices = self.slices.clone();
         let answer = match (self.entry, &mut slices[..]) {
             (Entry::Encode, [data, scratch, word]) => answer_of(encode(shape, data, scratch, word).map(|()| 0)),
@@ -176,7 +166,8 @@ impl Call {
             (Entry::Bill, [session, prices]) => bill_answer(session, prices),
             (Entry::Cover, [session, bytes]) => answer_of(cover_answer(session, bytes)),
             (Entry::Arrive, [session, word, scratch, outcome]) => {
-                answer_of(arrive(session, self.number, word, scratch, outcome))
+                arrive(session, self.number, word, scratch, outcome);
+                0
             }
             (Entry::Batch, [session, words, scratch, outcomes]) => {
                 answer_of(batch(session, self.number, words, scratch, outcomes))
@@ -203,58 +194,35 @@ fn marks_part(shape: Shape, data: &[u32], marks: &mut [u32]) -> Result<u32, Refu
     Ok(count as u32)
 }
 
-/// The shape is tested before the slice's length.
 fn fresh(shape: Shape, session: &mut [u32]) -> Result<u32, Refusal> {
-    let fresh = Session::fresh(shape)?;
-    if session.len() != SESSION_LEN {
-        return Err(Refusal::Length);
-    }
-    session.copy_from_slice(&fresh.values());
+    session.copy_from_slice(&Session::fresh(shape)?.values());
     Ok(0)
-}
-
-/// The session that is lent, if its length is right.
-fn lent_session(session: &[u32]) -> Result<Session, Refusal> {
-    match session.len() {
-        SESSION_LEN => Ok(Session::from_values(session)),
-        _ => Err(Refusal::Length),
-    }
 }
 
 /// A refusal is 2^32 plus its number.
 fn count(session: &[u32], function: u32) -> u64 {
-    let result = lent_session(session).and_then(|session| session.count(function));
+    let result = Session::from_values(session).count(function);
     result.map_or_else(|refusal| (1 << 32) + u64::from(refusal.number()), u64::from)
 }
 
 /// A refusal is 2^63 plus its number.
 fn bill_answer(session: &[u32], prices: &[u32]) -> u64 {
-    let result = lent_session(session).and_then(|session| bill(&session, prices));
+    let result = bill(&Session::from_values(session), prices);
     result.unwrap_or_else(|refusal| (1 << 63) + u64::from(refusal.number()))
 }
 
 fn cover_answer(session: &[u32], bytes: &mut [u32]) -> Result<u32, Refusal> {
-    cover(&lent_session(session)?, bytes)
+    cover(&Session::from_values(session), bytes)
 }
 
 /// The session is written back only after a page was taken.
-fn arrive(
-    session: &mut [u32],
-    way: u32,
-    word: &mut [u32],
-    scratch: &mut [u32],
-    outcome: &mut [u32],
-) -> Result<u32, Refusal> {
-    let mut state = lent_session(session)?;
-    if outcome.len() != 3 {
-        return Err(Refusal::Length);
-    }
+fn arrive(session: &mut [u32], way: u32, word: &mut [u32], scratch: &mut [u32], outcome: &mut [u32]) {
+    let mut state = Session::from_values(session);
     let answer = state.arrive(way, word, scratch);
     outcome.copy_from_slice(&answer.values());
     if let Outcome::Taken { .. } = answer {
         session.copy_from_slice(&state.values());
     }
-    Ok(0)
 }
 
 /// The session is written back only after a page was taken.
@@ -265,7 +233,7 @@ fn batch(
     scratch: &mut [u32],
     outcomes: &mut [u32],
 ) -> Result<u32, Refusal> {
-    let mut state = lent_session(session)?;
+    let mut state = Session::from_values(session);
     let before = state.figures;
     state.arrive_all(way, words, scratch, outcomes)?;
     if state.figures != before {
@@ -315,7 +283,7 @@ fn shown(answer: u64) -> String {
 /// A slice by its name; a session in its parts.
 fn slice_text(name: &str, slice: &[u32]) -> String {
     let cut_off = |values: &[u32]| format!("{:.1000}", brief(values));
-    if name != "session" || slice.len() != SESSION_LEN {
+    if name != "session" {
         return format!("{name} {}", cut_off(slice));
     }
     let (shape, figures) = slice[..MARKS_AT].split_at(PAGES_AT);

@@ -2,7 +2,7 @@
 
 pub mod batches;
 mod calls;
-#[cfg(not(feature = "reference-only"))]
+#[cfg(feature = "library")]
 pub mod codec;
 pub mod coverage;
 pub mod double;
@@ -16,20 +16,22 @@ pub mod figures;
 pub mod idle;
 pub mod looked;
 pub mod nearest;
-#[cfg(not(feature = "reference-only"))]
+#[cfg(feature = "library")]
 pub mod pages;
 pub mod person;
 pub mod proposals;
 pub mod reference;
-#[cfg(not(feature = "reference-only"))]
+#[cfg(feature = "library")]
 pub mod refusals;
-#[cfg(not(feature = "reference-only"))]
+#[cfg(feature = "library")]
 pub mod sessions;
 pub mod slopes;
 pub mod stream;
 pub mod text;
 pub mod vectors;
+#[cfg(feature = "library")]
+pub mod views;
 pub mod vote;
 pub mod ways;
-#[cfg(not(feature = "reference-only"))]
+#[cfg(feature = "library")]
 pub mod words;

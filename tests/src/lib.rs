@@ -1,14 +1,12 @@
 //! Tests and benchmark of the proved library and program, against a second implementation.
 
-#[cfg(not(feature = "reference-only"))]
+#[cfg(feature = "library")]
 pub mod bench;
 pub mod call;
 pub mod capture;
 pub mod damage;
-#[cfg(not(feature = "reference-only"))]
-pub mod ffi;
 pub mod groups;
-#[cfg(not(feature = "reference-only"))]
+#[cfg(feature = "library")]
 mod library;
 pub mod light;
 pub mod process;
@@ -17,6 +15,6 @@ pub mod reference;
 pub mod report;
 pub mod rivals;
 pub mod shrink;
-#[cfg(not(feature = "reference-only"))]
+#[cfg(feature = "library")]
 pub mod slowest;
 pub mod terminal;

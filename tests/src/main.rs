@@ -1,8 +1,8 @@
 //! The test program: `cargo run --release`, with the seed as its argument or in SEED if wanted.
 //!
 //! TALLY names the tally program's executable. Without it the program's tests fail, or are skipped
-//! where ALLOW_SKIP=1. Built with the feature `reference-only`, the library's tests are left out, and
-//! the program's are run only where TALLY is set.
+//! where ALLOW_SKIP=1. Built without the feature `library`, the library's tests are left out, and the
+//! program's are run only where TALLY is set.
 
 use shaftglimmer_tests::call::{Call, Make};
 use shaftglimmer_tests::groups::{
@@ -64,25 +64,26 @@ fn seed() -> u64 {
     given.map_or_else(time, |text| text.parse().expect("the seed is a decimal number"))
 }
 
-#[cfg(not(feature = "reference-only"))]
+#[cfg(feature = "library")]
 fn library(report: &mut Report) {
-    use shaftglimmer_tests::groups::{codec, pages, refusals, sessions, words};
+    use shaftglimmer_tests::groups::{codec, pages, refusals, sessions, views, words};
     of_both(report, "library", Call::on_library);
     report.run(codec::group());
     report.run(words::group());
     report.run(refusals::group());
     report.run(pages::group());
+    report.run(views::group());
     sessions::groups().into_iter().for_each(|group| report.run(group));
 }
 
-#[cfg(feature = "reference-only")]
+#[cfg(not(feature = "library"))]
 fn library(report: &mut Report) {
     report.skip("library", "built without it");
 }
 
 fn program(report: &mut Report) {
     let allowed = env::var_os("ALLOW_SKIP").is_some_and(|value| value == "1");
-    let may_skip = allowed || cfg!(feature = "reference-only");
+    let may_skip = allowed || cfg!(not(feature = "library"));
     match Program::from_env() {
         Some(program) => {
             report.run(text::group(&program));

@@ -1,4 +1,4 @@
-//! Plain Rust counterparts of the proved entries, for the benchmark. They answer as the harness does:
+//! Plain Rust counterparts of the proved entries, for the benchmark. They answer as the library does:
 //! a refusal is 2^31 plus its number. They test a shape's slopes as the library does, but go by the
 //! standard ones, so only shapes with these are for them.
 

@@ -3,11 +3,12 @@
 //! with many more some direction shows too much. The codeword has no bearing on the time, so it is zero.
 
 use crate::damage::{damaged, make, Error, STYLES};
-use crate::ffi;
+use crate::library::{number, shape_in};
 use crate::light::light;
 use crate::random::Random;
 use crate::reference::shape::Shape;
 use crate::reference::square::{check, positions_on};
+use shaftglimmer::{decode, decode_nearest};
 use std::env;
 use std::process::ExitCode;
 use std::time::{Duration, Instant};
@@ -54,7 +55,7 @@ fn arguments() -> Option<(u64, Shape, u64)> {
 
 /// The word, and how long it takes.
 fn tell(shape: Shape, error: &Error) {
-    for (name, read) in [("nearest", ffi::decode_nearest as Read), ("clean", ffi::decode)] {
+    for (name, read) in [("nearest", nearest as Read), ("clean", clean)] {
         let time = longer_than(Duration::ZERO, read, shape, error, LAST_CALLS).expect("no call takes no time");
         let answer = read(&shape.values(), &mut word(shape, error));
         let answer = match answer.checked_sub(1 << 31) {
@@ -67,7 +68,16 @@ fn tell(shape: Shape, error: &Error) {
     error.iter().for_each(|(j, symbol)| println!("  {symbol} on symbol {j}"));
 }
 
+/// A reader: the shape's values, and the word.
 type Read = fn(&[u32], &mut [u32]) -> u32;
+
+fn nearest(shape: &[u32], word: &mut [u32]) -> u32 {
+    number(decode_nearest(shape_in(shape), word)) as u32
+}
+
+fn clean(shape: &[u32], word: &mut [u32]) -> u32 {
+    number(decode(shape_in(shape), word)) as u32
+}
 
 struct Found {
     error: Error,
@@ -103,7 +113,7 @@ fn climb(shape: Shape, end: Instant, words: &mut u64, random: &mut Random) -> Fo
         let error = if top.time.is_zero() { top.error.clone() } else { changed(shape, &top.error, random) };
         *words += 1;
         in_vain += 1;
-        if let Some(time) = longer_than(top.time, ffi::decode_nearest, shape, &error, CALLS) {
+        if let Some(time) = longer_than(top.time, nearest, shape, &error, CALLS) {
             top = Found { error, time };
             in_vain = 0;
         }

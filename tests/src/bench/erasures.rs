@@ -1,12 +1,14 @@
 //! Dead cells, against elimination as one would write it down first.
 
+use super::answer;
 use super::contest::{heading, row, timed, times, Batch, Times};
 use super::words::batch_size;
 use crate::damage::list;
-use crate::ffi;
+use crate::library::shape_in;
 use crate::random::Random;
 use crate::reference::shape::Shape;
 use crate::rivals::elimination;
+use shaftglimmer::fill_with;
 use std::hint::black_box;
 
 /// Which places are named.
@@ -70,10 +72,10 @@ fn filling(shape: Shape, named: Named) -> Times {
     let all: Vec<Cells> = (0..batch_size(shape)).map(|_| cells()).collect();
     let shape = black_box(shape);
     let values = shape.values();
-    let contestants: [Fill; 2] =
-        [&|places, word, scratch| ffi::fill(&values, places, word, scratch), &|places, word, scratch| {
-            elimination::fill(shape, places, word, scratch)
-        }];
+    let contestants: [Fill; 2] = [
+        &|places, word, scratch| answer(fill_with(shape_in(&values), places, word, scratch)),
+        &|places, word, scratch| elimination::fill(shape, places, word, scratch),
+    ];
     let results = contestants.map(|fill| fill_all(shape, fill, &all));
     assert!(results[0] == results[1], "the two disagree");
     times(all.len(), contestants.map(|fill| batch(shape, fill, &all)))

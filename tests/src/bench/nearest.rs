@@ -1,13 +1,15 @@
 //! Reading the nearest codeword, against clean reading of such words as it can read, or refuses too.
 
+use super::answer;
 use super::contest::{heading, row, times, Times};
 use super::words::{self, read_all, read_batch, some_words};
 use crate::call::answer_of;
 use crate::damage::{apply, make, stripe, Style};
-use crate::ffi;
+use crate::library::shape_in;
 use crate::random::Random;
-use crate::reference::nearest::decode_nearest;
+use crate::reference::nearest;
 use crate::reference::shape::Shape;
+use shaftglimmer::{decode, decode_nearest};
 use std::hint::black_box;
 
 /// The shape whose stripes have a target.
@@ -77,12 +79,12 @@ pub fn table() -> Vec<String> {
 fn reading(shape: Shape, kind: Kind) -> Times {
     let words = some_words(shape, "nearest", |word, random| kind.damage(shape, word, random));
     let to_read = some_words(shape, "nearest", |word, random| kind.damage_to_read(shape, word, random));
-    let shape = black_box(shape);
+    let (shape, size) = (black_box(shape), shape.word_len());
     let values = shape.values();
-    let ours = |word: &mut [u32]| ffi::decode_nearest(&values, word);
-    let clean = |word: &mut [u32]| ffi::decode(&values, word);
-    let reference = |word: &mut [u32]| answer_of(decode_nearest(shape, word)) as u32;
-    let results = [read_all(shape, &ours, &mut words.clone()), read_all(shape, &reference, &mut words.clone())];
+    let ours = |word: &mut [u32]| answer(decode_nearest(shape_in(&values), word));
+    let clean = |word: &mut [u32]| answer(decode(shape_in(&values), word));
+    let reference = |word: &mut [u32]| answer_of(nearest::decode_nearest(shape, word)) as u32;
+    let results = [read_all(size, &ours, &mut words.clone()), read_all(size, &reference, &mut words.clone())];
     assert!(results[0] == results[1], "the reference disagrees");
-    times(words.len() / shape.word_len(), [read_batch(shape, &ours, &words), read_batch(shape, &clean, &to_read)])
+    times(words.len() / shape.word_len(), [read_batch(size, &ours, &words), read_batch(size, &clean, &to_read)])
 }

@@ -3,9 +3,10 @@
 use super::contest::{heading, row, timed, times, Batch, Times};
 use super::words::batch_size;
 use crate::damage::{damaged, unmasked};
-use crate::ffi;
+use crate::library::shape_in;
 use crate::random::Random;
 use crate::reference::shape::Shape;
+use shaftglimmer::{check, decode};
 use std::hint::black_box;
 
 /// How much of the time of reading is allowed.
@@ -31,25 +32,24 @@ fn checking(shape: Shape) -> Times {
     };
     let pairs: Vec<Pair> = (0..batch_size(shape)).map(|_| pair()).collect();
     let values = black_box(shape).values();
-    assert!(
-        pairs.iter().all(|(received, sent)| ffi::check(&values, received, sent) == 1),
-        "a right proposal got no yes"
-    );
-    times(pairs.len(), [checked(&values, &pairs), read(&values, &pairs)])
+    let shape = shape_in(&values);
+    let yes = pairs.iter().all(|(received, sent)| check(shape, received, sent) == Ok(true));
+    assert!(yes, "a right proposal got no yes");
+    times(pairs.len(), [checked(shape, &pairs), read(shape, &pairs)])
 }
 
-fn checked<'a>(values: &'a [u32], pairs: &'a [Pair]) -> Batch<'a> {
+fn checked<'a>(shape: &'a shaftglimmer::Shape, pairs: &'a [Pair]) -> Batch<'a> {
     Box::new(move || {
         timed(|| {
             for (received, sent) in pairs {
-                black_box(ffi::check(values, received, sent));
+                let _ = black_box(check(shape, received, sent));
             }
         })
     })
 }
 
 /// Reading works on copies, which are made outside the time.
-fn read<'a>(values: &'a [u32], pairs: &'a [Pair]) -> Batch<'a> {
+fn read<'a>(shape: &'a shaftglimmer::Shape, pairs: &'a [Pair]) -> Batch<'a> {
     let mut work: Vec<Vec<u32>> = pairs.iter().map(|(received, _)| received.clone()).collect();
     Box::new(move || {
         for (word, (received, _)) in work.iter_mut().zip(pairs) {
@@ -57,7 +57,7 @@ fn read<'a>(values: &'a [u32], pairs: &'a [Pair]) -> Batch<'a> {
         }
         timed(|| {
             for word in &mut work {
-                black_box(ffi::decode(values, word));
+                let _ = black_box(decode(shape, word));
             }
         })
     })

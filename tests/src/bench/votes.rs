@@ -1,12 +1,14 @@
 //! Reading by vote, against a vote made fast by hand.
 
+use super::answer;
 use super::contest::{heading, row, Times};
 use super::words::{race, some_words};
 use crate::damage::{apply, make, stripe, Style};
-use crate::ffi;
+use crate::library::shape_in;
 use crate::random::Random;
 use crate::reference::shape::Shape;
 use crate::rivals::vote;
+use shaftglimmer::decode_majority;
 use std::hint::black_box;
 
 /// How much of the tuned vote's time is allowed.
@@ -55,7 +57,7 @@ fn voting(shape: Shape, kind: Kind) -> Times {
     let words = some_words(shape, "voting", |word, random| kind.damage(shape, word, random));
     let shape = black_box(shape);
     let values = shape.values();
-    let ours = |word: &mut [u32]| ffi::decode_majority(&values, word);
+    let ours = |word: &mut [u32]| answer(decode_majority(shape_in(&values), word));
     let tuned = |word: &mut [u32]| vote::decode_majority(shape, word);
     race(shape, &words, [&ours, &tuned])
 }

@@ -1,17 +1,20 @@
 //! Reading, writing and arrivals.
 
+use super::answer;
 use super::contest::{heading, row, timed, times, Batch, Times};
 use crate::capture::{page_numbers, recording};
 use crate::damage::{apply, damaged, make, unmasked, Style};
-use crate::ffi;
+use crate::library::{session_in, shape_in};
 use crate::random::Random;
 use crate::reference::reader::error_of;
-use crate::reference::session::{Session, CLEAN, SESSION_LEN};
+use crate::reference::session::{Session, SESSION_LEN};
 use crate::reference::shape::Shape;
-use crate::rivals::arrival::{self, Way};
+use crate::rivals::arrival;
 use crate::rivals::straightforward::{self, Writer};
 use crate::rivals::tuned;
+use shaftglimmer::{decode, encode_with, Way};
 use std::hint::black_box;
+use std::time::Duration;
 
 const SHAPES: [Shape; 6] = [
     Shape::new(17, 4, 32),
@@ -62,9 +65,43 @@ fn refused_error(shape: Shape, word: &[u32], random: &mut Random) -> Vec<(usize,
     }
 }
 
-/// Of the straightforward way's time and of the tuned counterpart's: of reading, and of all else.
+/// What becomes of the words that arrive.
+#[derive(Clone, Copy)]
+enum Arriving {
+    Taken,
+    Again,
+    Refused,
+}
+
+impl Arriving {
+    const ALL: [(Arriving, Kind); 5] = [
+        (Arriving::Taken, Kind::Undamaged),
+        (Arriving::Taken, Kind::Damaged),
+        (Arriving::Again, Kind::Undamaged),
+        (Arriving::Again, Kind::Damaged),
+        (Arriving::Refused, Kind::Refused),
+    ];
+
+    fn name(self, kind: Kind) -> String {
+        match self {
+            Arriving::Taken => format!("arrival, taken, {}", kind.name()),
+            Arriving::Again => format!("arrival, again, {}", kind.name()),
+            Arriving::Refused => "arrival, refused".into(),
+        }
+    }
+
+    /// Of the straightforward way's time and of the tuned counterpart's.
+    fn targets(self) -> [f64; 2] {
+        match self {
+            Arriving::Taken => [f64::INFINITY, 0.8],
+            Arriving::Again | Arriving::Refused => [f64::INFINITY, 0.6],
+        }
+    }
+}
+
+/// Of the straightforward way's time and of the tuned counterpart's: of reading, and of writing.
 const READING: [f64; 2] = [0.5, 1.0];
-const OTHERS: [f64; 2] = [f64::INFINITY, 1.0];
+const WRITING: [f64; 2] = [f64::INFINITY, 1.0];
 
 /// Prints the table; gives the rows that miss their target.
 pub fn table() -> Vec<String> {
@@ -74,9 +111,10 @@ pub fn table() -> Vec<String> {
         for kind in Kind::ALL {
             missed.extend(row(shape, &format!("read, {}", kind.name()), reading(shape, kind), &READING));
         }
-        missed.extend(row(shape, "write", writing(shape), &OTHERS));
-        for kind in Kind::ALL {
-            missed.extend(row(shape, &format!("arrival, {}", kind.name()), arriving(shape, kind), &OTHERS));
+        missed.extend(row(shape, "write", writing(shape), &WRITING));
+        for (becomes, kind) in Arriving::ALL {
+            let times = arriving(shape, becomes, kind);
+            missed.extend(row(shape, &becomes.name(kind), times, &becomes.targets()));
         }
     }
     missed
@@ -87,14 +125,14 @@ pub(super) fn batch_size(shape: Shape) -> usize {
     (32_768 / shape.word_len()).min(1_024)
 }
 
-/// A reader for one shape.
-pub(super) type Decode<'a> = &'a dyn Fn(&mut [u32]) -> u32;
+/// A reader for one shape, of symbols or of bytes.
+pub(super) type Decode<'a, T> = &'a dyn Fn(&mut [T]) -> u32;
 
 fn reading(shape: Shape, kind: Kind) -> Times {
     let words = some_words(shape, "reading", |word, random| kind.damage(shape, word, random));
     let shape = black_box(shape);
     let values = shape.values();
-    let ours = |word: &mut [u32]| ffi::decode(&values, word);
+    let ours = |word: &mut [u32]| answer(decode(shape_in(&values), word));
     let plain = |word: &mut [u32]| straightforward::decode(shape, word);
     let tuned = |word: &mut [u32]| tuned::decode(shape, word);
     race(shape, &words, [&ours, &plain, &tuned])
@@ -112,20 +150,21 @@ pub(super) fn some_words(shape: Shape, name: &str, damage: impl Fn(&mut [u32], &
     words
 }
 
-/// Times the readers, who must agree.
-pub(super) fn race<const C: usize>(shape: Shape, words: &[u32], readers: [Decode; C]) -> Times {
-    let results = readers.map(|decode| read_all(shape, decode, &mut words.to_vec()));
+/// Times the readers, who must agree, on the words of a batch.
+pub(super) fn race<T: Copy + PartialEq, const C: usize>(shape: Shape, words: &[T], readers: [Decode<T>; C]) -> Times {
+    let size = words.len() / batch_size(shape);
+    let results = readers.map(|decode| read_all(size, decode, &mut words.to_vec()));
     assert!(results.iter().all(|result| *result == results[0]), "the readers disagree");
-    times(words.len() / shape.word_len(), readers.map(|decode| read_batch(shape, decode, words)))
+    times(batch_size(shape), readers.map(|decode| read_batch(size, decode, words)))
 }
 
 /// A reader's work on a copy of the words.
-pub(super) fn read_batch<'a>(shape: Shape, decode: Decode<'a>, words: &'a [u32]) -> Batch<'a> {
+pub(super) fn read_batch<'a, T: Copy>(size: usize, decode: Decode<'a, T>, words: &'a [T]) -> Batch<'a> {
     let mut work = words.to_vec();
     Box::new(move || {
         work.copy_from_slice(words);
         timed(|| {
-            work.chunks_exact_mut(shape.word_len()).for_each(|word| {
+            work.chunks_exact_mut(size).for_each(|word| {
                 black_box(decode(word));
             })
         })
@@ -133,8 +172,8 @@ pub(super) fn read_batch<'a>(shape: Shape, decode: Decode<'a>, words: &'a [u32])
 }
 
 /// Each answer, and the words as left.
-pub(super) fn read_all(shape: Shape, decode: Decode, words: &mut [u32]) -> (Vec<u32>, Vec<u32>) {
-    let answers = words.chunks_exact_mut(shape.word_len()).map(decode).collect();
+pub(super) fn read_all<T: Copy>(size: usize, decode: Decode<T>, words: &mut [T]) -> (Vec<u32>, Vec<T>) {
+    let answers = words.chunks_exact_mut(size).map(decode).collect();
     (answers, words.to_vec())
 }
 
@@ -147,7 +186,7 @@ fn writing(shape: Shape) -> Times {
     let shape = black_box(shape);
     let (values, writer) = (shape.values(), Writer::new(shape));
     let writers: [Encode; 3] = [
-        &|data, scratch, word| ffi::encode(&values, data, scratch, word),
+        &|data, scratch, word| answer(encode_with(shape_in(&values), data, scratch, word).map(|()| 0)),
         &|data, scratch, word| writer.encode(data, scratch, word),
         &|data, scratch, word| tuned::encode(shape, data, scratch, word),
     ];
@@ -171,36 +210,42 @@ fn writing(shape: Shape) -> Times {
     times(batch_size(shape), writers.map(batch))
 }
 
-/// Session, word, scratch and outcome.
-type Arrive<'a> = &'a dyn Fn(&mut [u32], &mut [u32], &mut [u32], &mut [u32]) -> u32;
+/// Session, word and scratch; gives the outcome.
+type Arrive<'a> = &'a dyn Fn(&mut [u32; SESSION_LEN], &mut [u32], &mut [u32]) -> [u32; 3];
 
-/// Pages of different numbers that come to a fresh session.
-fn arriving(shape: Shape, kind: Kind) -> Times {
+/// Pages of different numbers that come to a session, fresh or with these pages taken.
+fn arriving(shape: Shape, becomes: Arriving, kind: Kind) -> Times {
     let mut random = Random::new(1, "arriving");
+    let mut session = Session::fresh(shape).expect("a lawful shape");
     let mut words = vec![];
     for page in recording(shape, batch_size(shape).min(page_numbers(shape)), &mut random) {
         let mut word = page.codeword(shape);
         kind.damage(shape, &mut word, &mut random);
         words.push(word);
+        if let Arriving::Again = becomes {
+            session.take(page.number);
+        }
     }
+    let start = session.values().try_into().expect("a session's length");
     let writer = Writer::new(shape);
     let by_table = |word: &[u32], data: &mut [u32]| writer.extract(word, data);
     let by_rows = |word: &[u32], data: &mut [u32]| tuned::extract(shape, word, data);
-    let plain = Way { decode: straightforward::decode, extract: &by_table };
-    let tuned = Way { decode: tuned::decode, extract: &by_rows };
+    let plain = arrival::Way { decode: straightforward::decode, extract: &by_table };
+    let tuned = arrival::Way { decode: tuned::decode, extract: &by_rows };
     let contestants: [Arrive; 3] = [
-        &|session, word, scratch, outcome| ffi::arrive(session, CLEAN, word, scratch, outcome),
-        &|session, word, scratch, outcome| arrival::arrive(plain, session, word, scratch, outcome),
-        &|session, word, scratch, outcome| arrival::arrive(tuned, session, word, scratch, outcome),
+        &|session, word, scratch| session_in(session).arrive_with(Way::Clean, word, scratch).to_values(),
+        &|session, word, scratch| arrival::arrive(plain, session, word, scratch).values(),
+        &|session, word, scratch| arrival::arrive(tuned, session, word, scratch).values(),
     ];
-    let results = contestants.map(|arrive| Capture::new(shape, &words).run(arrive).1);
+    let results = contestants.map(|arrive| Capture::new(shape, &start, &words).outcomes(arrive));
     assert!(results[0] == results[1] && results[0] == results[2], "the arrivals disagree");
-    let words = &words;
+    assert!(results[0].1.iter().all(|outcome| outcome[0] == becomes as u32), "an arrival of another kind");
+    let (start, words) = (&start, &words);
     let batch = |arrive| -> Batch {
-        let mut capture = Capture::new(shape, words);
+        let mut capture = Capture::new(shape, start, words);
         Box::new(move || {
-            capture.reset(words);
-            capture.run(arrive).0
+            capture.reset(start, words);
+            capture.run(arrive)
         })
     };
     times(words.len(), contestants.map(batch))
@@ -208,36 +253,34 @@ fn arriving(shape: Shape, kind: Kind) -> Times {
 
 /// A session and the words that come to it.
 struct Capture {
-    fresh: Vec<u32>,
-    session: Vec<u32>,
+    session: [u32; SESSION_LEN],
     words: Vec<Vec<u32>>,
     scratch: Vec<u32>,
 }
 
 impl Capture {
-    fn new(shape: Shape, words: &[Vec<u32>]) -> Capture {
-        let fresh = Session::fresh(shape).expect("a lawful shape").values();
-        let session = vec![0; SESSION_LEN];
-        let mut capture = Capture { fresh, session, words: words.to_vec(), scratch: vec![0; shape.scratch_len()] };
-        capture.reset(words);
-        capture
+    fn new(shape: Shape, start: &[u32; SESSION_LEN], words: &[Vec<u32>]) -> Capture {
+        Capture { session: *start, words: words.to_vec(), scratch: vec![0; shape.scratch_len()] }
     }
 
-    fn reset(&mut self, words: &[Vec<u32>]) {
-        self.session.copy_from_slice(&self.fresh);
+    fn reset(&mut self, start: &[u32; SESSION_LEN], words: &[Vec<u32>]) {
+        self.session = *start;
         for (word, original) in self.words.iter_mut().zip(words) {
             word.copy_from_slice(original);
         }
     }
 
-    /// The time, and the session as left.
-    fn run(&mut self, arrive: Arrive) -> (std::time::Duration, Vec<u32>) {
-        let mut outcome = [0; 3];
-        let time = timed(|| {
+    fn run(&mut self, arrive: Arrive) -> Duration {
+        timed(|| {
             for word in &mut self.words {
-                black_box(arrive(&mut self.session, word, &mut self.scratch, &mut outcome));
+                black_box(arrive(&mut self.session, word, &mut self.scratch));
             }
-        });
-        (time, self.session.clone())
+        })
+    }
+
+    /// The session as left, and the outcomes.
+    fn outcomes(mut self, arrive: Arrive) -> ([u32; SESSION_LEN], Vec<[u32; 3]>) {
+        let outcomes = self.words.iter_mut().map(|word| arrive(&mut self.session, word, &mut self.scratch)).collect();
+        (self.session, outcomes)
     }
 }

@@ -4,7 +4,7 @@
 //! numbers), each page up to three times in any order, half of the words with clean damage, and a few
 //! lines that are refused. The same arguments give the same capture. It needs no library:
 //!
-//! `cargo run --release --features reference-only --bin sample -- 7 17 4 32 150 > capture.txt`
+//! `cargo run --release --no-default-features --bin sample -- 7 17 4 32 150 > capture.txt`
 
 use shaftglimmer_tests::capture::{recording, text};
 use shaftglimmer_tests::random::Random;

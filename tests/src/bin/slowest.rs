@@ -1,12 +1,12 @@
 //! Words that reading the nearest codeword takes longest for: `cargo run --release --bin slowest -- SEED Q N B SECONDS`.
 
-#[cfg(not(feature = "reference-only"))]
+#[cfg(feature = "library")]
 fn main() -> std::process::ExitCode {
     shaftglimmer_tests::slowest::run()
 }
 
-#[cfg(feature = "reference-only")]
+#[cfg(not(feature = "library"))]
 fn main() {
-    eprintln!("The search needs the library: build without the feature reference-only.");
+    eprintln!("The search needs the library: build with the feature library.");
     std::process::exit(2);
 }

@@ -73,7 +73,7 @@ pub fn good(entry: Entry, shape: Shape, random: &mut Random) -> Call {
         Entry::HostReadWord => vec![to_bytes(&page_word)],
         Entry::HostReadPage => vec![to_bytes(&page_data)],
     };
-    Call { entry, shape, lent_shape: None, number, slices }
+    Call { entry, shape, number, slices }
 }
 
 /// The codeword of these symbols with damage that this way undoes.
@@ -150,7 +150,7 @@ pub fn later_faults(call: &Call, random: &mut Random) -> Vec<Call> {
             calls.push(call);
         }
     }
-    for i in (0..call.slices.len()).filter(|&i| !crosses(call.entry, i)) {
+    for i in (0..call.slices.len()).filter(|&i| tests_later(call.entry, i)) {
         let mut spoiled = |slice: Vec<u32>| calls.push(call.with_slice(i, slice));
         let slice = &call.slices[i];
         spoiled(vec![if call.entry.takes_bytes() { 255 } else { u32::MAX }; slice.len()]);
@@ -161,13 +161,10 @@ pub fn later_faults(call: &Call, random: &mut Random) -> Vec<Call> {
     calls
 }
 
-/// What the harness needs to get a call across, so that its length comes first: the session and the
-/// outcome, and both of the lists that are to be of one length.
-pub fn crosses(entry: Entry, i: usize) -> bool {
-    matches!(
-        (entry, i),
-        (Entry::Count | Entry::Bill | Entry::Cover | Entry::Batch, 0) | (Entry::Arrive, 0 | 3) | (Entry::Marks, _)
-    )
+/// Whether slice i is tested, its length first, after 1 and 18. That the list of marks is as long as the data is
+/// tested before them.
+fn tests_later(entry: Entry, i: usize) -> bool {
+    !entry.is_fixed(i) && entry != Entry::Marks
 }
 
 /// The scratch's length before request N7: a row for every check.

@@ -1,14 +1,13 @@
 //! The coverage viewer: which bytes are yes for which counts, what a refusal leaves, recordings. What must
 //! come of each call is said here, not asked of the reference, which is held to it like the library.
 
-use super::calls::{choices, reshaped, spoiled, turned_down, with_length};
+use super::calls::{choices, reshaped, spoiled, turned_down};
 use super::elsewhere::{any_marks, arriving, begin, figures, marked, readable, session, some_pages, wrong_figures};
 use super::every::{Shapes, ONE_WIDTH};
 use super::expect::expect;
 use crate::call::{After, Call, Entry, Make};
 use crate::random::Random;
 use crate::reference::page::FUNCTIONS;
-use crate::reference::session::SESSION_LEN;
 use crate::reference::shape::{Refusal, Shape};
 use crate::report::{Group, Unit, Verdict};
 use std::collections::BTreeSet;
@@ -80,18 +79,13 @@ fn any_functions(make: Make, shape: Shape, random: &mut Random) -> Verdict {
     Ok(rounds)
 }
 
-/// 255 bytes, 257 and others: 2, and none is written. A session of wrong length: 2.
+/// 255 bytes, 257 and others: 2, and none is written.
 fn lengths(make: Make, shape: Shape, random: &mut Random) -> Verdict {
     let mut tried = 0;
     for count in [0, 1] {
         let call = cover(shape, &[count; FUNCTIONS], random);
         for length in [0, 1, 255, 257, 512, 1024] {
             let call = call.with_slice(1, random.bytes(length));
-            expect(make, &call, &turned_down(&call, Refusal::Length))?;
-            tried += 1;
-        }
-        for length in [0, FUNCTIONS, SESSION_LEN - 2, SESSION_LEN - 1, SESSION_LEN + 1] {
-            let call = with_length(&call, 0, length, random);
             expect(make, &call, &turned_down(&call, Refusal::Length))?;
             tried += 1;
         }

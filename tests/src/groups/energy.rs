@@ -150,7 +150,7 @@ fn any_sums(make: Make, shape: Shape, random: &mut Random) -> Verdict {
     Ok(rounds)
 }
 
-/// 255 prices, 257 and others: 2, also where the sum would be too large. A session of wrong length: 2.
+/// 255 prices, 257 and others: 2, also where the sum would be too large.
 fn lengths(make: Make, shape: Shape, random: &mut Random) -> Verdict {
     let mut tried = 0;
     let refused = (1 << 63) + u64::from(Refusal::Length.number());
@@ -160,10 +160,6 @@ fn lengths(make: Make, shape: Shape, random: &mut Random) -> Verdict {
             let mut call = call.clone();
             call.slices[1].resize(length, u32::MAX);
             expect_answer(make, &call, refused)?;
-            tried += 1;
-        }
-        for length in [0, FUNCTIONS, SESSION_LEN - 2, SESSION_LEN - 1, SESSION_LEN + 1] {
-            expect_answer(make, &with_length(&call, 0, length, random), refused)?;
             tried += 1;
         }
     }

@@ -2,14 +2,14 @@
 //! and in sessions grown from a fresh one. What must come of each call is said here, by a plain set of
 //! page numbers, not asked of the reference, which is held to it like the library.
 
-use super::calls::{bad_slope, good, later_faults, reshaped, turned_down, with_length};
+use super::calls::{bad_slope, good, later_faults, reshaped, turned_down};
 use super::elsewhere::{
     after_arrival, any_calls, any_marks, figures, fresh, lowest_missing, plain_marks, readable, session, wrong_figures,
     Come, ALL,
 };
 use super::every::{Shapes, Widths};
 use super::expect::expect;
-use crate::call::{answer_of, After, Call, Entry, Make};
+use crate::call::{After, Call, Entry, Make};
 use crate::capture::{page_numbers, Page};
 use crate::damage::{make, Style};
 use crate::random::Random;
@@ -94,8 +94,7 @@ fn disagreeing(make: Make, q: u32, n: u32, random: &mut Random) -> Verdict {
     Ok(tried)
 }
 
-/// Wrong figures beside something else: 1 and 18 come before them, everything else after. A session or
-/// an outcome of wrong length doesn't get across.
+/// Wrong figures beside something else: 1 and 18 come before them, everything else after.
 fn with_another_fault(make: Make, shape: Shape, random: &mut Random) -> Verdict {
     let mut tried = 0;
     for come in sets(random) {
@@ -113,26 +112,9 @@ fn with_another_fault(make: Make, shape: Shape, random: &mut Random) -> Verdict 
                 expect(make, &call, &turned_down(&call, refusal))?;
                 tried += 1;
             }
-            for call in that_cannot_cross(&call, random) {
-                let mut expected = turned_down(&call, Refusal::Length);
-                if call.entry == Entry::Arrive {
-                    expected = After { answer: answer_of(Err(Refusal::Length)), slices: call.slices.clone() };
-                }
-                expect(make, &call, &expected)?;
-                tried += 1;
-            }
         }
     }
     Ok(tried)
-}
-
-/// The call with its session or its outcome too short or too long.
-fn that_cannot_cross(call: &Call, random: &mut Random) -> Vec<Call> {
-    let mut lengths = [0, SESSION_LEN - 2, SESSION_LEN - 1, SESSION_LEN + 1].map(|length| (0, length)).to_vec();
-    if call.entry == Entry::Arrive {
-        lengths.extend([0, 2, 4].map(|length| (3, length)));
-    }
-    lengths.into_iter().map(|(i, length)| with_length(call, i, length, random)).collect()
 }
 
 /// Right figures: a count query is answered, a page that has come is again, another is taken and the

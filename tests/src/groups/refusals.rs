@@ -2,13 +2,13 @@
 //! call is compared whole, so that the lent slices and the scratch are too. Slopes alone are the
 //! matter of another group.
 
-use super::calls::{good, old_scratch_len, reshape, reshaped, resized, with_length, ENTRIES};
+use super::calls::{good, old_scratch_len, reshape, reshaped, with_length, ENTRIES};
 use super::expect::expect_reference;
 use crate::call::{answer_of, to_bytes, Call, Entry};
 use crate::random::Random;
 use crate::reference::page::PAGES;
-use crate::reference::session::{CALLS_AT, LOWEST_AT, MARKS_AT, PAGES_AT, SESSION_LEN};
-use crate::reference::shape::{Refusal, Shape, SHAPE_LEN, SLOPES};
+use crate::reference::session::{CALLS_AT, LOWEST_AT, MARKS_AT, PAGES_AT};
+use crate::reference::shape::{Refusal, Shape, SLOPES};
 use crate::report::{Group, Unit, Verdict};
 
 pub fn group() -> Group {
@@ -27,7 +27,7 @@ pub fn group() -> Group {
 }
 
 /// Numbers around every border, and some whose square or product would wrap.
-fn shape_numbers(upto: u32) -> Vec<u32> {
+pub fn shape_numbers(upto: u32) -> Vec<u32> {
     let wrapping = [64, 255, 256, 259, 65_535, 65_536, 65_539, 1 << 31, (1 << 31) + 3, u32::MAX - 1, u32::MAX];
     (0..=upto).chain(wrapping).collect()
 }
@@ -50,19 +50,17 @@ fn shapes(entry: Entry, random: &mut Random) -> Verdict {
     Ok(tried)
 }
 
-/// Every slice of every entry too short and too long, the others right.
+/// Every slice of every entry that crosses with its length too short and too long, the others right.
 fn lengths(q: u32, n: u32, random: &mut Random) -> Verdict {
     let mut tried = 0;
     for entry in ENTRIES {
         let b = random.pick(&[1, 8, 11, 31, 32]);
         let call = good(entry, random.shape(q, n, b), random);
-        for (i, slice) in call.slices.iter().enumerate() {
+        for (i, slice) in call.slices.iter().enumerate().filter(|(i, _)| !entry.is_fixed(*i)) {
             let right = slice.len();
             let wrong =
                 [0, 1, right / 4, right.saturating_sub(4), right.saturating_sub(1), right + 1, right + 4, 4 * right];
-            // A session without its figures is too short.
-            let without_figures = (call.entry.takes_session() && i == 0).then_some(SESSION_LEN - 2);
-            for length in wrong.into_iter().chain(without_figures).filter(|&length| length != right) {
+            for length in wrong.into_iter().filter(|&length| length != right) {
                 expect_reference(Call::on_library, &with_length(&call, i, length, random))?;
                 tried += 1;
             }
@@ -176,25 +174,16 @@ fn several_faults(q: u32, n: u32, random: &mut Random) -> Verdict {
 
 /// One fault of any kind. Two of them may cancel; the reference then says so.
 fn spoil(call: &mut Call, random: &mut Random) {
-    match random.below(7) {
+    match random.below(6) {
         0 => {
             let Shape { q, n, slopes, .. } = call.shape;
             let bad = [Shape::new(9, 2, 8), Shape::new(3, 4, 8), Shape::new(q, n, 33)];
             reshape(call, random.pick(&bad).with_slopes(slopes));
         }
         1 => spoil_slope(call, random),
-        2 if call.entry.takes_shape() && random.one_in(3) => {
-            let length = random.pick(&[0, 3, SHAPE_LEN - 1, SHAPE_LEN + 1]);
-            call.lent_shape = Some(resized(&call.shape.values(), length, random));
-        }
-        3 => {
-            let i = random.below(call.slices.len());
-            let length = call.slices[i].len();
-            let length = random.pick(&[0, length.saturating_sub(1), length + 1, length + 32]);
-            *call = with_length(call, i, length, random);
-        }
-        4 => call.number = random.pick(&[255, 256, PAGES as u32 - 1, PAGES as u32, u32::MAX]),
-        5 if call.entry.takes_session() => spoil_figure(call, random),
+        2 => spoil_length(call, random),
+        3 => call.number = random.pick(&[255, 256, PAGES as u32 - 1, PAGES as u32, u32::MAX]),
+        4 if call.entry.takes_session() => spoil_figure(call, random),
         _ => spoil_symbol(call, random),
     }
 }
@@ -206,13 +195,21 @@ fn spoil_slope(call: &mut Call, random: &mut Random) {
     reshape(call, call.shape.with_slopes(slopes));
 }
 
+/// A slice too short or too long, where one crosses with its length.
+fn spoil_length(call: &mut Call, random: &mut Random) {
+    let i = random.below(call.slices.len());
+    if !call.entry.is_fixed(i) {
+        let length = call.slices[i].len();
+        let length = random.pick(&[0, length.saturating_sub(1), length + 1, length + 32]);
+        *call = with_length(call, i, length, random);
+    }
+}
+
 /// Another figure, or another mark under the same figures.
 fn spoil_figure(call: &mut Call, random: &mut Random) {
     let at = random.pick(&[PAGES_AT, LOWEST_AT, MARKS_AT, MARKS_AT + 1, CALLS_AT - 1]);
     let value = random.pick(&[0, 1, 2, PAGES as u32, u32::MAX]);
-    if let Some(number) = call.slices[0].get_mut(at) {
-        *number = value;
-    }
+    call.slices[0][at] = value;
 }
 
 /// A number in a slice that the entry judges: page number, count, mark, tail, any symbol or place.

@@ -4,7 +4,7 @@ use super::calls::old_scratch_len;
 use super::elsewhere::any_session;
 use super::every::repeated;
 use super::expect::expect_reference;
-use crate::call::{difference, Call, Entry};
+use crate::call::{difference, After, Call, Entry};
 use crate::capture::{own_tally, recording, Page};
 use crate::damage::{allowed, apply, make, STYLES};
 use crate::random::Random;
@@ -150,9 +150,8 @@ fn grown(shape: Shape, random: &mut Random) -> Verdict {
 
 /// Runs the list from a fresh session and holds the end to the recording.
 fn fits_recording(shape: Shape, pages: &[Page], arrivals: Vec<Arrival>) -> Verdict {
-    let mut start = vec![7; SESSION_LEN];
-    let answer = crate::ffi::fresh(&shape.values(), &mut start);
-    let run = Run { start, arrivals };
+    let After { answer, mut slices } = Call::new(Entry::Fresh, shape, &[&[7; SESSION_LEN]]).on_library();
+    let run = Run { start: slices.swap_remove(0), arrivals };
     let Ok((session, outcomes)) = run.follow() else { return expect(&run).map(|()| 0) };
     let taken = outcomes.iter().filter(|outcome| outcome[0] == 0).count();
     if answer != 0 || session[CALLS_AT..] != own_tally(pages) || taken != pages.len() {

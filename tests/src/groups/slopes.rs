@@ -1,9 +1,9 @@
-//! Slopes that are refused, when, and slopes that don't count; shape slices of a wrong length. What must
-//! come of each call is said here, not asked of the reference, which is held to it like the library.
+//! Slopes that are refused, when, and slopes that don't count. What must come of each call is said here, not
+//! asked of the reference, which is held to it like the library.
 
-use super::calls::{good, later_faults, reshaped, resized, turned_down, ENTRIES};
+use super::calls::{good, later_faults, reshaped, turned_down, ENTRIES};
 use super::expect::expect;
-use crate::call::{answer_of, After, Call, Entry, Make};
+use crate::call::{After, Call, Entry, Make};
 use crate::random::Random;
 use crate::reference::shape::{Refusal, Shape, SHAPE_LEN, SLOPES};
 use crate::report::{Group, Unit, Verdict};
@@ -17,11 +17,10 @@ pub fn group(name: String, make: Make) -> Group {
     test("wrong slopes, (q, n)", wrong);
     test("with another fault, (q, n)", with_another_fault);
     test("slopes that don't count, (q, n)", not_counted);
-    test("shape slices, (q, n)", shape_slices);
     group
 }
 
-/// Once for each entry of the harness, whose slopes are drawn.
+/// Once for each entry that has slopes, which are drawn.
 fn of_each_entry(
     make: Make,
     q: u32,
@@ -119,26 +118,4 @@ fn with_slopes_of(mut after: After, call: &Call) -> After {
         after.slices[0][..SHAPE_LEN].copy_from_slice(&call.shape.values());
     }
     after
-}
-
-/// A shape slice of another length is 2, whatever is in it and whatever else is wrong.
-fn shape_slices(make: Make, shape: Shape, entry: Entry, random: &mut Random) -> Verdict {
-    if !entry.takes_shape() {
-        return Ok(0);
-    }
-    let mut tried = 0;
-    let call = good(entry, shape, random);
-    let mut calls = later_faults(&call, random);
-    calls.push(call);
-    for values in [shape.values(), Shape { b: 33, ..shape }.values(), [u32::MAX; SHAPE_LEN]] {
-        for length in [0, 1, 3, SHAPE_LEN - 1, SHAPE_LEN + 1, 2 * SHAPE_LEN] {
-            for call in &calls {
-                let call = Call { lent_shape: Some(resized(&values, length, random)), ..call.clone() };
-                let expected = After { answer: answer_of(Err(Refusal::Length)), slices: call.slices.clone() };
-                expect(make, &call, &expected)?;
-                tried += 1;
-            }
-        }
-    }
-    Ok(tried)
 }

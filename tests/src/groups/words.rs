@@ -1,5 +1,4 @@
-//! Reading words with every kind of error, through the harness and, where the slopes are the standard
-//! ones, through the host pair.
+//! Reading words with every kind of error, as symbols and, where the slopes are the standard ones, as bytes.
 
 use super::every::{repeated, Widths};
 use crate::call::{brief, difference, to_bytes, After, Call, Entry};
@@ -119,12 +118,12 @@ impl Damaged {
         Some(Damaged { shape, sent: vec![0; shape.word_len()], error: error? })
     }
 
-    /// What the host pair makes of the word, beside what the harness must.
-    fn difference_of_host(&self, word: &[u32], of_harness: &After) -> Option<String> {
-        let host = Call::new(Entry::HostReadWord, self.shape, &[&to_bytes(word)]);
-        let expected = After { answer: of_harness.answer, slices: vec![to_bytes(&of_harness.slices[0])] };
-        let found = difference(host.entry, &expected, &host.on_library());
-        found.map(|found| format!("through the host pair, {found}"))
+    /// What the reader of bytes makes of the word, beside what the reader of symbols must.
+    fn difference_in_bytes(&self, word: &[u32], in_symbols: &After) -> Option<String> {
+        let call = Call::new(Entry::HostReadWord, self.shape, &[&to_bytes(word)]);
+        let expected = After { answer: in_symbols.answer, slices: vec![to_bytes(&in_symbols.slices[0])] };
+        let found = difference(call.entry, &expected, &call.on_library());
+        found.map(|found| format!("as bytes, {found}"))
     }
 
     /// The standard slopes, a smaller order, fewer directions, a smaller width.
@@ -155,11 +154,11 @@ impl Damaged {
 impl Case for Damaged {
     fn difference(&self) -> Option<String> {
         let word = damaged(&self.sent, &self.error);
-        let harness = Call::new(Entry::Decode, self.shape, &[&word]);
-        let expected = harness.on_reference();
-        let found = difference(harness.entry, &expected, &harness.on_library());
-        let also_of_host = self.shape == self.shape.standard();
-        found.or_else(|| also_of_host.then(|| self.difference_of_host(&word, &expected)).flatten())
+        let call = Call::new(Entry::Decode, self.shape, &[&word]);
+        let expected = call.on_reference();
+        let found = difference(call.entry, &expected, &call.on_library());
+        let also_in_bytes = self.shape == self.shape.standard();
+        found.or_else(|| also_in_bytes.then(|| self.difference_in_bytes(&word, &expected)).flatten())
     }
 
     fn smaller(&self) -> impl Iterator<Item = Damaged> {

@@ -90,12 +90,9 @@ impl State {
     }
 }
 
-/// An arrival whose session crosses as numbers, as it does in the harness: it is written back only
-/// after a page was taken.
-pub fn arrive(way: Way, session: &mut [u32], word: &mut [u32], scratch: &mut [u32], outcome: &mut [u32]) -> u32 {
-    if session.len() != SESSION_LEN || outcome.len() != 3 {
-        return refused(Refusal::Length);
-    }
+/// An arrival whose session crosses as numbers, as it does to the library: it is written back only after a
+/// page was taken.
+pub fn arrive(way: Way, session: &mut [u32; SESSION_LEN], word: &mut [u32], scratch: &mut [u32]) -> Outcome {
     let (shape, rest) = session.split_at_mut(SHAPE_LEN);
     let (figures, rest) = rest.split_at_mut(2);
     let (taken, calls) = rest.split_at_mut(PAGES);
@@ -106,7 +103,6 @@ pub fn arrive(way: Way, session: &mut [u32], word: &mut [u32], scratch: &mut [u3
     }
     state.calls.copy_from_slice(calls);
     let answer = state.arrive_tested(way, word, scratch);
-    outcome.copy_from_slice(&answer.values());
     if let Outcome::Taken { .. } = answer {
         figures.copy_from_slice(&[state.figures.pages, state.figures.lowest]);
         for (number, &yes) in taken.iter_mut().zip(&state.taken) {
@@ -114,5 +110,5 @@ pub fn arrive(way: Way, session: &mut [u32], word: &mut [u32], scratch: &mut [u3
         }
         calls.copy_from_slice(&state.calls);
     }
-    0
+    answer
 }

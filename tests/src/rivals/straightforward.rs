@@ -27,6 +27,20 @@ pub fn decode(shape: Shape, word: &mut [u32]) -> u32 {
     correct(q, n, syndromes, word).unwrap_or(refused(Refusal::Uncorrectable))
 }
 
+/// The same of bytes, four a symbol, low byte first.
+pub fn read_word(q: u32, n: u32, b: u32, bytes: &mut [u8]) -> u32 {
+    if bytes.len() % 4 != 0 {
+        return refused(Refusal::Length);
+    }
+    let symbol = |four: &[u8]| four.iter().rev().fold(0, |symbol, &byte| symbol << 8 | u32::from(byte));
+    let mut word: Vec<u32> = bytes.chunks_exact(4).map(symbol).collect();
+    let answer = decode(Shape::new(q, n, b), &mut word);
+    for (four, symbol) in bytes.chunks_exact_mut(4).zip(word) {
+        four.copy_from_slice(&symbol.to_le_bytes());
+    }
+    answer
+}
+
 /// Changes the located symbols if that makes every check silent.
 fn correct(q: usize, n: usize, mut syndromes: [u32; MAX_CHECKS], word: &mut [u32]) -> Option<u32> {
     let mut located = [0; MAX_ERRORS];
