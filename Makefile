@@ -20,7 +20,7 @@ check:
 test:
 	bash .ci/run
 
-bench: target/bin/tally target/staticlib/libhost.a target/staticlib/libharness.a
+bench: target/bin/tally target/staticlib/libhost.a
 	cd tests && cargo build --release --offline
 	cd tests && TALLY="$(CURDIR)/target/bin/tally" cargo run --release --offline --quiet --bin bench
 
@@ -70,11 +70,15 @@ install-built:
 	install -d $(place)/lib/pkgconfig
 	sed 's|@PREFIX@|$(PREFIX)|' include/shaftglimmer.pc.in > $(place)/lib/pkgconfig/shaftglimmer.pc
 	chmod 644 $(place)/lib/pkgconfig/shaftglimmer.pc
+	for file in $$(cd rust && find Cargo.toml build.rs README.md src examples -type f); do \
+		install -D -m 644 rust/$$file $(place)/share/shaftglimmer/rust/$$file || exit 1; \
+	done
 
 uninstall:
 	rm -f $(place)/bin/tally $(place)/include/shaftglimmer.h
 	rm -f $(place)/lib/libshaftglimmer.a $(place)/lib/$(soname) $(place)/lib/libshaftglimmer.so
 	rm -f $(place)/share/man/man1/tally.1 $(place)/share/man/man3/shaftglimmer.3 $(place)/lib/pkgconfig/shaftglimmer.pc
+	rm -rf $(place)/share/shaftglimmer/rust
 
 clean:
-	rm -rf target tests/target
+	rm -rf target tests/target rust/target
