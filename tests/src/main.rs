@@ -1,8 +1,8 @@
 //! The test program: `cargo run --release`, with the seed as its argument or in SEED if wanted.
 //!
 //! TALLY names the tally program's executable. Without it the program's tests fail, or are skipped
-//! where ALLOW_SKIP=1. Built without the feature `library`, the library's tests are left out, and the
-//! program's are run only where TALLY is set.
+//! where ALLOW_SKIP=1. With ONLY=library the library's tests alone are run. Built without the feature
+//! `library`, these are left out, and the program's are run only where TALLY is set.
 
 use shaftglimmer_tests::call::{Call, Make};
 use shaftglimmer_tests::groups::{
@@ -19,10 +19,15 @@ fn main() -> ExitCode {
     let seed = seed();
     println!("seed {seed}");
     let mut report = Report::new(seed);
-    of_both(&mut report, "reference", Call::on_reference);
-    report.run(reference::group());
+    let only_library = env::var_os("ONLY").is_some_and(|value| value == "library");
+    if !only_library {
+        of_both(&mut report, "reference", Call::on_reference);
+        report.run(reference::group());
+    }
     library(&mut report);
-    program(&mut report);
+    if !only_library {
+        program(&mut report);
+    }
     if report.finish() {
         ExitCode::SUCCESS
     } else {
