@@ -2,8 +2,8 @@
 //!
 //! `cargo run --example record -- [--damage SEED] Q N B [FILE]`
 //!
-//! With a seed up to n - 1 symbols of each word are damaged, so that the clean way restores it. The same seed does the same
-//! damage.
+//! With a seed up to n - 1 symbols of each word are damaged, so that the clean way restores it. The same seed does the
+//! same damage.
 
 mod text;
 

@@ -3,8 +3,8 @@
 use crate::refusal::answered;
 use crate::{sys, Refusal};
 
-/// Reads a damaged word of 4×q×q bytes in place, as [`decode`](crate::decode) does. Gives the number of symbols changed.
-/// Refuses with 1, 2, 3 or 4, and then leaves the bytes as they came.
+/// Reads a damaged word of 4×q×q bytes in place, as [`decode`](crate::decode) does. Gives the number of symbols
+/// changed. Refuses with 1, 2, 3 or 4, and then leaves the bytes as they came.
 ///
 /// ```
 /// use shaftglimmer::bytes::read_word;
@@ -17,8 +17,8 @@ pub fn read_word(q: u32, n: u32, b: u32, word: &mut [u8]) -> Result<u32, Refusal
     answered(sys::read_word(q, n, b, word))
 }
 
-/// Reads the page in the bytes of a word's information symbols. Gives its number, and how many marks it has. Refuses with 1, 2,
-/// 3, 5, 6, 7 or 8.
+/// Reads the page in the bytes of a word's information symbols. Gives its number, and how many marks it has. Refuses
+/// with 1, 2, 3, 5, 6, 7 or 8.
 ///
 /// ```
 /// use shaftglimmer::bytes::read_page;

@@ -134,8 +134,8 @@ impl fmt::Display for Refusal {
 #[cfg(feature = "std")]
 impl std::error::Error for Refusal {}
 
-/// The refusal with a number that the library gave. It gives 1 to 20 but for 10, which is about lines of text; so 10 stands for
-/// a number that only a later library can give.
+/// The refusal with a number that the library gave. It gives 1 to 20 but for 10, which is about lines of text; so 10
+/// stands for a number that only a later library can give.
 pub(crate) fn numbered(number: u32) -> Refusal {
     Refusal::from_number(number).unwrap_or(Refusal::Syntax)
 }

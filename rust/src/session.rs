@@ -6,8 +6,8 @@ use core::mem::{align_of, size_of, transmute};
 
 /// A session: which pages have come, and how often each function was called.
 ///
-/// It has the layout of the 1,292 numbers that cross to the library: its shape's, how many pages are taken, the lowest page not
-/// taken, a mark for each page, a count for each function.
+/// It has the layout of the 1,292 numbers that cross to the library: its shape's, how many pages are taken, the lowest
+/// page not taken, a mark for each page, a count for each function.
 ///
 /// ```
 /// use shaftglimmer::{Outcome, Refusal, Session, Shape, Way};
@@ -42,8 +42,8 @@ impl Session {
         done(sys::fresh(shape, &mut session)).map(|()| session)
     }
 
-    /// A session that was saved. Refuses with 1, 18 or 11: a session that no fresh one can have become, as far as its shape, its
-    /// page marks and its two figures tell. Counts that were changed on the way can't be told.
+    /// A session that was saved. Refuses with 1, 18 or 11: a session that no fresh one can have become, as far as its
+    /// shape, its page marks and its two figures tell. Counts that were changed on the way can't be told.
     ///
     /// ```
     /// use shaftglimmer::{Refusal, Session, Shape};
@@ -68,8 +68,8 @@ impl Session {
 
     /// Its numbers where they are.
     pub fn as_values(&self) -> &[u32; Session::VALUES] {
-        // SAFETY: a session is 1,292 numbers of u32 without a gap, as `repr(C)` lays them out; the array lives and is lent as
-        // long as the session.
+        // SAFETY: a session is 1,292 numbers of u32 without a gap, as `repr(C)` lays them out; the array lives and is
+        // lent as long as the session.
         unsafe { &*(self as *const Session).cast() }
     }
 
@@ -90,8 +90,8 @@ impl Session {
         }
     }
 
-    /// Lets 1 to 64 words arrive that stand one behind the other, all read one way. It is as if they had arrived one by one.
-    /// Refuses a whole call with 16 or 2, and has then changed nothing.
+    /// Lets 1 to 64 words arrive that stand one behind the other, all read one way. It is as if they had arrived one by
+    /// one. Refuses a whole call with 16 or 2, and has then changed nothing.
     ///
     /// ```
     /// use shaftglimmer::{Refusal, Session, Shape, Way};
@@ -158,8 +158,8 @@ impl Session {
         u32::try_from(answer).map_err(|_| numbered(answer as u32))
     }
 
-    /// The energy of the calls in whole picojoules, rounded up once; prices are in thousandths of a picojoule for one call.
-    /// Function 0, the idle loop, costs nothing. Refuses with 19.
+    /// The energy of the calls in whole picojoules, rounded up once; prices are in thousandths of a picojoule for one
+    /// call. Function 0, the idle loop, costs nothing. Refuses with 19.
     ///
     /// ```
     /// use shaftglimmer::{Refusal, Session, Shape, Way};

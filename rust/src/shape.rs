@@ -4,8 +4,8 @@ use core::mem::{align_of, size_of};
 
 /// The shape of words: order q, directions n, width b, and the slopes of the directions.
 ///
-/// There are only shapes that the library accepts. One has the layout of the ten numbers that cross to the library: q, n, b,
-/// seven slopes.
+/// There are only shapes that the library accepts. One has the layout of the ten numbers that cross to the library: q,
+/// n, b, seven slopes.
 ///
 /// ```
 /// use shaftglimmer::{Refusal, Shape};

@@ -1,7 +1,7 @@
 //! The library's functions as it exports them, each declared once, with a safe wrapper.
 //!
-//! A slice crosses as a pointer and a length in elements, what has one length only as a plain pointer. No function has a
-//! precondition on what it is given: each answers every input. So a wrapper has nothing to test.
+//! A slice crosses as a pointer and a length in elements, what has one length only as a plain pointer. No function has
+//! a precondition on what it is given: each answers every input. So a wrapper has nothing to test.
 
 use crate::{Session, Shape};
 
@@ -24,8 +24,8 @@ macro_rules! pointer {
     };
 }
 
-/// `wrapper = exported(plain: type, ..; slice: *const element, ..; last: type) -> answer`: what crosses as it is, the slices,
-/// and what crosses as it is behind them. Of a slice only the pointer is named; its length goes with it.
+/// `wrapper = exported(plain: type, ..; slice: *const element, ..; last: type) -> answer`: what crosses as it is, the
+/// slices, and what crosses as it is behind them. Of a slice only the pointer is named; its length goes with it.
 macro_rules! exported {
     ($($wrapper:ident = $name:ident(
         $($plain:ident: $type:ty),* $(; $($slice:ident: *$access:tt $element:ty),+ $(; $last:ident: $last_type:ty)?)?
@@ -38,9 +38,9 @@ macro_rules! exported {
         $(pub(crate) fn $wrapper(
             $($plain: $type,)* $($($slice: lent!($access $element),)+ $($last: $last_type)?)?
         ) -> $answer {
-            // SAFETY: every pointer is that of a live reference, and every length that of its slice, exclusively lent where
-            // the function writes. They are aligned and not null, also where a slice is empty. The function writes nothing
-            // but numbers, of which any is valid there, and keeps no pointer.
+            // SAFETY: every pointer is that of a live reference, and every length that of its slice, exclusively lent
+            // where the function writes. They are aligned and not null, also where a slice is empty. The function
+            // writes nothing but numbers, of which any is valid there, and keeps no pointer.
             unsafe {
                 $name($($plain,)* $($(pointer!($access $slice), $slice.len(),)+ $($last)?)?)
             }

@@ -6,8 +6,8 @@ use crate::{sys, Refusal, Shape};
 #[cfg(feature = "alloc")]
 use alloc::{vec, vec::Vec};
 
-/// Reads a damaged word in place, the clean way: undoes damage to at most n - 1 symbols that no check hides. Gives the number
-/// of symbols changed. Refuses with 2, 3 or 4, and then leaves the word as it came.
+/// Reads a damaged word in place, the clean way: undoes damage to at most n - 1 symbols that no check hides. Gives the
+/// number of symbols changed. Refuses with 2, 3 or 4, and then leaves the word as it came.
 ///
 /// ```
 /// use shaftglimmer::{decode, Refusal, Shape};
@@ -21,14 +21,14 @@ pub fn decode(shape: &Shape, word: &mut [u32]) -> Result<u32, Refusal> {
     answered(sys::decode(shape, word))
 }
 
-/// Reads a damaged word in place, by vote: undoes any damage to at most n/2 symbols, rounded down. Gives the number of symbols
-/// changed. Refuses with 2, 3 or 15, and then leaves the word as it came.
+/// Reads a damaged word in place, by vote: undoes any damage to at most n/2 symbols, rounded down. Gives the number of
+/// symbols changed. Refuses with 2, 3 or 15, and then leaves the word as it came.
 pub fn decode_majority(shape: &Shape, word: &mut [u32]) -> Result<u32, Refusal> {
     answered(sys::decode_majority(shape, word))
 }
 
-/// Reads a damaged word in place: undoes any damage to at most two symbols, where there are three directions or more. Gives the
-/// number of symbols changed. Refuses with 16, 2, 3 or 17, and then leaves the word as it came.
+/// Reads a damaged word in place: undoes any damage to at most two symbols, where there are three directions or more.
+/// Gives the number of symbols changed. Refuses with 16, 2, 3 or 17, and then leaves the word as it came.
 ///
 /// ```
 /// use shaftglimmer::{decode, decode_two, Refusal, Shape};
@@ -44,13 +44,14 @@ pub fn decode_two(shape: &Shape, word: &mut [u32]) -> Result<u32, Refusal> {
     answered(sys::decode_two(shape, word))
 }
 
-/// Reads a damaged word in place: undoes any damage to at most n - 1 symbols, whether checks hide it or not. Gives the number
-/// of symbols changed. Refuses with 2, 3 or 20, and then leaves the word as it came.
+/// Reads a damaged word in place: undoes any damage to at most n - 1 symbols, whether checks hide it or not. Gives the
+/// number of symbols changed. Refuses with 2, 3 or 20, and then leaves the word as it came.
 pub fn decode_nearest(shape: &Shape, word: &mut [u32]) -> Result<u32, Refusal> {
     answered(sys::decode_nearest(shape, word))
 }
 
-/// Whether a word that somebody else restored is the one that [`decode`] makes of the received word. Refuses with 2 or 3.
+/// Whether a word that somebody else restored is the one that [`decode`] makes of the received word. Refuses with 2 or
+/// 3.
 ///
 /// ```
 /// use shaftglimmer::{check, Refusal, Shape};
@@ -97,8 +98,8 @@ pub fn extract_with(shape: &Shape, data: &mut [u32], scratch: &mut [u32], word: 
     done(sys::extract(shape, data, scratch, word))
 }
 
-/// Fills a word in where the symbols at these places, in rising order, are not to be believed. Gives the number of symbols
-/// changed. Refuses with 2, 3, 12, 13 or 14, and then leaves the word as it came.
+/// Fills a word in where the symbols at these places, in rising order, are not to be believed. Gives the number of
+/// symbols changed. Refuses with 2, 3, 12, 13 or 14, and then leaves the word as it came.
 ///
 /// ```
 /// use shaftglimmer::{fill, Refusal, Shape};

@@ -4,7 +4,8 @@ use crate::text;
 use shaftglimmer::{Refusal, Session, Shape};
 use std::io::{self, BufRead};
 
-/// A fresh session of the shape in line 2, or what is wrong with the first of the three lines that something is wrong with.
+/// A fresh session of the shape in line 2, or what is wrong with the first of the three lines that something is wrong
+/// with.
 pub fn begin(input: &mut impl BufRead) -> io::Result<Result<Session, Refusal>> {
     if text::line(input)?.as_deref() != Some(b"q n b\n") {
         return Ok(Err(Refusal::Syntax));

@@ -36,8 +36,9 @@ impl Call {
         let shape = self.shape.values();
         let mut slices: Vec<Fenced<u32>> = self.slices.iter().map(|slice| Fenced::new(slice)).collect();
         let mut lent: Vec<&mut [u32]> = slices.iter_mut().map(Fenced::lend).collect();
-        // SAFETY: each pointer and length is that of a live slice, exclusively lent where the function writes. A session has
-        // 1,292 numbers and an outcome three, which `Call::is_fixed` is about. The functions keep no pointer.
+        // SAFETY: each pointer and length is that of a live slice, exclusively lent where the function writes. A
+        // session has 1,292 numbers and an outcome three, which `Call::is_fixed` is about. The functions keep no
+        // pointer.
         let answer = match (self.entry, &mut lent[..]) {
             (Entry::Marks, [data, marks]) => unsafe {
                 shaftglimmer_marks(shape.as_ptr(), data.as_ptr(), data.len(), marks.as_mut_ptr(), marks.len()).into()
