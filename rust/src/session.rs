@@ -42,8 +42,8 @@ impl Session {
         done(sys::fresh(shape, &mut session)).map(|()| session)
     }
 
-    /// A session that was saved. Refuses with 1, 18 or 11: a session that no fresh one can have become, as far as its
-    /// shape, its page marks and its two figures tell. Counts that were changed on the way can't be told.
+    /// A session that was saved. Refuses with 1, 18 or 11: its shape, or its two figures beside its page marks. A changed
+    /// count can't be told, nor another lawful shape, nor other page marks that leave the two figures right.
     ///
     /// ```
     /// use shaftglimmer::{Refusal, Session, Shape};

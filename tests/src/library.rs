@@ -5,7 +5,8 @@ mod own;
 mod raw;
 
 use crate::call::{After, Call, Entry};
-use crate::reference::session::SESSION_LEN;
+use crate::reference::page::FUNCTIONS;
+use crate::reference::session::{OUTCOMES_LEN, SESSION_LEN, WAYS};
 use crate::reference::shape::SHAPE_LEN;
 use shaftglimmer::bytes::{read_page, read_word};
 use shaftglimmer::{
@@ -15,17 +16,29 @@ use shaftglimmer::{
 
 impl Call {
     pub fn on_library(&self) -> After {
-        let Some(after) = self.by_crate() else { return self.by_hand().expect("a call by hand") };
-        if let Some(by_hand) = self.by_hand() {
-            assert!(after == by_hand, "{}: it ends otherwise by hand", self.text());
+        let by_hand = self.by_hand();
+        if !self.is_let_through() {
+            return by_hand.expect("a call by hand");
         }
+        let after = self.by_crate();
+        assert!(by_hand.is_none_or(|by_hand| by_hand == after), "{}: it ends otherwise by hand", self.text());
         assert!(self.is_as_by_itself(&after), "{}: the crate by itself ends otherwise", self.text());
         after
     }
 
-    /// Through the crate, where it lets the call through: not a way that is none, and not a list that has one
-    /// length only with another.
-    fn by_crate(&self) -> Option<After> {
+    /// Whether the crate lets the call through: not a way that is none, and not a list of another length where it
+    /// takes one length only.
+    fn is_let_through(&self) -> bool {
+        match (self.entry, &self.slices[..]) {
+            (Entry::Marks, [data, marks]) => marks.len() == data.len(),
+            (Entry::Bill | Entry::Cover, [_, list]) => list.len() == FUNCTIONS,
+            (Entry::Arrive, _) => self.number < WAYS,
+            (Entry::Batch, [.., outcomes]) => self.number < WAYS && outcomes.len() == OUTCOMES_LEN,
+            _ => true,
+        }
+    }
+
+    fn by_crate(&self) -> After {
         let mut lent_shape = Fenced::new(&self.shape.values());
         let shape = shape_in(lent_shape.lend());
         let mut slices: Vec<Fenced<u32>> = self.slices.iter().map(|slice| Fenced::new(slice)).collect();
@@ -41,38 +54,41 @@ impl Call {
             (Entry::Fill, [places, word, scratch]) => number(fill_with(shape, places, word, scratch)),
             (Entry::Check, [received, proposed]) => number(check(shape, received, proposed).map(u32::from)),
             (Entry::ReadPage, [data]) => number(parse_page(shape, data).map(page_answer)),
-            (Entry::Marks, [data, marks]) => marks_part(shape, data, marks)?,
+            (Entry::Marks, [data, marks]) => marks_part(shape, data, marks),
             (Entry::WritePage, [marks, data]) => done(write_page_with(shape, self.number, marks, data)),
             (Entry::Fresh, [session]) => done(Session::fresh(shape).map(|fresh| copy(fresh.as_values(), session))),
             (Entry::HostReadWord, [bytes]) => as_bytes(bytes, |bytes| self.read_word(bytes)),
             (Entry::HostReadPage, [bytes]) => as_bytes(bytes, |bytes| self.read_page(bytes)),
-            (_, [session, others @ ..]) => self.of_session(session_in(session), others)?,
+            (_, [session, others @ ..]) => self.of_session(session_in(session), others),
             _ => panic!("wrong number of slices for {:?}", self.entry),
         };
         assert!(lent_shape.take_back() == self.shape.values(), "the lent shape was written to");
-        Some(After { answer, slices: slices.into_iter().map(Fenced::take_back).collect() })
+        After { answer, slices: slices.into_iter().map(Fenced::take_back).collect() }
     }
 
     /// The entries that take a session.
-    fn of_session(&self, session: &mut Session, others: &mut [&mut [u32]]) -> Option<u64> {
-        Some(match (self.entry, others) {
+    fn of_session(&self, session: &mut Session, others: &mut [&mut [u32]]) -> u64 {
+        match (self.entry, others) {
             (Entry::Count, []) => wide(session.count(self.number).map(u64::from), 32),
-            (Entry::Bill, [prices]) => wide(session.bill((&**prices).try_into().ok()?), 63),
-            (Entry::Cover, [bytes]) if bytes.len() == 256 => number(session.cover().map(|coverage| {
+            (Entry::Bill, [prices]) => wide(session.bill((&**prices).try_into().expect("a price for each")), 63),
+            (Entry::Cover, [bytes]) => number(session.cover().map(|coverage| {
                 copy(&coverage.as_bytes().map(u32::from), bytes);
                 coverage.functions()
             })),
             (Entry::Arrive, [word, scratch, outcome]) => {
-                let arrived = session.arrive_with(Way::from_number(self.number)?, word, scratch);
-                copy(&arrived.to_values(), outcome);
+                copy(&session.arrive_with(self.way(), word, scratch).to_values(), outcome);
                 0
             }
-            (Entry::Batch, [words, scratch, outcomes]) if outcomes.len() == 192 => {
-                let arrived = session.arrive_all_with(Way::from_number(self.number)?, words, scratch);
+            (Entry::Batch, [words, scratch, outcomes]) => {
+                let arrived = session.arrive_all_with(self.way(), words, scratch);
                 done(arrived.map(|arrived| copy(arrived.as_values(), outcomes)))
             }
-            _ => return None,
-        })
+            _ => panic!("wrong number of slices for {:?}", self.entry),
+        }
+    }
+
+    fn way(&self) -> Way {
+        Way::from_number(self.number).expect("the number of a way")
     }
 
     fn read_word(&self, bytes: &mut [u8]) -> u64 {
@@ -122,15 +138,12 @@ fn page_answer(page: Page) -> u32 {
 }
 
 /// The marks, copied to the front of a list as long as the data; none of a page that is refused.
-fn marks_part(shape: &Shape, data: &[u32], marks: &mut [u32]) -> Option<u64> {
-    if marks.len() != data.len() {
-        return None;
-    }
+fn marks_part(shape: &Shape, data: &[u32], marks: &mut [u32]) -> u64 {
     let part: Vec<u8> = parse_page(shape, data).into_iter().flatten().collect();
     for (mark, &function) in marks.iter_mut().zip(&part) {
         *mark = function.into();
     }
-    Some(part.len() as u64)
+    part.len() as u64
 }
 
 /// Lends the numbers as bytes, with a fence of their own.

@@ -2,7 +2,7 @@
 
 use super::{done, number, session_in, shape_in};
 use crate::call::{After, Call, Entry};
-use shaftglimmer::{encode, extract, fill, looked, write_page, Refusal, Way};
+use shaftglimmer::{encode, extract, fill, looked, write_page, Refusal};
 
 impl Call {
     /// Whether the crate's function that makes its own memory ends as the one did that was lent it, where there is
@@ -36,7 +36,7 @@ impl Call {
     fn arrives_by_itself(&self, after: &After) -> bool {
         let (mut values, mut words) = (self.slices[0].clone(), self.slices[1].clone());
         let session = session_in(&mut values);
-        let Some(way) = Way::from_number(self.number) else { return true };
+        let way = self.way();
         if self.slices[2].len() != session.shape().scratch_length() {
             return true;
         }
