@@ -176,57 +176,70 @@ fn ways_and_outcomes_by_number() {
     assert_eq!(Outcome::Refused(Refusal::Far).to_values(), [2, 20, 0]);
 }
 
-/// Lists of every length up to twice the right one, with small and large numbers: an answer comes, and nothing panics.
+/// Shapes small enough for lists of every length up to twice a word's.
+fn small_shapes() -> [Shape; 3] {
+    [(3, 2, 8), (3, 3, 1), (5, 4, 32)].map(|(q, n, b)| Shape::new(q, n, b).expect("a lawful shape"))
+}
+
+/// Tries lists of every such length, of small numbers and of large ones.
+fn with_lists(shape: &Shape, mut body: impl FnMut(u32, Vec<u32>)) {
+    for length in 0..=2 * shape.word_length() {
+        [0, 1, 255, 1024, u32::MAX].into_iter().for_each(|value| body(value, vec![value; length]));
+    }
+}
+
+/// An answer comes, and nothing panics: words of any length and of any numbers.
 #[test]
-fn any_lengths_and_any_numbers() {
-    let shapes = [small(), Shape::new(3, 3, 1).expect("a lawful shape"), Shape::new(5, 4, 32).expect("a lawful shape")];
-    for shape in shapes {
-        let mut session = Session::fresh(&shape).expect("a session");
-        for length in 0..=2 * shape.word_length() {
-            for value in [0, 1, 255, 1024, u32::MAX] {
-                let (mut list, mut scratch) = (vec![value; length], vec![value; shape.scratch_length()]);
-                let fits = length == shape.word_length() && u64::from(value) >> shape.b() == 0;
-                for read in [decode, decode_majority, decode_nearest] {
-                    assert!(read(&shape, &mut list).is_ok() <= fits);
-                }
-                assert!(decode_two(&shape, &mut list).is_ok() <= (fits && shape.n() > 2));
-                assert_eq!(check(&shape, &list, &vec![0; shape.word_length()]).is_ok(), fits);
-                assert_eq!(looked(&shape, &list).is_ok(), fits);
-                assert_eq!(
-                    looked_with(&shape, &vec![0; shape.word_length()], &mut list).is_ok(),
-                    length == shape.word_length()
-                );
-                let mut list = vec![value; length];
-                assert_eq!(extract(&shape, &list).is_ok(), fits);
-                assert!(fill(&shape, &list, &mut vec![0; shape.word_length()]).is_ok() <= (length <= 1));
-                assert!(encode(&shape, &list).is_ok() <= (length == shape.data_length()));
-                assert!(parse_page(&shape, &list).is_ok() <= (length == shape.data_length()));
-                assert!(
-                    write_page_with(&shape, value, &list, &mut vec![0; length]).is_err()
-                        || length == shape.data_length()
-                );
-                scratch.resize(length, value);
-                let word = vec![0; shape.word_length()];
-                let right = length == shape.scratch_length();
-                assert_eq!(fill_with(&shape, &[], &mut word.clone(), &mut scratch).is_ok(), right);
-                assert_eq!(
-                    encode_with(&shape, &vec![0; shape.data_length()], &mut scratch, &mut word.clone()).is_ok(),
-                    right
-                );
-                assert_eq!(extract_with(&shape, &mut vec![0; shape.data_length()], &mut scratch, &word).is_ok(), right);
-                assert_eq!(
-                    matches!(session.arrive_with(Way::Clean, &mut word.clone(), &mut scratch), Outcome::Refused(_)),
-                    !right
-                );
-                assert_eq!(session.arrive_all_with(Way::Clean, &mut word.clone(), &mut scratch).is_ok(), right);
-                assert!(
-                    session.arrive_all(Way::Vote, &mut list).is_ok()
-                        <= (length > 0 && length % shape.word_length() == 0)
-                );
-                let mut bytes: Vec<u8> = list.iter().map(|&number| number as u8).collect();
-                assert!(read_word(value, 2, 8, &mut bytes).is_err());
-                assert!(read_page(3, 2, 8, &bytes).is_ok() <= (length == 16));
+fn any_words() {
+    for shape in small_shapes() {
+        let (size, whole) = (shape.word_length(), vec![0; shape.word_length()]);
+        with_lists(&shape, |value, list| {
+            let (right, fits) = (list.len() == size, list.len() == size && u64::from(value) >> shape.b() == 0);
+            for read in [decode, decode_majority, decode_nearest] {
+                assert!(read(&shape, &mut list.clone()).is_ok() <= fits);
             }
-        }
+            assert!(decode_two(&shape, &mut list.clone()).is_ok() <= (fits && shape.n() > 2));
+            assert_eq!((check(&shape, &list, &whole).is_ok(), check(&shape, &whole, &list).is_ok()), (fits, fits));
+            assert_eq!((looked(&shape, &list).is_ok(), extract(&shape, &list).is_ok()), (fits, fits));
+            assert_eq!(looked_with(&shape, &whole, &mut list.clone()).is_ok(), right);
+            assert!(fill(&shape, &list, &mut whole.clone()).is_ok() <= (list.len() <= 1));
+            let mut bytes: Vec<u8> = list.iter().map(|&number| number as u8).collect();
+            assert!(read_word(value, 2, 8, &mut bytes).is_err());
+        });
+    }
+}
+
+/// The same of information symbols and of marks.
+#[test]
+fn any_data() {
+    for shape in small_shapes() {
+        with_lists(&shape, |value, list| {
+            let right = list.len() == shape.data_length();
+            assert!(encode(&shape, &list).is_ok() <= right);
+            assert!(parse_page(&shape, &list).is_ok() <= right);
+            assert!(write_page_with(&shape, value, &[], &mut list.clone()).is_ok() <= right);
+            assert!(write_page_with(&shape, 0, &list, &mut [0; 4]).is_ok() <= (list.len() <= shape.most_marks()));
+            let bytes: Vec<u8> = list.iter().map(|&number| number as u8).collect();
+            assert!(read_page(3, 2, 8, &bytes).is_ok() <= (bytes.len() == 16));
+        });
+    }
+}
+
+/// The same of working space, and of bundles.
+#[test]
+fn any_scratch() {
+    for shape in small_shapes() {
+        let mut session = Session::fresh(&shape).expect("a session");
+        let (word, data) = (vec![0; shape.word_length()], vec![0; shape.data_length()]);
+        with_lists(&shape, |_, mut list| {
+            let (right, whole) = (list.len() == shape.scratch_length(), list.len() % word.len() == 0);
+            assert_eq!(fill_with(&shape, &[], &mut word.clone(), &mut list).is_ok(), right);
+            assert_eq!(encode_with(&shape, &data, &mut list, &mut word.clone()).is_ok(), right);
+            assert_eq!(extract_with(&shape, &mut data.clone(), &mut list, &word).is_ok(), right);
+            let outcome = session.arrive_with(Way::Clean, &mut word.clone(), &mut list);
+            assert_eq!(outcome == Outcome::Refused(Refusal::Length), !right);
+            assert_eq!(session.arrive_all_with(Way::Clean, &mut word.clone(), &mut list).is_ok(), right);
+            assert_eq!(session.arrive_all(Way::Vote, &mut list).is_ok(), whole && !list.is_empty());
+        });
     }
 }

@@ -25,8 +25,8 @@ pub fn table() -> Vec<String> {
 /// Works on session, words and scratch.
 type Deliver<'a> = &'a dyn Fn(&mut Bundle);
 
-/// 64 pages of different numbers that come to a fresh session.
-fn delivering(shape: Shape, kind: Kind) -> Times {
+/// 64 pages of different numbers, one behind the other.
+fn some_pages(shape: Shape, kind: Kind) -> Vec<u32> {
     let mut random = Random::new(1, "bundles");
     let mut words = vec![];
     for page in recording(shape, BUNDLE, &mut random) {
@@ -34,6 +34,12 @@ fn delivering(shape: Shape, kind: Kind) -> Times {
         kind.damage(shape, &mut word, &mut random);
         words.extend(word);
     }
+    words
+}
+
+/// They come to a fresh session.
+fn delivering(shape: Shape, kind: Kind) -> Times {
+    let words = &some_pages(shape, kind);
     let size = shape.word_len();
     let in_one: Deliver = &|bundle: &mut Bundle| {
         let arrived =
@@ -53,12 +59,11 @@ fn delivering(shape: Shape, kind: Kind) -> Times {
         }
     };
     let results = [in_one, singly].map(|deliver| {
-        let mut bundle = Bundle::new(shape, &words);
+        let mut bundle = Bundle::new(shape, words);
         deliver(&mut bundle);
         (bundle.session, bundle.words, bundle.outcomes)
     });
     assert!(results[0] == results[1], "the bundle and the single arrivals disagree");
-    let words = &words;
     let batch = |deliver| -> Batch {
         let mut bundle = Bundle::new(shape, words);
         Box::new(move || {
