@@ -13,10 +13,11 @@ const TARGET: f64 = 0.8;
 
 /// Prints the table; gives the rows that miss their target.
 pub fn table() -> Vec<String> {
-    heading("read as bytes", &["ours / straightforward"]);
+    heading("work", &["ours / straightforward"]);
     let shapes = [Shape::new(17, 4, 32), Shape::new(3, 2, 8), Shape::new(31, 8, 32)];
     let rows = shapes.into_iter().flat_map(|shape| Kind::ALL.map(|kind| (shape, kind)));
-    rows.filter_map(|(shape, kind)| row(shape, kind.name(), reading(shape, kind), &[TARGET])).collect()
+    let name = |kind: Kind| format!("read as bytes, {}", kind.name());
+    rows.filter_map(|(shape, kind)| row(shape, &name(kind), reading(shape, kind), &[TARGET])).collect()
 }
 
 fn reading(shape: Shape, kind: Kind) -> Times {
