@@ -1,18 +1,25 @@
-# make: the program and the libraries for C. make run: the tally of the sample capture. make test: the whole gate.
+# make: the programs and the libraries for C. make run: the tally of the sample capture. make report: a page from that tally,
+# target/report.html. make test: the whole gate.
 PREFIX ?= /usr/local
 
 # Functions that go or change give the shared library another number.
 soname = libshaftglimmer.so.1
 
-.PHONY: all run check test bench libraries examples install install-built uninstall clean
+.PHONY: all run report check test bench libraries examples install install-built uninstall clean
 
 all:
 	rt check tally host
 	rt staticlib host
 	$(MAKE) --no-print-directory libraries
+	$(MAKE) --no-print-directory target/bin/tally-report
 
 run: target/bin/tally
 	target/bin/tally samples/capture.txt
+
+# The page of the sample, with names and prices.
+report: target/bin/tally target/bin/tally-report
+	target/bin/tally samples/capture.txt | \
+		target/bin/tally-report --names samples/names.txt --prices samples/prices.txt > target/report.html
 
 check:
 	rt check
@@ -52,6 +59,11 @@ target/examples/%: examples/%.c examples/input.h include/shaftglimmer.h target/l
 	@mkdir -p target/examples
 	$(CC) -std=c99 -O2 -Wall -Wextra -pedantic -Iinclude $< target/libshaftglimmer.a -o $@
 
+target/bin/tally-report: target/staticlib/libhost.a $(shell find rust/build.rs rust/src rust/report/Cargo.toml rust/report/src -type f)
+	SHAFTGLIMMER_LIB="$(CURDIR)/target/staticlib" cargo build --release --offline --quiet \
+		--manifest-path rust/report/Cargo.toml --target-dir target/report
+	install -D -m 755 target/report/release/tally-report $@
+
 # PREFIX is where the files will be used, DESTDIR a folder to lay them out in before that.
 place = $(DESTDIR)$(PREFIX)
 
@@ -61,11 +73,13 @@ install: all
 # What has been built already.
 install-built:
 	install -D -m 755 target/bin/tally $(place)/bin/tally
+	install -D -m 755 target/bin/tally-report $(place)/bin/tally-report
 	install -D -m 644 include/shaftglimmer.h $(place)/include/shaftglimmer.h
 	install -D -m 644 target/libshaftglimmer.a $(place)/lib/libshaftglimmer.a
 	install -D -m 755 target/$(soname) $(place)/lib/$(soname)
 	ln -sf $(soname) $(place)/lib/libshaftglimmer.so
 	install -D -m 644 docs/man/tally.1 $(place)/share/man/man1/tally.1
+	install -D -m 644 docs/man/tally-report.1 $(place)/share/man/man1/tally-report.1
 	install -D -m 644 docs/man/shaftglimmer.3 $(place)/share/man/man3/shaftglimmer.3
 	install -d $(place)/lib/pkgconfig
 	sed 's|@PREFIX@|$(PREFIX)|' include/shaftglimmer.pc.in > $(place)/lib/pkgconfig/shaftglimmer.pc
@@ -75,10 +89,10 @@ install-built:
 	done
 
 uninstall:
-	rm -f $(place)/bin/tally $(place)/include/shaftglimmer.h
+	rm -f $(place)/bin/tally $(place)/bin/tally-report $(place)/share/man/man1/tally-report.1 $(place)/include/shaftglimmer.h
 	rm -f $(place)/lib/libshaftglimmer.a $(place)/lib/$(soname) $(place)/lib/libshaftglimmer.so
 	rm -f $(place)/share/man/man1/tally.1 $(place)/share/man/man3/shaftglimmer.3 $(place)/lib/pkgconfig/shaftglimmer.pc
 	rm -rf $(place)/share/shaftglimmer/rust
 
 clean:
-	rm -rf target tests/target rust/target
+	rm -rf target tests/target rust/target rust/report/target
