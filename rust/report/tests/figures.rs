@@ -103,6 +103,10 @@ impl Case {
         let kinds = [facts.taken, facts.again, facts.words.len() as u64 - read].map(|number| format!("flex:{number}"));
         let shown: Vec<&String> = kinds.iter().filter(|kind| *kind != "flex:0").collect();
         assert_eq!(styles(part("The run"), "flex:"), shown);
+        let refused = &part("Refused words").text;
+        for refusal in refusals().iter().filter(|refusal| facts.refused.contains_key(&refusal.number)) {
+            assert!(refused.contains(&refusal.when) && refused.contains(&refusal.advice), "{}", refusal.number);
+        }
         self.map(part("Coverage"));
         pages(part("Pages"), facts);
         chart(part("Symbols restored over the run"), facts);
