@@ -1,2 +1,0 @@
-pub mod Crossings
-pub mod Answers
