@@ -1,5 +1,5 @@
 -- Every step keeps a state within its bounds, and its measure falls.
-use mathlib.Core.Path.{_≡_, refl, sym, ap, _∙_, subst}
+use mathlib.Core.Path.{_≡_, refl, sym, ap, subst}
 use mathlib.Core.Bool.{Bool, true, false, cond}
 use mathlib.Core.List.{List}
 use mathlib.Core.Logic.{⊎-elim}
@@ -10,13 +10,12 @@ use lib.Dec.{eqb, ltb}
 use lib.ListN.{length}
 use Rattle.parity.proofs.Tests.{either, clash}
 use Rattle.capture.specs.declared.Reader.{Reader}
-use Rattle.capture.specs.Feed.{isEnded}
 use Rattle.protocol.specs.declared.Action.{Action}
 use Rattle.protocol.specs.declared.Action.the-variants.{Read, Names, Take, Write, Look, Draw, Close, Last, Say, BlameInput, BlameOutput, Stop}
 use Rattle.protocol.specs.declared.Watch.{Watch}
 use Rattle.protocol.specs.declared.State.{State}
 use Rattle.protocol.specs.declared.Taken.{Taken}
-use Rattle.protocol.specs.Moves.{begun, towardOf, nextOf, filled, receivedOf, doneOf, past, movedOf, takenOf, watchedOf, closedOf, drawnAt, lookedOf}
+use Rattle.protocol.specs.Moves.{begun, towardOf, nextOf, filled, receivedOf, doneOf, past, movedOf, closedOf, lookedOf}
 use Rattle.protocol.specs.Steps.{Took, Closing, rank, goesOn, measureOf, needed, Sound, Stepped}
 
 -- by either value of a test

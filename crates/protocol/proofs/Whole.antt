@@ -1,6 +1,6 @@
 -- A whole run hands out the output of its input, however the reads cut it; one that fails hands out a part of it.
 use mathlib.Core.Path.{_≡_, refl, sym, ap, _∙_, subst}
-use mathlib.Core.Bool.{Bool, true, false, cond, _&&_}
+use mathlib.Core.Bool.{Bool, true, false, cond}
 use mathlib.Core.List.{List, [], _∷_, _++_, append-assoc, append-nil}
 use mathlib.Core.Logic.{_⊎_, inl, inr, ⊎-elim}
 use Prim.Native.Nat.{ℕ, _+_, _-_, _≤_, _<_, min}
@@ -9,9 +9,8 @@ use borrow.Author.Tests.{ltb-false, eqb-true}
 use lib.Dec.{eqb, ltb}
 use lib.ListN.{length, take, drop, length-append, length-take, take-append-drop, drop-of-length-le}
 use lib.Seq.{drop-drop}
-use Rattle.parity.proofs.Tests.{either, clash, and-left, and-right}
+use Rattle.parity.proofs.Tests.{either, clash}
 use Rattle.lines.specs.Text.{namesOutcome}
-use Rattle.judge.specs.Judge.{start}
 use Rattle.capture.specs.declared.Reader.{Reader}
 use Rattle.capture.specs.Feed.{isEnded, readLimit, outputOf}
 use Rattle.capture.specs.Steps.{BlockTaken, Finished}
@@ -22,7 +21,7 @@ use Rattle.protocol.specs.declared.Action.the-variants.{Read, Names, Tak
 use Rattle.protocol.specs.declared.State.{State}
 use Rattle.protocol.specs.Moves.{begun, towardOf, nextOf, filled, receivedOf, doneOf, past, movedOf, watchedOf, takenOf, closedOf, drawnAt, lookedOf}
 use Rattle.protocol.specs.Steps.{rank}
-use Rattle.protocol.specs.Run.{Config, moved, waiting, handedIn, handed, isDone, isWrite, Step, Received, ReadFailed, Done, WriteFailed, Taken, Looked, Closed, Run, End, On, Beginning, Part}
+use Rattle.protocol.specs.Run.{Config, waiting, handedIn, handed, isDone, isWrite, Step, Received, ReadFailed, Done, WriteFailed, Taken, Looked, Closed, Run, End, On, Beginning, Part}
 use Rattle.protocol.proofs.Moves.{pick, next-cases}
 
 -- ---- actions, told apart by their ranks

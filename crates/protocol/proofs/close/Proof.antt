@@ -1,6 +1,5 @@
 -- `protocol::close` meets its contract.
 use mathlib.Core.Path.{sym}
-use native.Mathlib.Omega.{arith}
 use lib.Seq.{length-take-le}
 use Rattle.protocol.proofs.Equations.{is-closed}
 use borrow.Author.Needs.{needs}

@@ -2,7 +2,6 @@
 use mathlib.Core.Path.{sym}
 use borrow.Author.Tests.{lt-ltb, le-ltb, eq-eqb, ne-eqb}
 use Rattle.protocol.proofs.Moves.{next-ended, next-take, next-limit, next-read}
-use borrow.Author.Needs.{needs}
 use Rattle.protocol.proofs.next.Statement.{statement}
 use Rattle.protocol.proofs.next.Tie as tie
 
