@@ -100,13 +100,13 @@ refusals! {
         "Too many cells are gone for this word: have the page sent again over other cells.";
     NoMajority = 15, "no majority",
         "Reading by vote: no codeword differs from the word in at most n/2 symbols.",
-        "Read it the clean way, which undoes up to n - 1 symbols where no check hides the damage. Or have the page sent again. The word is left as it came.";
+        "Read it the clean way, which undoes up to n - 1 symbols where no check hides the damage, or read the nearest codeword. Or have the page sent again. The word is left as it came.";
     Directions = 16, "directions",
         "Reading two wrong symbols: the shape has two directions, and two wrong symbols can't be told there.",
         "Read the word the clean way or by vote.";
     BeyondTwo = 17, "beyond two",
         "Reading two wrong symbols: no codeword differs from the word in at most two.",
-        "With n of 4 or more try another way, which may undo more. Otherwise have the page sent again. The word is left as it came.";
+        "With n of 4 or more read the nearest codeword, or try another way, which may undo more. Otherwise have the page sent again. The word is left as it came.";
     Slope = 18, "slope",
         "One of the first n - 1 slopes is not below q, or stands twice.",
         "Correct the slopes that were handed in.";

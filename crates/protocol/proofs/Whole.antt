@@ -490,7 +490,13 @@ part-as : {reader : Reader} {line ahead ahead′ wait wait′ input input′ out
 part-as a b (inl n) = inl n
 part-as a b (inr p) =
     inr (record {
-      blocks = p .blocks; text = p .text; final = p .final; buffer = p .buffer; rest = p .rest; run = p .run; begins = b ∙ p .begins;
+      blocks = p .blocks;
+      text = p .text;
+      final = p .final;
+      buffer = p .buffer;
+      rest = p .rest;
+      run = p .run;
+      begins = b ∙ p .begins;
       is = p .is ∙ ap (λ (x : List ℕ). x ++ p .text) a;
     })
 
@@ -501,7 +507,14 @@ part-after {reader} {line} {wait} {input} text (inl n) =
     inr (record { blocks = []; text = []; final = reader; buffer = line; rest = wait ++ input; run = None reader line; begins = refl; is = ap (λ (x : List ℕ). text ++ x) n })
 part-after text (inr p) =
     inr (record {
-      blocks = p .blocks; text = p .text; final = p .final; buffer = p .buffer; rest = p .rest; run = p .run; begins = p .begins; is = ap (λ (x : List ℕ). text ++ x) (p .is);
+      blocks = p .blocks;
+      text = p .text;
+      final = p .final;
+      buffer = p .buffer;
+      rest = p .rest;
+      run = p .run;
+      begins = p .begins;
+      is = ap (λ (x : List ℕ). text ++ x) (p .is);
     })
 
 last-broken : {c c₂ : Config} {input output input₂ : List ℕ} {well : Bool} → Run c input output well c₂ input₂ → well ≡ false → rank (c .state .action) ≡ 2
@@ -531,7 +544,11 @@ piece-part s block line out input reader reader′ size line′ out′ a inv tak
     let text = take (reader′ .at) out′ in
     let named = has-named inv (λ r. omega (arith, ap rank a)) in
     inr (record {
-      blocks = piece ∷ p .blocks; text = text ++ p .text; final = p .final; buffer = p .buffer; rest = p .rest;
+      blocks = piece ∷ p .blocks;
+      text = text ++ p .text;
+      final = p .final;
+      buffer = p .buffer;
+      rest = p .rest;
       run = Block reader reader′ (p .final) line line′ (p .buffer) piece text (p .text) (p .blocks) (record { out = out′; taken = taken; wrote = refl }) (p .run);
       begins =
           ap (λ (x : List ℕ). x ++ input) (split size (s .from) (take (s .count) block)) ∙ append-assoc piece (drop (s .from + size) (take (s .count) block)) input
@@ -587,6 +604,13 @@ unfolding begun
 broken-run {c} {input = input} run b =
     ⊎-elim (λ n. inl n)
     (λ p. inr (record {
-      blocks = p .blocks; text = p .text; last = p .final; buffer = p .buffer; rest = p .rest; run = p .run; begins = p .begins; is = p .is;
+      blocks = p .blocks;
+      text = p .text;
+      last = p .final;
+      buffer = p .buffer;
+      rest = p .rest;
+      run = p .run;
+      begins = p .begins;
+      is = p .is;
     }))
     (rw (b .state) at (breaks run refl (begin-inv input b)))
