@@ -3,7 +3,7 @@ use mathlib.Core.Path.{_≡_, refl, sym, _∙_}
 use mathlib.Core.Bool.{Bool, true, false, not}
 use mathlib.Core.List.{List}
 use mathlib.Core.Logic.{⊎-elim, _⊎_}
-use Prim.Native.Nat.{ℕ, _+_, _*_, _/_, _<_, _≤_}
+use Prim.Native.Nat.{ℕ, _+_, _-_, _*_, _/_, _<_, _≤_}
 use native.Mathlib.Nat.{mul-le-mul}
 use native.Mathlib.Omega.{arith}
 use lib.Dec.{eqb, ltb}
@@ -31,6 +31,7 @@ use Rattle.decoder.specs.Decode.{clean}
 use Rattle.decoder.proofs.Meaning.{decode-meets}
 use Rattle.majority.specs.Majority.{vote}
 use Rattle.double.specs.Double.{two}
+use Rattle.nearest.specs.Nearest.{nearest}
 use Rattle.erasure.specs.Fill.{fillStatus, FilledIn, NoWord, SeveralWords, Filling}
 use Rattle.page.specs.declared.PageRead.the-variants as page
 use Rattle.page.specs.Page.{pageOf}
@@ -127,6 +128,7 @@ no-refusal = record {
   clean = λ k. few clean Explains k (λ l u. omega arith);
   vote = λ {s = s} k. few vote (λ s. Near s (s .n / 2)) k (λ l u. omega arith);
   two = λ k. few two (λ s. Near s 2) k (λ l u. omega arith);
+  nearest = λ k. few nearest (λ s. Near s (s .n - 1)) k (λ l u. omega arith);
   filled = λ {s} {w} {places} {x} k f. fill-few k (fillStatus s w places x) refl f;
   page = page-few;
   wordBytes = λ s bytes k h.

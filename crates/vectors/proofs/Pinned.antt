@@ -118,4 +118,4 @@ unfolding scratchAfter
 scratch = record { kept = (refl, refl, refl, refl, refl); others = others; zeros = λ e xs h. rw h refl }
 
 pub refusals : Refusals
-refusals = record { clean = refl; vote = refl; two = refl }
+refusals = record { clean = refl; vote = refl; two = refl; nearest = refl }

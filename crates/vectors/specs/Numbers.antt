@@ -13,6 +13,7 @@ use Rattle.correction.specs.Answer.{decodedNumber}
 use Rattle.decoder.specs.Decode.{Decoding}
 use Rattle.majority.specs.Majority.{Voting}
 use Rattle.double.specs.Double.{ReadingTwo}
+use Rattle.nearest.specs.Nearest.{Restoring}
 use Rattle.erasure.specs.Fill.{Filling}
 use Rattle.page.specs.declared.PageRead.the-variants as page
 use Rattle.page.specs.Page.{pageOf, readNumber}
@@ -71,6 +72,7 @@ pub record NoRefusal : Type 0 where
   pub clean : {s : Shape} {w w′ : List ℕ} {r : Decoded} (k : ℕ) → Decoding s w w′ r → r ≡ decoded.Corrected k → k ≤ 7
   pub vote : {s : Shape} {w w′ : List ℕ} {r : Decoded} (k : ℕ) → Voting s w w′ r → r ≡ decoded.Corrected k → k ≤ 7
   pub two : {s : Shape} {w w′ : List ℕ} {r : Decoded} (k : ℕ) → ReadingTwo s w w′ r → r ≡ decoded.Corrected k → k ≤ 7
+  pub nearest : {s : Shape} {w w′ : List ℕ} {r : Decoded} (k : ℕ) → Restoring s w w′ r → r ≡ decoded.Corrected k → k ≤ 7
   pub filled : {s : Shape} {w places x w′ x′ : List ℕ} {r : Decoded} (k : ℕ) → Filling s w places x w′ x′ r → r ≡ decoded.Corrected k → k ≤ 961
   -- of the exported pair
   pub wordBytes : (s : Shape) (bytes : List ℕ) (k : ℕ) → wordOf s bytes ≡ decoded.Corrected k → k ≤ 7

@@ -19,6 +19,7 @@ use Rattle.decoder.specs.Decode.{clean, decodeOf}
 use Rattle.decoder.specs.Looking.{lookingOf}
 use Rattle.majority.specs.Majority.{vote, majorityOf}
 use Rattle.double.specs.Double.{two}
+use Rattle.nearest.specs.Nearest.{nearest}
 use Rattle.erasure.specs.Fill.{fillStatus}
 use Rattle.page.specs.declared.PageRead.the-variants as page
 use Rattle.page.specs.Page.{pageOf, writeStatus}
@@ -135,3 +136,4 @@ pub record Refusals : Type 0 where
   pub clean : clean .refusal ≡ Refusal.Uncorrectable
   pub vote : vote .refusal ≡ Refusal.NoMajority
   pub two : two .refusal ≡ Refusal.BeyondTwo
+  pub nearest : nearest .refusal ≡ Refusal.Far
