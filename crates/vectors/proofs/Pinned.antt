@@ -31,10 +31,11 @@ use Rattle.lines.specs.Text.{decimal, spell, sameBytes, outcomeName, outcomeTex
 use Rattle.lines.specs.Content.{valuesIn, contentOf}
 use Rattle.lines.specs.Content as content
 use Rattle.host.specs.Bytes.{symbolsOf, bytesOf}
+use Rattle.host.specs.Crossing.{shapeIn, shapeValues, sessionOf}
 use Rattle.judge.specs.Judge.{lineContent, passed, fault, judgedOf, start}
 use Rattle.capture.specs.Output.{outcomeLine}
 use Rattle.capture.specs.Feed.{feed, closing, outputOf}
-use Rattle.vectors.specs.Pinned.{Orders, Limits, Scratch, Refusals}
+use Rattle.vectors.specs.Pinned.{Orders, Limits, Scratch, Refusals, Layout}
 
 pub orders-of-tests : Orders
 unfolding shapeRefusal lawful regular sloped fitsSlope isOrder orders any all sessionStatus consistent pagesOf lowestOf bit sum count lowestNot countedOf billOf coverOf arrivalStatus isWay wayOf batchStatus lookingOf readOf narrow fillStatus rising scratchLength keptChecks verdictOf pageOf functions zeros writeStatus outcomeOf overflows countOf
@@ -119,3 +120,16 @@ scratch = record { kept = (refl, refl, refl, refl, refl); others = others; zeros
 
 pub refusals : Refusals
 refusals = record { clean = refl; vote = refl; two = refl; nearest = refl }
+
+pub layout : Layout
+unfolding shapeIn shapeValues sessionOf
+layout = record {
+  shape = refl;
+  values = refl;
+  held = λ v. refl;
+  pages = λ v. refl;
+  lowest = λ v. refl;
+  taken = λ v. refl;
+  calls = λ v. refl;
+  yes = (refl, refl, refl);
+}

@@ -1,10 +1,10 @@
 -- Definitions on examples (RULES 1 to 7): what a definition would get wrong if it and the code were wrong alike.
 use mathlib.Core.Path.{_≡_}
 use mathlib.Core.Bool.{true, false}
-use mathlib.Core.List.{List, [], _∷_}
+use mathlib.Core.List.{List, [], _∷_, map}
 use Prim.Native.Nat.{ℕ}
 use lib.Dec.{eqb}
-use lib.ListN.{length, getD, replicate}
+use lib.ListN.{length, getD, take, drop, replicate}
 use Rattle.parity.specs.Count.{any}
 use Rattle.parity.specs.Lists.{tabulate}
 use Rattle.gtb.specs.declared.Shape.{Shape}
@@ -38,6 +38,7 @@ use Rattle.verify.specs.Verify.{verdictOf}
 use Rattle.lines.specs.Text.{ascii}
 use Rattle.lines.specs.Content.{Spelled, Unreadable, contentOf}
 use Rattle.host.specs.Bytes.{symbolsOf, bytesOf}
+use Rattle.host.specs.Crossing.{shapeIn, shapeValues, isYes, sessionOf}
 use Rattle.judge.specs.Judge.{lineContent}
 use Rattle.capture.specs.Feed.{readLimit, outputOf}
 
@@ -137,3 +138,14 @@ pub record Refusals : Type 0 where
   pub vote : vote .refusal ≡ Refusal.NoMajority
   pub two : two .refusal ≡ Refusal.BeyondTwo
   pub nearest : nearest .refusal ≡ Refusal.Far
+
+-- how shapes and sessions cross to C (RULES 7.3): q, n, b and the slopes; pages taken and the lowest not taken; 1,024 marks, of which any but 0 is yes; 256 counts
+pub record Layout : Type 0 where
+  pub shape : shapeIn (17 ∷ 4 ∷ 32 ∷ 0 ∷ 1 ∷ 2 ∷ 3 ∷ 4 ∷ 5 ∷ 6 ∷ []) ≡ standard 17 4 32
+  pub values : shapeValues (standard 17 4 32) ≡ 17 ∷ 4 ∷ 32 ∷ 0 ∷ 1 ∷ 2 ∷ 3 ∷ 4 ∷ 5 ∷ 6 ∷ []
+  pub held : (v : List ℕ) → sessionOf v .shape ≡ shapeIn (take 10 v)
+  pub pages : (v : List ℕ) → sessionOf v .pages ≡ getD v 10 0
+  pub lowest : (v : List ℕ) → sessionOf v .lowest ≡ getD v 11 0
+  pub taken : (v : List ℕ) → sessionOf v .taken ≡ map isYes (take 1024 (drop 12 v))
+  pub calls : (v : List ℕ) → sessionOf v .calls ≡ drop 1036 v
+  pub yes : (isYes 0 ≡ false) × (isYes 1 ≡ true) × (isYes 2 ≡ true)
