@@ -67,7 +67,7 @@ refusals! {
         "Check b. If it is right, the line was damaged where the code does not reach: have the page sent again.";
     Uncorrectable = 4, "damage",
         "No unmasked damage to at most n - 1 symbols explains the word. (Unmasked damage is what the trade calls clean: no check hides it.)",
-        "Have the page sent again. The word is left as it came.";
+        "With the library read the nearest codeword, which undoes hidden damage too. Otherwise have the page sent again. The word is left as it came.";
     Page = 5, "page",
         "The page number is 1024 or more.",
         "The word is no page of this format: check the shape, then the sender.";
