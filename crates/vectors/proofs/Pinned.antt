@@ -132,4 +132,7 @@ layout = record {
   taken = λ v. refl;
   calls = λ v. refl;
   yes = (refl, refl, refl);
+  again = λ v σ p k. refl;
+  refused = λ v σ e. refl;
+  unmade = λ s v e. refl;
 }

@@ -39,6 +39,7 @@ use Rattle.lines.specs.Text.{ascii}
 use Rattle.lines.specs.Content.{Spelled, Unreadable, contentOf}
 use Rattle.host.specs.Bytes.{symbolsOf, bytesOf}
 use Rattle.host.specs.Crossing.{shapeIn, shapeValues, isYes, sessionOf}
+use Rattle.host.specs.Entries.{freshIn, sessionIn}
 use Rattle.judge.specs.Judge.{lineContent}
 use Rattle.capture.specs.Feed.{readLimit, outputOf}
 
@@ -149,3 +150,7 @@ pub record Layout : Type 0 where
   pub taken : (v : List ℕ) → sessionOf v .taken ≡ map isYes (take 1024 (drop 12 v))
   pub calls : (v : List ℕ) → sessionOf v .calls ≡ drop 1036 v
   pub yes : (isYes 0 ≡ false) × (isYes 1 ≡ true) × (isYes 2 ≡ true)
+  -- what is not taken leaves the values as they were, and so does a fresh session that is refused
+  pub again : (v : List ℕ) (σ : Session) (p k : ℕ) → sessionIn v σ (outcome.Again p k) ≡ v
+  pub refused : (v : List ℕ) (σ : Session) (e : Refusal) → sessionIn v σ (outcome.Refused e) ≡ v
+  pub unmade : (s : Shape) (v : List ℕ) (e : Refusal) → freshIn s v (Refused e) ≡ v
