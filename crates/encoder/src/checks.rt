@@ -1,13 +1,12 @@
 // The upper rows before they are interpolated: what each direction from 1 on shows of the rows that were put down.
 use crate::runs::join_run;
 use gtb::Shape;
+use syndrome::flat::is_flat;
 ghost use mathlib.Core.Path.{_≡_};
-ghost use mathlib.Core.Bool.{_&&_};
 ghost use Prim.Native.Nat.{_+_, _*_, _≤_};
-ghost use lib.Dec.{eqb};
 ghost use lib.ListN.{length};
 ghost use Rattle.parity.specs.Xor.{xorSum};
-ghost use Rattle.gtb.specs.Shape.{Lawful, wordLength, slopeOf};
+ghost use Rattle.gtb.specs.Shape.{Lawful, wordLength};
 ghost use Rattle.gtb.specs.Square.{at};
 ghost use Rattle.parity.specs.Lists.{Written};
 ghost use Rattle.encoder.specs.Steps.{Raised};
@@ -42,17 +41,6 @@ fn stack(word: &mut [u32], q: usize)
     }
 }
 
-// One upper row, whose direction goes straight down: it shows the columns.
-fn is_flat(shape: Shape) -> bool
-    requires { ⌜ Lawful shape ⌝ }
-    ensures { λ r. ⌜ r ≡ (eqb (shape .n) 2 && eqb (slopeOf shape 1) 0) ⌝ }
-{
-    if shape.n != 2 {
-        return false;
-    }
-    gtb::slope(shape, 1) == 0
-}
-
 // By the values of all checks.
 fn copy_checks(shape: Shape, word: &mut [u32])
     requires { ⌜ (Lawful shape) × (length (now word) ≡ wordLength shape) ⌝ }
@@ -65,7 +53,7 @@ fn copy_checks(shape: Shape, word: &mut [u32])
     gtb::copy_run(word, &syn, 0, q, m * q);
 }
 
-// A flat shape needs no rotated rows.
+// A flat shape has one upper row, which is the sum of the columns.
 pub fn raise(shape: Shape, word: &mut [u32])
     requires { ⌜ (Lawful shape) × (length (now word) ≡ wordLength shape) ⌝ }
     ensures { λ _. ⌜ Raised shape (now (word .entry)) (now (word .exit)) ⌝ }

@@ -1,3 +1,4 @@
 pub mod Sweeps
 pub mod Directions
 pub mod Doubles
+pub mod Flats

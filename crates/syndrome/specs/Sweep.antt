@@ -1,12 +1,19 @@
 -- What the steps of the syndromes' computation do: symbols of a word are XORed onto a stretch of entries, or laid down twice.
 use mathlib.Core.Path.{_≡_}
+use mathlib.Core.Bool.{Bool, _&&_}
 use mathlib.Core.List.{List}
 use Prim.Native.Nat.{ℕ, _+_, _*_, _≤_, _<_}
+use lib.Dec.{eqb}
 use lib.ListN.{length}
 use Rattle.parity.specs.Xor.{_⊕_}
 use Rattle.parity.specs.Lists.{at, Written}
 use Rattle.gtb.specs.declared.Shape.{Shape}
+use Rattle.gtb.specs.Shape.{slopeOf}
 use Rattle.gtb.specs.Square.{syndrome}
+
+-- two directions, the second of slope 0: its lines are the columns
+unfoldable pub isFlat : Shape → Bool
+isFlat s = eqb (s .n) 2 && eqb (slopeOf s 1) 0
 
 -- f 0 .. f (count - 1) are XORed onto the entries from base on; the other entries stay
 abbrev pub Added : ℕ → ℕ → (ℕ → ℕ) → List ℕ → List ℕ → Type 0

@@ -1,5 +1,6 @@
 // The syndromes of a word.
 mod doubled;
+pub mod flat;
 mod literal;
 
 use gtb::Shape;
@@ -24,8 +25,8 @@ pub fn run_sum(values: &[u32], from: usize, count: usize) -> u32
 }
 
 // The entries from `to` on take up `count` symbols of the word, from place `from` on.
-fn add_run(syn: &mut [u32; 248], word: &[u32], to: usize, from: usize, count: usize)
-    requires { ⌜ (length (now syn) ≡ 248) × (to + count ≤ 248) × (from + count ≤ length (now word)) ⌝ }
+fn add_run(syn: &mut [u32], word: &[u32], to: usize, from: usize, count: usize)
+    requires { ⌜ (to + count ≤ length (now syn)) × (from + count ≤ length (now word)) ⌝ }
     ensures { λ _. ⌜ Added to count (λ i. at (now (word .entry)) (from + i)) (now (syn .entry)) (now (syn .exit)) ⌝ }
 {
     for i in 0..count {
@@ -48,6 +49,10 @@ pub fn fill(shape: Shape, word: &[u32], syn: &mut [u32; 248])
     requires { ⌜ (Lawful shape) × (length (now word) ≡ wordLength shape) × (now syn ≡ replicate 248 0) ⌝ }
     ensures { λ _. ⌜ Syndromes shape (now (word .entry)) (now (syn .exit)) ⌝ }
 {
+    if flat::is_flat(shape) {
+        flat::fill_flat(shape, word, syn);
+        return;
+    }
     let q = shape.q;
     match q {
         3 => literal::fill_3(shape, word, syn),

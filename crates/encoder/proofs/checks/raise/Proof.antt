@@ -1,13 +1,9 @@
 -- `encoder::checks::raise` meets its contract.
-use mathlib.Core.Path.{_≡_, sym, _∙_}
-use mathlib.Core.Bool.{true, _&&_}
+use mathlib.Core.Path.{sym, _∙_}
 use native.Mathlib.Omega.{arith}
-use lib.Dec.{eqb}
 use borrow.Author.Needs.{needs}
-use borrow.Author.Tests.{eqb-true}
-use Rattle.parity.proofs.Tests.{and-left, and-right}
-use Rattle.gtb.specs.Shape.{slopeOf}
 use Rattle.gtb.proofs.Bounds.{bounds}
+use Rattle.syndrome.proofs.Flats.{flat-two, flat-slope}
 use Rattle.encoder.proofs.Upper.{raised-stacked}
 use Rattle.encoder.proofs.checks.raise.Statement.{statement}
 use Rattle.encoder.proofs.checks.raise.Tie as tie
@@ -21,10 +17,8 @@ stack-requires c κs =
 returns : tie.Need-returns
 returns c =
     let st = c .before .before .before .before .before .before .before .before in
-    let s = st .args .shape in
-    let flat : (eqb (s .n) 2 && eqb (slopeOf s 1) 0) ≡ true = sym (c .before .before .before .before .before .before .is-flat .ensures) ∙ c .before .before .before .before .before .if1 .taken in
-    raised-stacked _ (st .pre .0) _ _ (eqb-true _ _ (and-left (eqb (s .n) 2) (eqb (slopeOf s 1) 0) flat))
-    (eqb-true _ _ (and-right (eqb (s .n) 2) (eqb (slopeOf s 1) 0) flat)) (c .before .before .stack .ensures)
+    let flat = sym (c .before .before .before .before .before .before .is-flat .ensures) ∙ c .before .before .before .before .before .if1 .taken in
+    raised-stacked _ (st .pre .0) _ _ (flat-two _ flat) (flat-slope _ flat) (c .before .before .stack .ensures)
 
 pub raise-spec : {M : Type 1} → statement M
 raise-spec = tie.close (tie.spec (λ c κs. search needs) (λ c. search needs) stack-requires (λ c. search needs) returns (λ c κs. search needs) (λ c. search needs) (λ c. c .before .before .copy-checks .ensures))

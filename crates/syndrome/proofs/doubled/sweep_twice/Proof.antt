@@ -34,7 +34,7 @@ run-small c = omega (arith, run-in c, doubled-small (c .before .before .before .
 add-run-requires : tie.Need-add-run-requires Inv-loop μ-loop
 add-run-requires c κs =
     let s = c .before .before .before .before in
-    (c .before .before .loop .inv .2 .size ∙ s .pre .0, s .pre .1, omega (arith, run-in (c .before), s .pre .2))
+    (omega (arith, c .before .before .loop .inv .2 .size ∙ s .pre .0, s .pre .1), omega (arith, run-in (c .before), s .pre .2))
 
 add-mod-requires : tie.Need-add-mod-requires Inv-loop μ-loop
 add-mod-requires c κs = (turn-lt _ _ _ _ (c .before .before .before .loop .inv .1) (c .before .before .loop-test .taken), search needs, search needs)
