@@ -4,5 +4,6 @@ pub mod Pairs
 pub mod Standards
 pub mod Crossings
 pub mod Answers
+pub mod Room
 pub mod Values
 pub mod Boundary

@@ -18,10 +18,9 @@ pub record AtValues (values : List ℕ) (Promise : Session → Arrived → Type 
   pub holds : Promise (sessionOf values) (record { session = after; outcome = r })
   pub left : values′ ≡ sessionIn values after r
 
--- past all tests: the session, its shape, the word and the copy of it fit
-pub record Fitting (values : List ℕ) (s : Shape) (way : ℕ) (word came : List ℕ) : Type 0 where
+-- past all tests: the session, its shape and the word fit
+pub record Fitting (values : List ℕ) (s : Shape) (way : ℕ) (word : List ℕ) : Type 0 where
   pub size : length values ≡ 1292
   pub shape : sessionOf values .shape ≡ s
   pub admitted : Admitted (sessionOf values) way
   pub wordSize : length word ≡ wordLength s
-  pub copySize : length came ≡ length word

@@ -1,17 +1,17 @@
 -- `host::arrival::arrive` meets its contract: the tests turn down as they do in what is presented, and past them both steps are an arrival.
 use mathlib.Core.Path.{_≡_, refl, sym, ap, _∙_}
-use Prim.Native.Nat.{_≤_}
+use Prim.Native.Nat.{ℕ}
 use native.Mathlib.Omega.{arith}
-use lib.ListN.{length}
+use lib.ListN.{length, replicate}
 use lib.Seq.{length-take-le}
 use borrow.Author.Needs.{needs}
 use Rattle.gtb.specs.declared.Shape.{Shape}
 use Rattle.gtb.specs.Shape.{Lawful, wordLength, scratchLength}
-use Rattle.gtb.proofs.Sizes.{sizes}
 use Rattle.session.specs.Arrival.{theWays}
 use Rattle.session.specs.Steps.{Admitted}
 use Rattle.session.proofs.Arrive.{length-scratch, admitted, arriving-refused, arriving-bad, step-arrives, settled-word, settled-scratch, settled-both}
 use Rattle.host.specs.Crossing.{sessionOf}
+use Rattle.host.specs.Steps.{Fitting}
 use Rattle.host.proofs.Answers.{at-refused, at-other}
 use Rattle.host.proofs.arrival.arrive.Statement.{statement}
 use Rattle.host.proofs.arrival.arrive.Tie as tie
@@ -37,10 +37,6 @@ legal c = rw (same (loaded c)) at (passed c .lawful)
 -- the place where the word's length was tested
 abbrev asked : tie.Else2 → tie.Else1
 asked c = c .before .before
-
--- the copy has room
-room : (c : tie.Else1) → c .before .word-length .result ≤ 961
-room c = omega (arith, c .before .word-length .ensures, sizes _ (legal (c .before .before)) .word)
 
 slice-aggregate-load-shape : tie.Need-slice-aggregate-load-shape
 slice-aggregate-load-shape c =
@@ -74,33 +70,36 @@ returns-3 c =
     (step-arrives theWays _ _ (passed told .consistent)
     (arriving-bad (settled-scratch (passed told) _ _ (sized tested) (λ e. c .if2 .taken (e ∙ ap (λ (s : Shape). scratchLength s) (same (loaded told)) ∙ sym (c .before .scratch-length .ensures)))) length-scratch (refl, refl)))
 
--- the place where the scratch was cleared
-abbrev cleared : tie.After-take-word-arg2 → tie.After-clear
-cleared c = c .before .before .before .before
-
-take-word-requires : tie.Need-take-word-requires
-take-word-requires c κs =
-    let tested = asked (cleared (c .before) .before .before) in
+-- past all tests
+fitting : (c : tie.Else2) → let told = asked c .before .before in let start = start (loaded told) in Fitting (start .args .session .now) (loaded told .load-shape .result) (start .args .way) (start .args .word .now)
+fitting c =
+    let tested = asked c in
     let told = tested .before .before in
     record {
       size = start (loaded told) .pre;
       shape = same (loaded told);
       admitted = passed told;
       wordSize = tested .if1 .left ∙ tested .before .word-length .ensures;
-      copySize = length-take-le _ _ (room tested) ∙ sym (tested .if1 .left);
     }
+
+take-kept-requires : tie.Need-take-kept-requires
+take-kept-requires c κs =
+    let tests = c .before .before .before in
+    (fitting tests, tests .if2 .left ∙ tests .before .scratch-length .ensures)
 
 returns-4 : tie.Need-returns-4
 returns-4 c =
-    let taken = c .before .before .before .before .before in
-    let scratch = cleared (taken .before .before) in
-    let tested = asked (scratch .before .before) in
+    let scratch = c .before .before in
+    let taken = scratch .before .before .before .before .before .before .before .before in
+    let tests = taken .before .before .before .before in
+    let tested = asked tests in
     let told = tested .before .before in
-    at-other (taken .take-word .ensures)
+    at-other (taken .take-kept .ensures)
     (λ a decides _.
     step-arrives theWays _ _ (passed told .consistent)
     (settled-both (passed told) _ _ (sized tested)
-    (scratch .before .before .if2 .left ∙ scratch .before .before .before .scratch-length .ensures ∙ ap (λ (s : Shape). scratchLength s) (sym (same (loaded told)))) (scratch .clear .ensures) decides))
+    (tests .if2 .left ∙ tests .before .scratch-length .ensures ∙ ap (λ (s : Shape). scratchLength s) (sym (same (loaded told))))
+    (scratch .clear .ensures ∙ ap (λ (k : ℕ). replicate k 0) (taken .take-kept .kept .1 .1 .1 .1 .0)) decides))
 
 pub arrive-spec : {M : Type 1} → statement M
-arrive-spec = tie.close (tie.spec (λ c. search needs) slice-aggregate-load-shape load-shape-requires (λ c κs. (start (c .before) .pre, same (c .before))) (λ c. search needs) (λ c. search needs) returns (λ c. search needs) (λ c κs. legal c) (λ c. search needs) returns-2 (λ c κs. legal (c .before .before)) (λ c. search needs) returns-3 (λ c κs. search needs) (λ c. room (asked (cleared c .before .before))) (λ c. sym (length-take-le _ _ (room (asked (cleared (c .before) .before .before))))) take-word-requires (λ c. search needs) (λ c. search needs) (λ c. search needs) returns-4)
+arrive-spec = tie.close (tie.spec (λ c. search needs) slice-aggregate-load-shape load-shape-requires (λ c κs. (start (c .before) .pre, same (c .before))) (λ c. search needs) (λ c. search needs) returns (λ c. search needs) (λ c κs. legal c) (λ c. search needs) returns-2 (λ c κs. legal (c .before .before)) (λ c. search needs) returns-3 take-kept-requires (λ c κs. search needs) (λ c. search needs) (λ c. search needs) (λ c. search needs) returns-4)

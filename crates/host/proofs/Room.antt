@@ -1,0 +1,34 @@
+-- Where what came is kept: a scratch that is shorter than the word is that of a small order.
+use mathlib.Core.Path.{_≡_}
+use mathlib.Core.Bool.{true}
+use Prim.Native.Nat.{ℕ, _+_, _-_, _*_, _/_, _<_, _≤_}
+use native.Mathlib.Nat.{le-trans, mul-le-mul, mul-le-mul-right}
+use native.Mathlib.Omega.{arith}
+use Rattle.gtb.specs.declared.Shape.{Shape}
+use Rattle.gtb.specs.Shape.{isOrder, Lawful, wordLength, keptChecks, scratchLength}
+use Rattle.gtb.proofs.Orders.{order-rule}
+use Rattle.gtb.proofs.Bounds.{bounds}
+use Rattle.gtb.proofs.Sizes.{checks-parts}
+
+-- after 13 the next order is 17
+next-order : (q : ℕ) → isOrder q ≡ true → 13 < q → 17 ≤ q
+next-order q o h =
+    let rule = order-rule q o in
+    let no15 = rule .prime 3 (omega arith) (omega arith) in
+    omega (arith, rule .odd, no15)
+
+-- from 17 on there are 32 kept checks or more, and so as many values as bits of a row
+long-enough : (s : Shape) → Lawful s → 17 ≤ s .q → wordLength s ≤ scratchLength s
+unfolding scratchLength keptChecks
+long-enough s h big =
+    let own : 2 * 16 ≤ s .n * (s .q - 1) = mul-le-mul {n₁ = 2} {m₁ = 16} (bounds s h .n2) (omega arith) in
+    let rows : 32 * ((s .q * s .q + 31) / 32) ≤ keptChecks s * ((s .q * s .q + 31) / 32) = mul-le-mul-right _ (omega (arith, checks-parts s h)) in
+    le-trans (omega arith) rows
+
+small-order : (s : Shape) → Lawful s → scratchLength s < wordLength s → 13 < s .q → ⊥
+small-order s h short big = omega (arith, long-enough s h (next-order (s .q) (bounds s h .listed) big))
+
+pub short-scratch : (s : Shape) → Lawful s → scratchLength s < wordLength s → wordLength s ≤ 169
+short-scratch s h short =
+    let small : s .q ≤ 13 = omega (arith, small-order s h short) in
+    mul-le-mul {n₂ = 13} {m₂ = 13} small small
