@@ -19,7 +19,7 @@ use session::way::suits;
 ghost use mathlib.Core.Path.{_≡_};
 ghost use Prim.Native.Nat.{_<_};
 ghost use lib.ListN.{length};
-ghost use Rattle.gtb.specs.Shape.{Lawful, wordLength, scratchLength};
+ghost use Rattle.gtb.specs.Shape.{Lawful, wordLength, infoLength, scratchLength};
 ghost use Rattle.session.specs.Session.{Consistent};
 ghost use Rattle.session.specs.Arrival.{wayOf, theWays, Opened, openWord, arrivalStatus, Arriving};
 ghost use Rattle.session.specs.Steps.{Functions, Settling, Deciding};
@@ -28,6 +28,9 @@ ghost use Rattle.host.specs.Steps.{AtValues, Fitting};
 
 // The symbols of a word that can be longer than its scratch: orders up to 13.
 const FEW: usize = 169;
+
+// The data symbols of orders up to 19: an array for those of every order is longer to clear than they are to gather.
+const SHORT: usize = 324;
 
 // Tests 1, 18, 11 and 16, for arrivals that name this way.
 fn status(session: &[u32], shape: Shape, way: u32) -> Status
@@ -62,14 +65,18 @@ fn take_page(session: &mut [u32], number: u32, corrected: u32, marks: &[u32]) ->
     outcome
 }
 
-// The page in a word that was read. One that is marked is answered with the marks where they lie.
-fn settle_page(session: &mut [u32], shape: Shape, word: &[u32], corrected: u32) -> Outcome
-    requires { ⌜ (length (now session) ≡ 1292) × Consistent (sessionOf (now session)) × Lawful shape × (length (now word) ≡ wordLength shape) ⌝ }
+// The page in a word that was read; its data symbols go into an array of their number. One that is marked is answered with the marks where they lie.
+fn settle_in(
+    session: &mut [u32],
+    shape: Shape,
+    word: &[u32],
+    symbols: &mut [u32],
+    corrected: u32,
+) -> Outcome
+    requires { ⌜ (length (now session) ≡ 1292) × Consistent (sessionOf (now session)) × Lawful shape × (length (now word) ≡ wordLength shape) × (length (now symbols) ≡ infoLength shape) ⌝ }
     ensures { λ r. ⌜ AtValues (now (session .entry)) (λ σ a. Settling σ (openWord shape (now (word .entry)) (Decoded.Corrected corrected)) a) (now (session .exit)) r ⌝ }
 {
-    let mut symbols = [0u32; 900];
-    let size = info_length(shape);
-    match find_page(shape, word, &mut symbols[..size], corrected) {
+    match find_page(shape, word, symbols, corrected) {
         Opening::Refused(e) => Outcome::Refused(e),
         Opening::Page(number, count, changed) => {
             let at = 12 + number as usize;
@@ -80,6 +87,20 @@ fn settle_page(session: &mut [u32], shape: Shape, word: &[u32], corrected: u32) 
             take_page(session, number, changed, &symbols[2..end])
         }
     }
+}
+
+// The same with an array of its own, a short one where that has room.
+fn settle_page(session: &mut [u32], shape: Shape, word: &[u32], corrected: u32) -> Outcome
+    requires { ⌜ (length (now session) ≡ 1292) × Consistent (sessionOf (now session)) × Lawful shape × (length (now word) ≡ wordLength shape) ⌝ }
+    ensures { λ r. ⌜ AtValues (now (session .entry)) (λ σ a. Settling σ (openWord shape (now (word .entry)) (Decoded.Corrected corrected)) a) (now (session .exit)) r ⌝ }
+{
+    let size = info_length(shape);
+    if size <= SHORT {
+        let mut short = [0u32; SHORT];
+        return settle_in(session, shape, word, &mut short[..size], corrected);
+    }
+    let mut symbols = [0u32; 900];
+    settle_in(session, shape, word, &mut symbols[..size], corrected)
 }
 
 // Both steps. The word is read where it lies, and what came is put back where its page is refused.
