@@ -9,16 +9,16 @@ ghost use Rattle.parity.specs.Count.{count};
 ghost use Rattle.session.specs.Session.{marked, pagesOf, lowestOf};
 ghost use Rattle.host.specs.Crossing.{isYes};
 
-// How many marks from one number on and below another are yes. The loop has no early exit, so that many are counted at once.
-fn marked_in(marks: &[u32], from: usize, to: usize) -> u32
+// How many marks from one number on and below another are no. The loop has no early exit, so that many are counted at once; and a comparison with 0 is what is added up, where one for yes would have to be turned round first.
+fn unmarked_in(marks: &[u32], from: usize, to: usize) -> u32
     requires { ⌜ (from ≤ to) × (to ≤ 1024) × (length (now marks) ≡ 1024) ⌝ }
-    ensures { λ r. ⌜ r ≡ count (to - from) (λ i. marked (map isYes (now (marks .entry))) (from + i)) ⌝ }
+    ensures { λ r. ⌜ r + count (to - from) (λ i. marked (map isYes (now (marks .entry))) (from + i)) ≡ to - from ⌝ }
 {
-    let mut pages = 0u32;
+    let mut unmarked = 0u32;
     for i in from..to {
-        pages += (marks[i] != 0) as u32;
+        unmarked += (marks[i] == 0) as u32;
     }
-    pages
+    unmarked
 }
 
 // Both figures are what the marks say. Each mark is looked at once.
@@ -30,12 +30,12 @@ pub fn agree(marks: &[u32], pages: u32, lowest: u32) -> bool
         return false;
     }
     let at = lowest as usize;
-    let below = marked_in(marks, 0, at);
-    if below != lowest {
+    let below = unmarked_in(marks, 0, at);
+    if below != 0 {
         return false;
     }
-    let above = marked_in(marks, at, 1024);
-    if below + above != pages {
+    let above = unmarked_in(marks, at, 1024);
+    if 1024 - above != pages {
         return false;
     }
     at == 1024 || marks[at] == 0

@@ -9,7 +9,7 @@ use lib.Dec.{eqb}
 use lib.ListN.{getD, List·getD-map}
 use borrow.Author.Tests.{eq-eqb}
 use Rattle.parity.specs.Count.{count}
-use Rattle.parity.proofs.Sums.{count-zero, count-bound}
+use Rattle.parity.proofs.Sums.{count-zero}
 use Rattle.parity.proofs.Lowest.{full-count}
 use Rattle.session.specs.Session.{marked, pagesOf}
 use Rattle.session.proofs.Progress.{piece-more, lowest-found, lowest-facts, lowest-full, pages-differ, lowest-differs, both-agree, last-test}
@@ -23,17 +23,22 @@ marksAt c = map isYes (c .before .before .args .marks .now)
 abbrev lowestAt : tie.Else1 → ℕ
 lowestAt c = c .before .before .args .lowest
 
--- as many as are marked below the lowest number
-below : (c : tie.After-marked-in) → c .marked-in .result ≡ count (lowestAt (c .before)) (marked (marksAt (c .before)))
+-- as many as are not marked below the lowest number
+below : (c : tie.After-unmarked-in) → c .unmarked-in .result + count (lowestAt (c .before)) (marked (marksAt (c .before))) ≡ lowestAt (c .before)
 below c =
     let taken = marksAt (c .before) in
-    omega (arith, c .marked-in .ensures, piece-more taken 0 (lowestAt (c .before)) zero-le, count-zero (marked taken))
+    omega (arith, c .unmarked-in .ensures, piece-more taken 0 (lowestAt (c .before)) zero-le, count-zero (marked taken))
 
--- and all together
-both : (c : tie.After-marked-in2) → c .before .before .marked-in .result + c .marked-in2 .result ≡ count 1024 (marked (marksAt (c .before .before .before)))
+-- past the test all below it are taken
+full : (c : tie.Else2) → count (lowestAt (c .before .before)) (marked (marksAt (c .before .before))) ≡ lowestAt (c .before .before)
+full c = omega (arith, below (c .before), c .if2 .left)
+
+-- those that are not marked, and all that are
+both : (c : tie.After-unmarked-in2) → c .unmarked-in2 .result + count 1024 (marked (marksAt (c .before .before .before))) ≡ 1024
 both c =
-    let taken = marksAt (c .before .before .before) in
-    omega (arith, below (c .before .before), c .marked-in2 .ensures, piece-more taken (lowestAt (c .before .before .before)) 1024 (c .before .before .before .if1 .left))
+    let begun = c .before .before .before in
+    let taken = marksAt begun in
+    omega (arith, full (c .before), c .unmarked-in2 .ensures, begun .if1 .left, piece-more taken (lowestAt begun) 1024 (begun .if1 .left))
 
 returns : tie.Need-returns
 returns c =
@@ -41,22 +46,19 @@ returns c =
     lowest-differs taken _ _ (λ e. omega (arith, e, c .if1 .taken, lowest-facts taken .upto))
 
 returns-2 : tie.Need-returns-2
-returns-2 c = lowest-differs (marksAt (c .before .before)) _ _ (λ e. c .if2 .taken (below (c .before) ∙ lowest-full (marksAt (c .before .before)) _ e))
+returns-2 c = let taken = marksAt (c .before .before) in lowest-differs taken _ _ (λ e. c .if2 .taken (omega (arith, below (c .before), lowest-full taken _ e)))
 
-add-if3 : tie.Need-add-if3
-add-if3 c = omega (arith, both c, count-bound 1024 (marked (marksAt (c .before .before .before))))
+sub-if3 : tie.Need-sub-if3
+sub-if3 c = omega (arith, both c)
 
 returns-3 : tie.Need-returns-3
 unfolding pagesOf
-returns-3 c = pages-differ (marksAt (c .before .before .before .before)) _ _ (λ e. c .if3 .taken (both (c .before) ∙ sym e))
+returns-3 c = pages-differ (marksAt (c .before .before .before .before)) _ _ (λ e. c .if3 .taken (omega (arith, both (c .before), e)))
 
--- past these tests the number of pages is right, and all below the lowest number are taken
+-- past these tests the number of pages is right
 right : (c : tie.Else3) → c .before .before .before .before .before .before .args .pages ≡ pagesOf (marksAt (c .before .before .before .before))
 unfolding pagesOf
-right c = sym (c .if3 .left) ∙ both (c .before)
-
-full : (c : tie.Else2) → count (lowestAt (c .before .before)) (marked (marksAt (c .before .before))) ≡ lowestAt (c .before .before)
-full c = sym (below (c .before)) ∙ c .if2 .left
+right c = omega (arith, c .if3 .left, both (c .before))
 
 -- the place looked at last
 last : (c : tie.Else4) → lowestAt (c .before .before .before .before .before) < 1024
@@ -79,4 +81,4 @@ returns-5 c =
     ∙ last-test (marksAt begun) _ _ (right (c .before .before)) (last (c .before)) (full tested)
 
 pub agree-spec : {M : Type 1} → statement M
-agree-spec = tie.close (tie.spec returns (λ c κs. (zero-le, c .if1 .left, c .before .before .pre)) returns-2 (λ c κs. (c .before .before .if1 .left, le-refl 1024, c .before .before .before .before .pre)) add-if3 returns-3 (λ c. omega (arith, last c)) (λ c. omega (arith, last (c .before), c .before .before .before .before .before .before .before .before .pre)) returns-4 returns-5)
+agree-spec = tie.close (tie.spec returns (λ c κs. (zero-le, c .if1 .left, c .before .before .pre)) returns-2 (λ c κs. (c .before .before .if1 .left, le-refl 1024, c .before .before .before .before .pre)) sub-if3 returns-3 (λ c. omega (arith, last c)) (λ c. omega (arith, last (c .before), c .before .before .before .before .before .before .before .before .pre)) returns-4 returns-5)
