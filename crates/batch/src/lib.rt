@@ -2,11 +2,15 @@
 use gtb::Refusal;
 use gtb::Shape;
 use gtb::Status;
+use gtb::size::info_length;
 use gtb::size::scratch_length;
 use gtb::size::word_length;
 use session::Session;
+use session::held::take_word;
+use session::held::whole;
 ghost use mathlib.Core.Path.{_≡_};
-ghost use Rattle.gtb.specs.Shape.{Lawful};
+ghost use lib.ListN.{length};
+ghost use Rattle.gtb.specs.Shape.{Lawful, wordLength, infoLength};
 ghost use Rattle.batch.specs.Batch.{wholeRun, allFit, batchStatus, Arrivals, Batching};
 ghost use Rattle.batch.specs.Steps.{Tested, Ready, OneArrival};
 
@@ -67,23 +71,63 @@ fn judge(session: Session, way: u32, words: &[u32], scratch: &[u32], outcomes: &
 
 // One word of the run, past all tests of the call.
 fn arrive_one(
-    session: Session,
+    taken: &mut [bool; Session::PAGES],
+    calls: &mut [u32; Session::FUNCTIONS],
+    shape: Shape,
     way: u32,
     word: &mut [u32],
-    scratch: &mut [u32],
+    came: &mut [u32],
+    symbols: &mut [u32],
     values: &mut [u32],
-) -> Session
-    requires { ⌜ Ready session way (now word) (now scratch) (now values) ⌝ }
-    ensures { λ r. ⌜ OneArrival session way (now (word .entry)) (now (scratch .entry)) (now (word .exit)) (now (scratch .exit)) (now (values .exit)) r ⌝ }
+)
+    requires { ⌜ Ready shape way (now taken) (now calls) (now word) (now came) (now symbols) (now values) ⌝ }
+    ensures { λ _. ⌜ OneArrival shape way (now (taken .entry)) (now (calls .entry)) (now (word .entry)) (now (taken .exit)) (now (calls .exit)) (now (word .exit)) (now (values .exit)) ⌝ }
 {
-    let arrived = session.settle_word(way, word, scratch);
-    let outcome = arrived.outcome;
+    let outcome = take_word(taken, calls, shape, way, word, came, symbols);
     let three = session::number::outcome(outcome);
     gtb::copy(&three, values);
-    arrived.session
 }
 
-// The run word by word, first word first. A refused word keeps its digits, and the others go on.
+// The run word by word, first word first. A refused word keeps its digits, and the others go on. Room for a word and for its symbols is lent, so that it is made once.
+fn run(
+    session: Session,
+    way: u32,
+    words: &mut [u32],
+    scratch: &mut [u32],
+    outcomes: &mut [u32],
+    came: &mut [u32],
+    symbols: &mut [u32],
+) -> Session
+    requires { ⌜ Tested session way (now words) (now scratch) (now outcomes) × (length (now came) ≡ wordLength (session .shape)) × (length (now symbols) ≡ infoLength (session .shape)) ⌝ }
+    ensures { λ r. ⌜ Arrivals session way (now (words .entry)) (now (scratch .entry)) (now (words .exit)) (now (scratch .exit)) (now (outcomes .exit)) r ⌝ }
+{
+    let shape = session.shape;
+    let size = came.len();
+    let count = words.len() / size;
+    gtb::clear(outcomes);
+    let mut taken = session.taken;
+    let mut calls = session.calls;
+    for i in 0..count {
+        let from = i * size;
+        let end = from + size;
+        let at = 3 * i;
+        let next = at + 3;
+        arrive_one(
+            &mut taken,
+            &mut calls,
+            shape,
+            way,
+            &mut words[from..end],
+            came,
+            symbols,
+            &mut outcomes[at..next],
+        );
+    }
+    gtb::clear(scratch);
+    whole(shape, taken, calls, session.lowest)
+}
+
+// The run, past all tests of the call.
 fn deliver(
     session: Session,
     way: u32,
@@ -94,24 +138,20 @@ fn deliver(
     requires { ⌜ Tested session way (now words) (now scratch) (now outcomes) ⌝ }
     ensures { λ r. ⌜ Arrivals session way (now (words .entry)) (now (scratch .entry)) (now (words .exit)) (now (scratch .exit)) (now (outcomes .exit)) r ⌝ }
 {
-    let size = word_length(session.shape);
-    let count = words.len() / size;
-    gtb::clear(outcomes);
-    let mut held = session;
-    for i in 0..count {
-        let from = i * size;
-        let end = from + size;
-        let at = 3 * i;
-        let next = at + 3;
-        held = arrive_one(
-            held,
-            way,
-            &mut words[from..end],
-            scratch,
-            &mut outcomes[at..next],
-        );
-    }
-    held
+    let shape = session.shape;
+    let size = word_length(shape);
+    let info = info_length(shape);
+    let mut came = [0u32; 961];
+    let mut symbols = [0u32; 900];
+    run(
+        session,
+        way,
+        words,
+        scratch,
+        outcomes,
+        &mut came[..size],
+        &mut symbols[..info],
+    )
 }
 
 // A run of words that arrive side by side, all read one way. A refusal is of the whole call and changes nothing; a word's own answer goes to the list of outcomes.

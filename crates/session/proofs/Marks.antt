@@ -144,6 +144,9 @@ pub turn-none : {calls marks : List ℕ} → Counts calls → Functions marks �
 turn-none {calls} h small = record { upto = zero-le; sums = added-none calls (h .size); below = h .below; small = small }
 
 module _ {calls marks calls′ : List ℕ} {i : ℕ} (h : Turn calls marks calls′ i) where
+  turn-counts : Counts calls′
+  turn-counts = record { size = ap length (h .sums) ∙ added-size calls (take i marks); below = h .below }
+
   pub turn-more : i < length marks → getD calls′ (getD marks i 0) 0 + bit (isCall (getD marks i 0)) < 2 ^ 32
       → Turn calls marks (set calls′ (getD marks i 0) (getD calls′ (getD marks i 0) 0 + bit (isCall (getD marks i 0)))) (i + 1)
   turn-more l fits =
@@ -160,6 +163,7 @@ module _ {calls marks calls′ : List ℕ} {i : ℕ} (h : Turn calls marks calls
   turn-full l full = record {
     fits = sym (ap not (passes calls marks i l (h .small .below i l) (rw (h .sums) at full)));
     sums = λ t. absurd (clash t refl);
+    counts = turn-counts;
   }
 
   pub turn-all : length marks ≤ i → Adding calls marks calls′ true
@@ -168,4 +172,5 @@ module _ {calls marks calls′ : List ℕ} {i : ℕ} (h : Turn calls marks calls
       record {
         fits = sym (ap not (passes-none calls marks (λ f. subst (λ (xs : List ℕ). getD xs f 0 < 2 ^ 32) whole (h .below f))));
         sums = λ t. whole;
+        counts = turn-counts;
       }

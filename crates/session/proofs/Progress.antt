@@ -19,7 +19,7 @@ use Rattle.parity.proofs.Pigeon.{count-others}
 use Rattle.parity.proofs.Lowest.{Lowest, lowest-is, lowest-right, full-count}
 use Rattle.gtb.specs.declared.Shape.{Shape}
 use Rattle.session.specs.declared.Session.{Session}
-use Rattle.session.specs.Session.{marked, pagesOf, lowestOf, consistent, Consistent, freshOf, recorded}
+use Rattle.session.specs.Session.{marked, pagesOf, lowestOf, consistent, Consistent, freshOf, added, figured, recorded}
 use Rattle.session.specs.declared.Outcome.{Outcome}
 use Rattle.session.specs.declared.Outcome.the-variants.{Taken, Again, Refused}
 use Rattle.session.specs.declared.Arrived.{Arrived}
@@ -178,11 +178,13 @@ module _ (σ : Session) (right : Consistent σ) where
         rw (consistent-lowest σ right) (f .upto, λ p lp. page-keeps (σ .taken) number size l p (f .below p lp))
 
 -- ---- an arrival hands back right figures if it was lent them
+pub figured-consistent : (s : Shape) (taken : List Bool) (calls : List ℕ) → Consistent (figured s taken calls)
+unfolding consistent
+figured-consistent s taken calls = and-both (eq-eqb (pagesOf taken) (pagesOf taken) refl) (eq-eqb (lowestOf taken) (lowestOf taken) refl)
+
 recorded-consistent : (σ : Session) (number : ℕ) (marks : List ℕ) → Consistent (recorded σ number marks)
-unfolding consistent recorded
-recorded-consistent σ number marks =
-    let τ = recorded σ number marks in
-    and-both (eq-eqb (τ .pages) (pagesOf (τ .taken)) refl) (eq-eqb (τ .lowest) (lowestOf (τ .taken)) refl)
+unfolding recorded
+recorded-consistent σ number marks = figured-consistent (σ .shape) (set (σ .taken) number true) (added (σ .calls) marks)
 
 pub after-by : (σ : Session) (o : Opened) (r : Outcome) → Consistent σ → Consistent (sessionBy σ o r)
 after-by σ (Page number marks k) (Taken p c) right = recorded-consistent σ number marks

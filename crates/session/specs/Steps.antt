@@ -9,16 +9,12 @@ use Rattle.gtb.specs.Shape.{Lawful}
 use Rattle.correction.specs.declared.Decoded.{Decoded}
 use Rattle.correction.specs.Answer.{decodedWord}
 use Rattle.session.specs.declared.Session.{Session}
+use Rattle.session.specs.declared.Outcome.{Outcome}
 use Rattle.session.specs.declared.Arrived.{Arrived}
 use Rattle.session.specs.declared.Opening.{Opening}
 use Rattle.session.specs.declared.Opening.the-variants as opening
-use Rattle.session.specs.Session.{Consistent, added, overflows}
+use Rattle.session.specs.Session.{marked, Consistent, added, overflows, figured}
 use Rattle.session.specs.Arrival.{Way, isWay, wayOf, Opened, Page, Bad, openWord, outcomeOf, sessionAfter, wordAfter}
-
--- marks added to the counts: all of them, or a count would pass its limit
-pub record Adding (calls marks calls′ : List ℕ) (r : Bool) : Type 0 where
-  pub fits : r ≡ not (overflows calls marks)
-  pub sums : r ≡ true → calls′ ≡ added calls marks
 
 -- marks are function numbers
 pub record Functions (marks : List ℕ) : Type 0 where
@@ -28,6 +24,12 @@ pub record Functions (marks : List ℕ) : Type 0 where
 pub record Counts (calls : List ℕ) : Type 0 where
   pub size : length calls ≡ 256
   pub below : (f : ℕ) → getD calls f 0 < 2 ^ 32
+
+-- marks added to the counts: all of them, or a count would pass its limit
+pub record Adding (calls marks calls′ : List ℕ) (r : Bool) : Type 0 where
+  pub fits : r ≡ not (overflows calls marks)
+  pub sums : r ≡ true → calls′ ≡ added calls marks
+  pub counts : Counts calls′
 
 -- the last step of an arrival
 pub record Settling (σ : Session) (o : Opened) (r : Arrived) : Type 0 where
@@ -75,3 +77,24 @@ pub record Opens (way : Way) (s : Shape) (word word′ symbols′ : List ℕ) (r
 pub record Deciding (way : Way) (σ : Session) (word word′ : List ℕ) (r : Arrived) : Type 0 where
   pub settled : Settling σ (openedBy way (σ .shape) word) r
   pub wordLeft : word′ ≡ wordAfter word (way .word (σ .shape) word) (r .outcome)
+
+-- ---- a session whose page marks and counts are lent: with its shape and the figures of its marks it is whole
+-- they have their lengths
+pub record Lists (taken : List Bool) (calls : List ℕ) : Type 0 where
+  pub marks : length taken ≡ 1024
+  pub counts : Counts calls
+
+-- what the steps keep of them: marks stay
+pub record Keeping (taken taken′ : List Bool) (calls′ : List ℕ) : Type 0 where
+  pub lists : Lists taken′ calls′
+  pub marks : (p : ℕ) → marked taken p ≡ true → marked taken′ p ≡ true
+
+-- the last step, whatever the shape
+pub record Settles (taken : List Bool) (calls : List ℕ) (o : Opened) (taken′ : List Bool) (calls′ : List ℕ) (r : Outcome) : Type 0 where
+  pub settled : (s : Shape) → Settling (figured s taken calls) o (record { session = figured s taken′ calls′; outcome = r })
+  pub keeping : Keeping taken taken′ calls′
+
+-- both steps
+pub record Takes (way : Way) (s : Shape) (taken : List Bool) (calls word : List ℕ) (taken′ : List Bool) (calls′ word′ : List ℕ) (r : Outcome) : Type 0 where
+  pub decides : Deciding way (figured s taken calls) word word′ (record { session = figured s taken′ calls′; outcome = r })
+  pub keeping : Keeping taken taken′ calls′

@@ -1,5 +1,6 @@
 // The session: which pages have come, and how often each function was called.
 mod figures;
+pub mod held;
 pub mod number;
 pub mod open;
 pub mod way;
