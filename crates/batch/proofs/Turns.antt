@@ -1,6 +1,6 @@
 -- The run word by word: what holds after m words, and one word more.
 use mathlib.Core.Path.{_≡_, refl, sym, ap, ap₂, _∙_, subst}
-use mathlib.Core.Bool.{Bool, true}
+use mathlib.Core.Bool.{Bool}
 use mathlib.Core.List.{List, [], _∷_, _++_}
 use mathlib.Core.Logic.{⊎-elim}
 use Prim.Native.Nat.{ℕ, _+_, _-_, _*_, _<_, _≤_}
@@ -17,12 +17,12 @@ use Rattle.session.specs.declared.Session.{Session}
 use Rattle.session.specs.declared.Outcome.{Outcome}
 use Rattle.session.specs.declared.Outcome.the-variants.{Refused}
 use Rattle.session.specs.declared.Arrived.{Arrived}
-use Rattle.session.specs.Session.{marked, Consistent, figured}
+use Rattle.session.specs.Session.{figured}
 use Rattle.session.specs.Arrival.{wayOf, theWays, outcomeValues, wordAfter, Arriving}
 use Rattle.session.specs.Claim.{Run, stop, step, answerAt}
 use Rattle.session.specs.Steps.{Admitted, Deciding, Lists, Keeping, Takes}
 use Rattle.session.proofs.Arrive.{whole-copy, step-arrives, settled-both}
-use Rattle.session.proofs.Progress.{consistent-lowest, lowest-facts, figured-consistent}
+use Rattle.session.proofs.Progress.{figured-consistent}
 use Rattle.session.proofs.Lent.{figured-whole}
 use Rattle.session.proofs.Joins.{run-join, outcome-size}
 use Rattle.batch.specs.Batch.{wordsIn, wordAt, arrivalOf, firstArrivals, valuesOf, Arrivals}
@@ -78,13 +78,6 @@ delivering-ends {σ} {k} {words} {scratch} {taken = taken} {calls = calls} all c
   outcomesLeft = d .outcomesLeft;
   scratchLeft = cleared;
 }
-
--- all pages below the lowest number of before stay marked
-pub lowest-kept : {σ : Session} {k : ℕ} {words scratch : List ℕ} {m : ℕ} {words′ outcomes′ : List ℕ} {taken : List Bool} {calls : List ℕ} → Consistent σ
-    → Delivering σ k words scratch m words′ outcomes′ taken calls → (σ .lowest ≤ 1024) × ((p : ℕ) → p < σ .lowest → marked taken p ≡ true)
-lowest-kept {σ} right d =
-    let f = lowest-facts (σ .taken) in
-    rw (consistent-lowest σ right) (f .upto, λ p l. d .keeping .marks p (f .below p l))
 
 -- the part of the run that is word m
 word-part : {σ : Session} {k : ℕ} {words scratch : List ℕ} {m : ℕ} {words′ outcomes′ : List ℕ} {taken : List Bool} {calls : List ℕ} → Delivering σ k words scratch m words′ outcomes′ taken calls

@@ -2,7 +2,7 @@
 use mathlib.Core.Path.{_≡_, refl, sym, ap, _∙_, subst}
 use mathlib.Core.Bool.{Bool, true, false, cond}
 use mathlib.Core.List.{List, _++_}
-use Prim.Native.Nat.{ℕ, _+_, _-_, _<_}
+use Prim.Native.Nat.{ℕ, _+_, _-_, _<_, _≤_}
 use lib.ListN.{length, getD, take, drop, set, length-set}
 use Rattle.gtb.specs.declared.Shape.{Shape}
 use Rattle.gtb.specs.declared.Refusal.{Refusal}
@@ -17,15 +17,21 @@ use Rattle.session.specs.declared.Outcome.{Outcome}
 use Rattle.session.specs.declared.Outcome.the-variants.{Taken, Again, Refused}
 use Rattle.session.specs.declared.Arrived.{Arrived}
 use Rattle.session.specs.Session.{Consistent, marked, overflows, added, figured, recorded}
-use Rattle.session.specs.Arrival.{wayOf, Opened, Page, Bad, openWord, isAccepted}
-use Rattle.session.specs.Steps.{Counts, Adding, Settling, Reading, openedBy, told, Tells, Deciding, Lists, Keeping, Settles, Takes}
+use Rattle.session.specs.Arrival.{Way, wayOf, Opened, Page, Bad, openWord, isAccepted}
+use Rattle.session.specs.Steps.{Counts, Settling, Reading, openedBy, told, Tells, Deciding, Lists, Keeping, Settles, Takes}
 use Rattle.session.proofs.Arrive.{whole-copy}
-use Rattle.session.proofs.Progress.{page-keeps, consistent-pages, consistent-lowest}
+use Rattle.session.proofs.Progress.{lowest-facts, page-keeps, consistent-pages, consistent-lowest}
 use Rattle.session.proofs.Settle.{settle-bad, settle-again, settle-overflow, settle-taken}
 
 -- a session whose figures are right is its shape, marks and counts
 pub figured-whole : (σ : Session) → Consistent σ → σ ≡ figured (σ .shape) (σ .taken) (σ .calls)
 figured-whole σ right = rw (← consistent-pages σ right, ← consistent-lowest σ right)
+
+-- all pages below its lowest number stay marked
+pub lowest-stays : (σ : Session) {taken : List Bool} {calls : List ℕ} → Consistent σ → Keeping (σ .taken) taken calls → (σ .lowest ≤ 1024) × ((p : ℕ) → p < σ .lowest → marked taken p ≡ true)
+lowest-stays σ right keeping =
+    let f = lowest-facts (σ .taken) in
+    rw (consistent-lowest σ right) (f .upto, λ p l. keeping .marks p (f .below p l))
 
 -- ---- the last step
 module _ {taken : List Bool} {calls : List ℕ} (lists : Lists taken calls) where
@@ -114,3 +120,9 @@ module _ (way : ℕ) (s : Shape) {taken : List Bool} {calls word left : List ℕ
 
     pub takes-kept : isAccepted r ≡ true → Takes (wayOf way) s taken calls word taken′ calls′ left r
     takes-kept is = record { decides = read-kept way (figured s taken calls) read h (settles .settled s) is; keeping = settles .keeping }
+
+-- ---- at a session by value, taken apart and put together again
+pub whole-decides : (σ : Session) {end : Session} {taken′ : List Bool} {calls′ : List ℕ} {r : Outcome} → Consistent σ → end ≡ figured (σ .shape) taken′ calls′ → {way : Way} {word word′ : List ℕ}
+    → Takes way (σ .shape) (σ .taken) (σ .calls) word taken′ calls′ word′ r → Deciding way σ word word′ (record { session = end; outcome = r })
+whole-decides σ {end} {taken′} {calls′} {r} right is {way} {word} {word′} h =
+    rw is (subst (λ (τ : Session). Deciding way τ word word′ (record { session = figured (σ .shape) taken′ calls′; outcome = r })) (sym (figured-whole σ right)) (h .decides))

@@ -5,11 +5,11 @@ use native.Mathlib.Omega.{arith}
 use lib.ListN.{length}
 use borrow.Author.Needs.{needs}
 use Rattle.gtb.specs.Shape.{infoLength}
-use Rattle.session.specs.Steps.{Lists}
-use Rattle.session.proofs.Arrays.{counts, marks}
+use Rattle.session.proofs.Arrays.{lists}
+use Rattle.session.proofs.Lent.{lowest-stays}
 use Rattle.batch.specs.Batch.{wordsIn}
 use Rattle.batch.proofs.Runs.{word-positive, Whole, run-words, Place, run-place}
-use Rattle.batch.proofs.Turns.{Delivering, delivering-begins, delivering-ends, lowest-kept, list-size, turn-ready, turn-code}
+use Rattle.batch.proofs.Turns.{Delivering, delivering-begins, delivering-ends, list-size, turn-ready, turn-code}
 use Rattle.batch.proofs.run.Statement.{statement}
 use Rattle.batch.proofs.run.Tie as tie
 
@@ -30,10 +30,6 @@ cleared c = c .before .before .before .before
 abbrev start : tie.At-loop Inv-loop μ-loop → tie.Start Inv-loop μ-loop
 start c = begun (cleared (c .before) .before .before)
 
--- the lists of the session
-lists : (c : tie.Start Inv-loop μ-loop) → Lists (c .args .session .taken) (c .args .session .calls)
-lists c = record { marks = marks (c .args .session .taken) _ (c .good .0 .1 .1 .1 .0); counts = counts (c .args .session .calls) _ (c .good .0 .1 .1 .1 .1 .0) }
-
 -- the run is whole
 whole : (c : tie.Start Inv-loop μ-loop) → Whole (c .args .session .shape) (c .args .words .now)
 whole c = run-words (c .args .session .shape) (c .pre .0 .admitted .lawful) (c .args .words .now) (c .pre .0 .run)
@@ -50,7 +46,7 @@ div-count c = rw (begun c .pre .1) (word-positive _ (begun c .pre .0 .admitted .
 loop-holds : tie.Need-loop-holds Inv-loop μ-loop
 loop-holds c =
     let s = begun (cleared c .before .before) in
-    (search needs, delivering-begins (s .pre .0) (lists s) (cleared c .clear .ensures), search needs, s .pre .2)
+    (search needs, delivering-begins (s .pre .0) (lists _ _ _ _ (s .good .0 .1 .1 .1 .0) (s .good .0 .1 .1 .1 .1 .0)) (cleared c .clear .ensures), search needs, s .pre .2)
 
 part-arrive-one-end : tie.Need-part-arrive-one-end Inv-loop μ-loop
 part-arrive-one-end c = let p = place (c .before .before) in omega (arith, c .before .before .before .loop .inv .1 .size)
@@ -101,7 +97,7 @@ abbrev ended : tie.After-slice-known11 Inv-loop μ-loop → tie.After-loop Inv-l
 ended c = c .before .before .before .before
 
 whole-requires : tie.Need-whole-requires Inv-loop μ-loop
-whole-requires c κs = lowest-kept (start (ended c .before) .pre .0 .admitted .consistent) (ended c .before .loop .inv .1)
+whole-requires c κs = lowest-stays _ (start (ended c .before) .pre .0 .admitted .consistent) (ended c .before .loop .inv .1 .keeping)
 
 same-length-3 : tie.Need-same-length-3 Inv-loop μ-loop
 same-length-3 c =
