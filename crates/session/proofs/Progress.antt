@@ -19,7 +19,7 @@ use Rattle.parity.proofs.Pigeon.{count-others}
 use Rattle.parity.proofs.Lowest.{Lowest, lowest-is, lowest-right, full-count}
 use Rattle.gtb.specs.declared.Shape.{Shape}
 use Rattle.session.specs.declared.Session.{Session}
-use Rattle.session.specs.Session.{marked, pagesOf, lowestOf, consistent, Consistent, freshOf, added, figured, recorded}
+use Rattle.session.specs.Session.{marked, pagesOf, lowestOf, consistent, Consistent, freshOf, figured, recorded}
 use Rattle.session.specs.declared.Outcome.{Outcome}
 use Rattle.session.specs.declared.Outcome.the-variants.{Taken, Again, Refused}
 use Rattle.session.specs.declared.Arrived.{Arrived}
@@ -184,7 +184,7 @@ figured-consistent s taken calls = and-both (eq-eqb (pagesOf taken) (pagesOf tak
 
 recorded-consistent : (σ : Session) (number : ℕ) (marks : List ℕ) → Consistent (recorded σ number marks)
 unfolding recorded
-recorded-consistent σ number marks = figured-consistent (σ .shape) (set (σ .taken) number true) (added (σ .calls) marks)
+recorded-consistent σ number marks = let τ = recorded σ number marks in figured-consistent (τ .shape) (τ .taken) (τ .calls)
 
 pub after-by : (σ : Session) (o : Opened) (r : Outcome) → Consistent σ → Consistent (sessionBy σ o r)
 after-by σ (Page number marks k) (Taken p c) right = recorded-consistent σ number marks
