@@ -92,17 +92,17 @@ fn is_regular(shape: Shape) -> bool
         && shape.b <= 32
 }
 
-// The slope at place t is below q and stands at no place before it.
-fn fits_slope(slopes: &[u32; 7], q: u32, t: usize) -> bool
+// The slope at place t is below q and stands at no place before it. The slopes are read where the shape lies: a copy of all seven would wait for the shape to be stored.
+fn fits_slope(shape: Shape, t: usize) -> bool
     requires { ⌜ t < 7 ⌝ }
-    ensures { λ r. ⌜ r ≡ fitsSlope q (now (slopes .entry)) t ⌝ }
+    ensures { λ r. ⌜ r ≡ fitsSlope (shape .q) (shape .slopes) t ⌝ }
 {
-    let slope = slopes[t];
-    if q <= slope {
+    let slope = shape.slopes[t];
+    if shape.q <= slope {
         return false;
     }
     for u in 0..t {
-        if slopes[u] == slope {
+        if shape.slopes[u] == slope {
             return false;
         }
     }
@@ -114,12 +114,10 @@ fn is_sloped(shape: Shape) -> bool
     requires { ⌜ regular shape ≡ true ⌝ }
     ensures { λ r. ⌜ r ≡ sloped shape ⌝ }
 {
-    let slopes = shape.slopes;
-    let q = shape.q;
     let n = shape.n as usize;
     let last = n - 1;
     for t in 0..last {
-        if !fits_slope(&slopes, q, t) {
+        if !fits_slope(shape, t) {
             return false;
         }
     }

@@ -12,10 +12,10 @@ use Rattle.gtb.proofs.fits_slope.Statement.{statement}
 use Rattle.gtb.proofs.fits_slope.Tie as tie
 
 abbrev Inv-loop : tie.InvT-loop
-Inv-loop slopes q t slope u₀ u = (u ≤ t) × (slope ≡ getD slopes t 0) × (slope < q) × (all u (differs slopes t) ≡ true)
+Inv-loop t s slope u₀ u = (u ≤ t) × (slope ≡ getD (s .slopes) t 0) × (slope < s .q) × (all u (differs (s .slopes) t) ≡ true)
 
 abbrev μ-loop : tie.MeasureT-loop
-μ-loop slopes q t slope u₀ u = t - u
+μ-loop t s slope u₀ u = t - u
 
 loop-holds : tie.Need-loop-holds Inv-loop μ-loop
 loop-holds c = (search needs, refl, search needs, all-zero _)
@@ -24,7 +24,7 @@ returns-2 : tie.Need-returns-2 Inv-loop μ-loop
 returns-2 c = let l = c .before .before .before .loop in slope-twice _ _ _ _ (c .before .before .loop-test .taken) (c .if2 .taken ∙ l .inv .1)
 
 loop-again : tie.Need-loop-again Inv-loop μ-loop
-loop-again c = let l = c .before .before .before .loop in let start = c .before .before .before .before .before .before in (search needs, l .inv .1, l .inv .2, slope-other (start .args .slopes .now) (start .args .t) (l .u) (l .inv .3) (λ e. c .if2 .left (e ∙ sym (l .inv .1))))
+loop-again c = let l = c .before .before .before .loop in let start = c .before .before .before .before .before .before in (search needs, l .inv .1, l .inv .2, slope-other (start .args .t1 .slopes) (start .args .t) (l .u) (l .inv .3) (λ e. c .if2 .left (e ∙ sym (l .inv .1))))
 
 returns-3 : tie.Need-returns-3 Inv-loop μ-loop
 returns-3 c = let l = c .before .loop in slope-fits _ _ (rw (l .inv .1) at (l .inv .2)) (rw (le-antisymm (l .inv .0) (c .loop-test .left)) at (l .inv .3))

@@ -15,23 +15,23 @@ use Rattle.gtb.proofs.is_sloped.Statement.{statement}
 use Rattle.gtb.proofs.is_sloped.Tie as tie
 
 abbrev Inv-loop : tie.InvT-loop
-Inv-loop slopes q n last t₀ t = (t ≤ last) × (last ≤ 7) × (all t (fitsSlope q slopes) ≡ true)
+Inv-loop s n last t₀ t = (t ≤ last) × (last ≤ 7) × (all t (fitsSlope (s .q) (s .slopes)) ≡ true)
 
 abbrev μ-loop : tie.MeasureT-loop
-μ-loop slopes q n last t₀ t = last - t
+μ-loop s n last t₀ t = last - t
 
 sub-last : tie.Need-sub-last Inv-loop μ-loop
-sub-last c = omega (arith, regular-directions _ (c .before .before .pre) .0)
+sub-last c = omega (arith, regular-directions _ (c .before .pre) .0)
 
 loop-holds : tie.Need-loop-holds Inv-loop μ-loop
-loop-holds c = (search needs, omega (arith, regular-directions _ (c .before .before .pre) .1), all-zero _)
+loop-holds c = (search needs, omega (arith, regular-directions _ (c .before .pre) .1), all-zero _)
 
 returns : tie.Need-returns Inv-loop μ-loop
 unfolding sloped
-returns c = sym (all-no _ _ _ (c .before .before .before .loop-test .taken) (sym (c .before .fits-slope .ensures) ∙ not-true _ (c .if1 .taken)))
+returns c = sym (all-no _ _ _ (c .before .before .loop-test .taken) (sym (c .before .fits-slope .ensures) ∙ not-true _ (c .if1 .taken)))
 
 loop-again : tie.Need-loop-again Inv-loop μ-loop
-loop-again c = let l = c .before .before .before .before .loop in (search needs, l .inv .1, sloped-more _ _ _ (l .inv .2) (sym (c .before .fits-slope .ensures) ∙ not-false _ (c .if1 .left)))
+loop-again c = let l = c .before .before .before .loop in (search needs, l .inv .1, sloped-more _ _ _ (l .inv .2) (sym (c .before .fits-slope .ensures) ∙ not-false _ (c .if1 .left)))
 
 returns-2 : tie.Need-returns-2 Inv-loop μ-loop
 unfolding sloped
