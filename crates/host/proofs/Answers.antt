@@ -1,6 +1,6 @@
 -- What the entries answer and leave, by the tests passed.
 use mathlib.Core.Path.{_≡_, refl, sym, ap, _∙_, subst}
-use mathlib.Core.Bool.{true, false, cond, not}
+use mathlib.Core.Bool.{true, false, not}
 use mathlib.Core.List.{List, [], _∷_, _++_}
 use mathlib.Core.Logic.{⊎-elim}
 use Prim.Native.Nat.{ℕ, _+_, _-_, _^_, _<_}
@@ -18,7 +18,6 @@ use Rattle.gtb.specs.Shape.{lawful, Lawful}
 use Rattle.gtb.specs.Answer.{refusalNumber, statusNumber}
 use Rattle.correction.specs.declared.Decoded.{Decoded}
 use Rattle.correction.specs.declared.Decoded.the-variants as decoded
-use Rattle.correction.specs.Answer.{decodedWord}
 use Rattle.page.proofs.Parts.{marks-part}
 use Rattle.session.specs.declared.Session.{Session}
 use Rattle.session.specs.declared.Opening.{Opening}
@@ -27,9 +26,9 @@ use Rattle.session.specs.declared.Outcome.{Outcome}
 use Rattle.session.specs.declared.Outcome.the-variants.{Taken, Again, Refused}
 use Rattle.session.specs.declared.Arrived.{Arrived}
 use Rattle.session.specs.Session.{marked, freshOf, freshStatus}
-use Rattle.session.specs.Arrival.{wayOf, theWays, Opened, Page, openWord, isAccepted, wordAfter, outcomeValues, Arriving}
-use Rattle.session.specs.Steps.{Reading, openedBy, told, Settling, Tells, Deciding}
-use Rattle.session.proofs.Arrive.{whole-copy}
+use Rattle.session.specs.Arrival.{wayOf, theWays, Opened, Page, openWord, isAccepted, outcomeValues, Arriving}
+use Rattle.session.specs.Steps.{Reading, Settling, Tells, Deciding}
+use Rattle.session.proofs.Lent as lent
 use Rattle.session.proofs.Settle.{settle-bad, settle-again}
 use Rattle.session.proofs.Outcome.{the-type}
 use Rattle.batch.specs.declared.Delivered.{Delivered}
@@ -97,62 +96,40 @@ mark-lent values number l =
 
 -- ---- the page in a word that was read
 module _ (values : List ℕ) {o : Opened} {symbols : List ℕ} {found : Opening} (opened : Tells o symbols found) where
-  brings : {r : Opening} → found ≡ r → told r symbols ≡ o
-  brings h = ap (λ (r : Opening). told r symbols) (sym h) ∙ opened .brought
-
   pub page-refused : {e : Refusal} → found ≡ opening.Refused e → AtValues values (λ σ a. Settling σ o a) values (Refused e)
-  page-refused {e} h = at-refused (subst (λ (x : Opened). Settling (sessionOf values) x (record { session = sessionOf values; outcome = Refused e })) (brings h) settle-bad)
+  page-refused {e} h = at-refused (subst (λ (x : Opened). Settling (sessionOf values) x (record { session = sessionOf values; outcome = Refused e })) (lent.brings opened h) settle-bad)
 
   module _ {number c k : ℕ} (h : found ≡ opening.Page number c k) where
     pub page-again : (getD values (12 + number) 0 ≡ 0 → ⊥) → AtValues values (λ σ a. Settling σ o a) values (Again number k)
     page-again marked =
         at-again
-        (subst (λ (x : Opened). Settling (sessionOf values) x (record { session = sessionOf values; outcome = Again number k })) (brings h)
+        (subst (λ (x : Opened). Settling (sessionOf values) x (record { session = sessionOf values; outcome = Again number k })) (lent.brings opened h)
         (settle-again (mark-lent values number (opened .readable number c k h .low) ∙ ap not (ne-eqb _ _ marked))))
 
     pub page-new : {values′ : List ℕ} {r : Outcome} → AtValues values (λ σ a. Settling σ (Page number (take (2 + c - 2) (drop 2 symbols)) k) a) values′ r
         → AtValues values (λ σ a. Settling σ o a) values′ r
-    page-new new = at-other new (λ a settles _. subst (λ (x : Opened). Settling (sessionOf values) x a) (ap (λ (ms : List ℕ). Page number ms k) (marks-part c symbols) ∙ brings h) settles)
+    page-new new = at-other new (λ a settles _. subst (λ (x : Opened). Settling (sessionOf values) x a) (ap (λ (ms : List ℕ). Page number ms k) (marks-part c symbols) ∙ lent.brings opened h) settles)
 
 -- ---- both steps, the word read where it lies
 module _ (way : ℕ) (values : List ℕ) {s : Shape} (same : sessionOf values .shape ≡ s) {word left : List ℕ} {found : Decoded} (read : Reading (wayOf way) s word left found) where
   pub read-refused : {e : Refusal} → found ≡ decoded.Refused e → AtValues values (λ σ a. Deciding (wayOf way) σ word left a) values (Refused e)
-  read-refused h =
-      at-refused
-      (rw same (record {
-        settled = rw (sym (read .answer) ∙ h) settle-bad;
-        wordLeft = read .word ∙ rw h;
-      }))
+  read-refused h = at-refused (lent.read-refused way (sessionOf values) (rw same read) h)
 
   module _ {k : ℕ} (h : found ≡ decoded.Corrected k) where
-    read-left : left ≡ wayOf way .word s word
-    read-left = read .word ∙ ap (decodedWord word (wayOf way .word s word)) h
-
-    read-brings : openedBy (wayOf way) s word ≡ openWord s left (decoded.Corrected k)
-    read-brings = rw (sym (read .answer) ∙ h, ← read-left)
-
-    read-page : {values′ word′ : List ℕ} {r : Outcome} → AtValues values (λ σ a. Settling σ (openWord s left (decoded.Corrected k)) a) values′ r
-        → word′ ≡ cond (isAccepted r) left word → AtValues values (λ σ a. Deciding (wayOf way) σ word word′ a) values′ r
-    read-page {r = r} at w =
-        at-other at
-        (λ a settles is.
-        record {
-          settled = subst (λ (o : Opened). Settling (sessionOf values) o a) (sym (ap (λ (x : Shape). openedBy (wayOf way) x word) same ∙ read-brings)) settles;
-          wordLeft = w ∙ ap (λ (v : List ℕ). wordAfter word v r) (read-left ∙ ap (λ (x : Shape). wayOf way .word x word) (sym same))
-              ∙ ap (wordAfter word (wayOf way .word (sessionOf values .shape) word)) (sym is);
-        })
+    -- by the session's own shape
+    own : {a : Arrived} → Settling (sessionOf values) (openWord s left (decoded.Corrected k)) a → Settling (sessionOf values) (openWord (sessionOf values .shape) left (decoded.Corrected k)) a
+    own {a} settles = subst (λ (x : Shape). Settling (sessionOf values) (openWord x left (decoded.Corrected k)) a) (sym same) settles
 
     -- what came is put back
     pub read-undone : (came : List ℕ) {values′ word′ loaded : List ℕ} {r : Outcome} {e : Refusal} → AtValues values (λ σ a. Settling σ (openWord s left (decoded.Corrected k)) a) values′ r → r ≡ Refused e
         → length came ≡ length word → loaded ≡ word ++ drop (length word) came → length left ≡ length word → word′ ≡ loaded ++ drop (length loaded) left
         → AtValues values (λ σ a. Deciding (wayOf way) σ word word′ a) values′ r
-    read-undone came {loaded = loaded} at is size load same put =
-        let whole : loaded ≡ word = load ∙ whole-copy word came (sym size) in
-        read-page at (rw is (put ∙ whole-copy loaded left (ap length whole ∙ sym same) ∙ whole))
+    read-undone came at refused size load long put =
+        at-other at (λ a settles is. lent.read-undone way (sessionOf values) (rw same read) h (own settles) (ap isAccepted (is ∙ refused)) came size load long put)
 
     pub read-kept : {values′ : List ℕ} {r : Outcome} → AtValues values (λ σ a. Settling σ (openWord s left (decoded.Corrected k)) a) values′ r → OneOf (0 ∷ 1 ∷ []) (tagOf the-type r)
         → AtValues values (λ σ a. Deciding (wayOf way) σ word left a) values′ r
-    read-kept {r = r} at keys = read-page at (rw (accepted r keys))
+    read-kept {r = r} at keys = at-other at (λ a settles is. lent.read-kept way (sessionOf values) (rw same read) h (own settles) (ap isAccepted is ∙ accepted r keys))
 
 -- ---- an arrival
 pub arrives : {session session′ : List ℕ} {way : ℕ} {word scratch word′ scratch′ outcome′ : List ℕ} {r : Outcome}

@@ -65,7 +65,7 @@ module _ {taken : List Bool} {calls : List ℕ} (lists : Lists taken calls) wher
 
 -- ---- the page in a word that was read
 module _ {o : Opened} {symbols : List ℕ} {found : Opening} (opened : Tells o symbols found) where
-  brings : {r : Opening} → found ≡ r → told r symbols ≡ o
+  pub brings : {r : Opening} → found ≡ r → told r symbols ≡ o
   brings h = ap (λ (r : Opening). told r symbols) (sym h) ∙ opened .brought
 
   pub held-refused : {taken : List Bool} {calls : List ℕ} {e : Refusal} → Lists taken calls → found ≡ opening.Refused e → Settles taken calls o taken calls (Refused e)
