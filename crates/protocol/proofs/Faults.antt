@@ -8,7 +8,7 @@ use Rattle.capture.specs.declared.Reader.{Reader}
 use Rattle.capture.specs.Feed.{isEnded}
 use Rattle.protocol.specs.declared.Action.the-variants.{Close, Look}
 use Rattle.protocol.specs.declared.State.{State}
-use Rattle.protocol.specs.Moves.{nextOf, movedOf, takenOf, lookedOf}
+use Rattle.protocol.specs.Moves.{movedOf, takenOf, lookedOf}
 use Rattle.protocol.proofs.Moves.{next-ended}
 
 module _ (s : State) (k : ℕ) (r : Reader) (text : List ℕ) (fault : isEnded (r .tally .phase) ≡ true) where

@@ -19,7 +19,7 @@ use Rattle.capture.proofs.Whole.{whole-output, ended-output, limit-output}
 use Rattle.protocol.specs.declared.Action.{Action}
 use Rattle.protocol.specs.declared.Action.the-variants.{Read, Names, Take, Write, Look, Draw, Close, Last, Say, BlameInput, BlameOutput, Stop}
 use Rattle.protocol.specs.declared.State.{State}
-use Rattle.protocol.specs.Moves.{begun, towardOf, nextOf, filled, receivedOf, doneOf, past, movedOf, watchedOf, takenOf, closedOf, drawnAt, lookedOf}
+use Rattle.protocol.specs.Moves.{begun, towardOf, nextOf, filled, receivedOf, doneOf, past, movedOf, watchedOf, takenOf, closedOf, notedOf, lookedOf}
 use Rattle.protocol.specs.Steps.{rank}
 use Rattle.protocol.specs.Run.{Config, waiting, handedIn, handed, isDone, isWrite, Step, Received, ReadFailed, Done, WriteFailed, Taken, Looked, Closed, Run, End, On, Beginning, Part}
 use Rattle.protocol.proofs.Moves.{pick, next-cases}
@@ -170,11 +170,11 @@ record Ends (reader : Reader) (line ahead wait input : List ℕ) (left : ℕ) (o
   few : length (joined blocks) ≤ left + length wait
   why : (rest ≡ []) ⊎ ((isEnded (final .tally .phase) ≡ true) ⊎ (length (joined blocks) ≡ left + length wait))
 
--- the same bytes, counted otherwise
-ends-as : {reader : Reader} {line ahead ahead′ wait wait′ input input′ : List ℕ} {left left′ : ℕ} {output : List ℕ}
-    → ahead ≡ ahead′ → wait′ ++ input′ ≡ wait ++ input → left′ + length wait′ ≡ left + length wait
-    → Ends reader line ahead wait input left output → Ends reader line ahead′ wait′ input′ left′ output
-ends-as {left = left} {left′ = left′} a b l e =
+-- the same bytes, counted otherwise, and another text before what is still handed out
+ends-by : {reader : Reader} {line ahead ahead′ wait wait′ input input′ : List ℕ} {left left′ : ℕ} {output output′ : List ℕ}
+    → ((t o : List ℕ) → output ≡ ahead ++ t ++ o → output′ ≡ ahead′ ++ t ++ o) → wait′ ++ input′ ≡ wait ++ input → left′ + length wait′ ≡ left + length wait
+    → Ends reader line ahead wait input left output → Ends reader line ahead′ wait′ input′ left′ output′
+ends-by {left = left} {left′ = left′} a b l e =
     record {
       blocks = e .blocks;
       text = e .text;
@@ -185,11 +185,16 @@ ends-as {left = left} {left′ = left′} a b l e =
       rest = e .rest;
       run = e .run;
       end = e .end;
-      is = e .is ∙ ap (λ (x : List ℕ). x ++ e .text ++ take (e .size) (e .out)) a;
+      is = a (e .text) (take (e .size) (e .out)) (e .is);
       delivered = b ∙ e .delivered;
       few = omega (arith, e .few);
       why = ⊎-elim (λ n. inl n) (⊎-elim (λ f. inr (inl f)) (λ n. inr (inr (n ∙ sym l)))) (e .why);
     }
+
+ends-as : {reader : Reader} {line ahead ahead′ wait wait′ input input′ : List ℕ} {left left′ : ℕ} {output : List ℕ}
+    → ahead ≡ ahead′ → wait′ ++ input′ ≡ wait ++ input → left′ + length wait′ ≡ left + length wait
+    → Ends reader line ahead wait input left output → Ends reader line ahead′ wait′ input′ left′ output
+ends-as a b l e = ends-by (λ t o is. is ∙ ap (λ (x : List ℕ). x ++ t ++ o) a) b l e
 
 ends-ahead : {reader : Reader} {line ahead ahead′ wait input output : List ℕ} {left : ℕ} → ahead ≡ ahead′ → Ends reader line ahead wait input left output
     → Ends reader line ahead′ wait input left output
@@ -197,22 +202,7 @@ ends-ahead {reader} {line} {wait = wait} {input = input} {output = output} {left
 
 -- after what is handed out now
 ends-after : {reader : Reader} {line wait input output : List ℕ} {left : ℕ} (text : List ℕ) → Ends reader line [] wait input left output → Ends reader line text wait input left (text ++ output)
-ends-after text e =
-    record {
-      blocks = e .blocks;
-      text = e .text;
-      final = e .final;
-      buffer = e .buffer;
-      out = e .out;
-      size = e .size;
-      rest = e .rest;
-      run = e .run;
-      end = e .end;
-      is = ap (λ (x : List ℕ). text ++ x) (e .is) ∙ sym (append-assoc text (e .text) (take (e .size) (e .out)));
-      delivered = e .delivered;
-      few = e .few;
-      why = e .why;
-    }
+ends-after text e = ends-by (λ t o is. ap (λ (x : List ℕ). text ++ x) is ∙ sym (append-assoc text t o)) refl refl e
 
 no-bytes : (l : List ℕ) → length l ≡ 0 → l ≡ []
 no-bytes [] e = refl
@@ -333,21 +323,8 @@ module _ (s : State) (fault : Bool) (block out input : List ℕ) (second : ℕ) 
   look-next : Next (nextOf s) fault (s .left) (waitOf s block) input
   look-next = next-next s fault block input (inv .ended)
 
-  abbrev noted : State
-  noted = record {
-    action = s .action;
-    then = s .then;
-    named = s .named;
-    ended = s .ended;
-    from = s .from;
-    count = s .count;
-    size = s .size;
-    left = s .left;
-    watch = drawnAt second (s .watch);
-  }
-
   abbrev drawing : State
-  drawing = towardOf Draw (nextOf s) noted
+  drawing = towardOf Draw (nextOf s) (notedOf s second)
 
   look-none : aheadOf s out ≡ []
   look-none = ahead-none s out look-named (ap (λ (a : Action). handedIn a (take (s .size) out)) look)
@@ -363,7 +340,7 @@ module _ (s : State) (fault : Bool) (block out input : List ℕ) (second : ℕ) 
   looked-inv : Inv (lookedOf s second) fault (waitOf (lookedOf s second) block) input
   looked-inv =
       ⊎-elim (λ (e : eqb second (s .watch .second) ≡ true). subst (λ (t : State). Inv t fault (waitOf t block) input) (sym (same-second e)) (next-inv s _ fault (waitOf s block) input look-next (inv .ended) look-named))
-      (λ (e : eqb second (s .watch .second) ≡ false). subst (λ (t : State). Inv t fault (waitOf t block) input) (sym (other-second e)) (later-inv noted Draw _ fault (waitOf s block) input (omega arith) look-next (inv .ended) look-named))
+      (λ (e : eqb second (s .watch .second) ≡ false). subst (λ (t : State). Inv t fault (waitOf t block) input) (sym (other-second e)) (later-inv (notedOf s second) Draw _ fault (waitOf s block) input (omega arith) look-next (inv .ended) look-named))
       (either (eqb second (s .watch .second)))
 
   looked-ends : {reader : Reader} {line output : List ℕ} → Ends reader line (aheadOf (lookedOf s second) out) (waitOf (lookedOf s second) block) input (lookedOf s second .left) output

@@ -144,21 +144,23 @@ closedOf s k text =
       watch = withCounts (s .watch) (countedOf (s .watch) text);
     }
 
--- the progress line is drawn where the clock shows another second
+-- the second is noted in which the progress line is drawn
+abbrev pub notedOf : State → ℕ → State
+notedOf s second = record {
+  action = s .action;
+  then = s .then;
+  named = s .named;
+  ended = s .ended;
+  from = s .from;
+  count = s .count;
+  size = s .size;
+  left = s .left;
+  watch = drawnAt second (s .watch);
+}
+
+-- the line is drawn where the clock shows another second
 unfoldable pub lookedOf : State → ℕ → State
-lookedOf s second =
-    cond (eqb second (s .watch .second)) (towardOf (nextOf s) Stop s)
-    (towardOf Draw (nextOf s) (record {
-      action = s .action;
-      then = s .then;
-      named = s .named;
-      ended = s .ended;
-      from = s .from;
-      count = s .count;
-      size = s .size;
-      left = s .left;
-      watch = drawnAt second (s .watch);
-    }))
+lookedOf s second = cond (eqb second (s .watch .second)) (towardOf (nextOf s) Stop s) (towardOf Draw (nextOf s) (notedOf s second))
 
 -- ---- the texts
 
