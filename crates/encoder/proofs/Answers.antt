@@ -1,5 +1,5 @@
 -- What an entry answers, from its tests, and what then stands in the lent slices.
-use mathlib.Core.Path.{_≡_, refl, sym, _∙_}
+use mathlib.Core.Path.{_≡_, refl, sym, ap, _∙_}
 use mathlib.Core.Bool.{Bool, true, false, _&&_}
 use mathlib.Core.List.{List}
 use Prim.Native.Nat.{ℕ, _+_, _*_, _/_}
@@ -16,7 +16,7 @@ use Rattle.gtb.specs.Square.{narrow}
 use Rattle.gtb.specs.Positions.{extractOf, Encodes}
 use Rattle.gtb.specs.Answer.{scratchAfter}
 use Rattle.gtb.proofs.Kept.{old-scratch}
-use Rattle.gtb.proofs.Answers.{same-refusal, never-done, never-refused, unless-done}
+use Rattle.gtb.proofs.Answers.{shape-scratch, same-refusal, never-done, never-refused, unless-done}
 use Rattle.encoder.specs.Contract.{statusOf, Encoding, Extraction}
 use Rattle.encoder.specs.Steps.{Tested}
 
@@ -55,6 +55,11 @@ module _ (s : Shape) (symbols scratch word given scratch′ : List ℕ) where
 
   pub tested-done : statusOf s symbols scratch word given ≡ Done → scratch′ ≡ replicate (length scratch) 0 → Tested s symbols scratch word given scratch′ Done
   tested-done is left = record { answer = sym is; refused = λ e h. absurd (never-refused e h); done = λ h. left }
+
+-- turned down by the shape: nothing else is tested
+pub untested : (s : Shape) (symbols scratch word given : List ℕ) {e : Refusal} → lawful s ≡ false → e ≡ shapeRefusal s → Tested s symbols scratch word given scratch (Refused e)
+untested s symbols scratch word given {e} h is =
+    tested-refused s symbols scratch word given scratch e (status-shape s symbols scratch word given h ∙ ap Refused (sym is)) (rw is (shape-scratch _ _))
 
 -- what holds where the tests pass
 pub record Passed (s : Shape) (symbols word given : List ℕ) : Type 0 where

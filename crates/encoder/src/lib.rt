@@ -33,13 +33,11 @@ fn sizes_match(shape: Shape, symbols: usize, scratch: usize, word: usize) -> boo
     word == word_length(shape)
 }
 
-// The tests of both entries, the last one on the symbols that come in. Past tests 1, 18 and 2 the scratch is cleared.
+// The tests of both entries past 1 and 18, the last one on the symbols that come in. Past test 2 the scratch is cleared.
 fn test(shape: Shape, symbols: &[u32], scratch: &mut [u32], word: &[u32], given: &[u32]) -> Status
+    requires { ⌜ Lawful shape ⌝ }
     ensures { λ r. ⌜ Tested shape (now (symbols .entry)) (now (scratch .entry)) (now (word .entry)) (now (given .entry)) (now (scratch .exit)) r ⌝ }
 {
-    if !gtb::is_lawful(shape) {
-        return Status::Refused(gtb::shape_refusal(shape));
-    }
     if !sizes_match(shape, symbols.len(), scratch.len(), word.len()) {
         return Status::Refused(Refusal::Length);
     }
@@ -80,6 +78,9 @@ fn write(shape: Shape, symbols: &[u32], word: &mut [u32])
 pub fn encode(shape: Shape, symbols: &[u32], scratch: &mut [u32], word: &mut [u32]) -> Status
     ensures { λ r. ⌜ Encoding shape (now (symbols .entry)) (now (scratch .entry)) (now (word .entry)) (now (scratch .exit)) (now (word .exit)) r ⌝ }
 {
+    if !gtb::is_lawful(shape) {
+        return Status::Refused(gtb::shape_refusal(shape));
+    }
     let tested = test(shape, symbols, scratch, word, symbols);
     match tested {
         Status::Refused(e) => Status::Refused(e),
@@ -94,6 +95,9 @@ pub fn encode(shape: Shape, symbols: &[u32], scratch: &mut [u32], word: &mut [u3
 pub fn extract(shape: Shape, word: &[u32], scratch: &mut [u32], symbols: &mut [u32]) -> Status
     ensures { λ r. ⌜ Extraction shape (now (word .entry)) (now (scratch .entry)) (now (symbols .entry)) (now (scratch .exit)) (now (symbols .exit)) r ⌝ }
 {
+    if !gtb::is_lawful(shape) {
+        return Status::Refused(gtb::shape_refusal(shape));
+    }
     let tested = test(shape, symbols, scratch, word, word);
     match tested {
         Status::Refused(e) => Status::Refused(e),

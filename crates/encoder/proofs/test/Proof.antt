@@ -12,55 +12,45 @@ use Rattle.encoder.proofs.Answers.{sized, status-shape, status-length, 
 use Rattle.encoder.proofs.test.Statement.{statement}
 use Rattle.encoder.proofs.test.Tie as tie
 
--- what the first two tests have shown
-shape-holds : (c : tie.Else1) → lawful (c .before .before .before .before .before .before .args .shape) ≡ true
-shape-holds c = sym (c .before .is-lawful .ensures) ∙ not-false _ (c .if1 .left)
-
 abbrev start : tie.After-sizes-match → tie.Start
-start c = c .before .before .before .before .before .before .before
+start c = c .before .before .before .before .before
 
 abbrev sized-at : tie.Start → Bool
 sized-at c = sized (c .args .shape) (c .args .symbols .now) (c .args .scratch .now) (c .args .word .now)
 
-sizes-hold : (c : tie.Else2) → sized-at (start (c .before)) ≡ true
-sizes-hold c = sym (c .before .sizes-match .ensures) ∙ not-false _ (c .if2 .left)
+sizes-hold : (c : tie.Else1) → sized-at (start (c .before)) ≡ true
+sizes-hold c = sym (c .before .sizes-match .ensures) ∙ not-false _ (c .if1 .left)
 
 returns : tie.Need-returns
+unfolding scratchAfter
 returns c =
+    let a = start (c .before) .args in
     tested-refused _ _ _ _ _ _ _
-    (status-shape _ _ _ _ _ (sym (c .before .before .is-lawful .ensures) ∙ not-true _ (c .before .if1 .taken)) ∙ ap Refused (sym (c .shape-refusal .ensures)))
-    (rw (c .shape-refusal .ensures) (shape-scratch _ _))
+    (status-length (a .shape) (a .symbols .now) (a .scratch .now) (a .word .now) _ (start (c .before) .pre)
+    (sym (c .before .sizes-match .ensures) ∙ not-true _ (c .if1 .taken)))
+    refl
+
+is-narrow-requires : tie.Need-is-narrow-requires
+is-narrow-requires c κs = bounds _ (start (c .before .before .before .before .before) .pre) .b32
 
 returns-2 : tie.Need-returns-2
 unfolding scratchAfter
 returns-2 c =
-    let a = start (c .before) .args in
+    let sizes = c .before .before .before .before .before .before in
+    let a = start (sizes .before) .args in
     tested-refused _ _ _ _ _ _ _
-    (status-length (a .shape) (a .symbols .now) (a .scratch .now) (a .word .now) _ (shape-holds (c .before .before))
-    (sym (c .before .sizes-match .ensures) ∙ not-true _ (c .if2 .taken)))
-    refl
-
-is-narrow-requires : tie.Need-is-narrow-requires
-is-narrow-requires c κs = bounds _ (shape-holds (c .before .before .before .before .before .before)) .b32
+    (status-width (a .shape) (a .symbols .now) (a .scratch .now) (a .word .now) _ (start (sizes .before) .pre) (sizes-hold sizes)
+    (sym (c .before .is-narrow .ensures) ∙ not-true _ (c .if2 .taken)))
+    (c .before .before .before .before .clear .ensures)
 
 returns-3 : tie.Need-returns-3
-unfolding scratchAfter
 returns-3 c =
     let sizes = c .before .before .before .before .before .before in
     let a = start (sizes .before) .args in
-    tested-refused _ _ _ _ _ _ _
-    (status-width (a .shape) (a .symbols .now) (a .scratch .now) (a .word .now) _ (shape-holds (sizes .before .before)) (sizes-hold sizes)
-    (sym (c .before .is-narrow .ensures) ∙ not-true _ (c .if3 .taken)))
-    (c .before .before .before .before .clear .ensures)
-
-returns-4 : tie.Need-returns-4
-returns-4 c =
-    let sizes = c .before .before .before .before .before .before in
-    let a = start (sizes .before) .args in
     tested-done _ _ _ _ _ _
-    (status-done (a .shape) (a .symbols .now) (a .scratch .now) (a .word .now) _ (shape-holds (sizes .before .before)) (sizes-hold sizes)
-    (sym (c .before .is-narrow .ensures) ∙ not-false _ (c .if3 .left)))
+    (status-done (a .shape) (a .symbols .now) (a .scratch .now) (a .word .now) _ (start (sizes .before) .pre) (sizes-hold sizes)
+    (sym (c .before .is-narrow .ensures) ∙ not-false _ (c .if2 .left)))
     (c .before .before .before .before .clear .ensures)
 
 pub test-spec : {M : Type 1} → statement M
-test-spec = tie.close (tie.spec (λ c κs. search needs) (λ c κs. search needs) returns (λ c κs. shape-holds c) returns-2 (λ c κs. search needs) is-narrow-requires (λ c. search needs) returns-3 (λ c. search needs) returns-4)
+test-spec = tie.close (tie.spec (λ c κs. search needs) returns (λ c κs. search needs) is-narrow-requires (λ c. search needs) returns-2 (λ c. search needs) returns-3)
