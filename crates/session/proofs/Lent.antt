@@ -17,7 +17,7 @@ use Rattle.session.specs.declared.Outcome.{Outcome}
 use Rattle.session.specs.declared.Outcome.the-variants.{Taken, Again, Refused}
 use Rattle.session.specs.declared.Arrived.{Arrived}
 use Rattle.session.specs.Session.{Consistent, marked, overflows, added, figured, recorded}
-use Rattle.session.specs.Arrival.{Way, wayOf, Opened, Page, Bad, openWord, isAccepted}
+use Rattle.session.specs.Arrival.{wayOf, Opened, Page, Bad, openWord, isAccepted}
 use Rattle.session.specs.Steps.{Counts, Settling, Reading, openedBy, told, Tells, Deciding, Lists, Keeping, Settles, Takes}
 use Rattle.session.proofs.Arrive.{whole-copy}
 use Rattle.session.proofs.Progress.{lowest-facts, page-keeps, consistent-pages, consistent-lowest}
@@ -120,9 +120,3 @@ module _ (way : ℕ) (s : Shape) {taken : List Bool} {calls word left : List ℕ
 
     pub takes-kept : isAccepted r ≡ true → Takes (wayOf way) s taken calls word taken′ calls′ left r
     takes-kept is = record { decides = read-kept way (figured s taken calls) read h (settles .settled s) is; keeping = settles .keeping }
-
--- ---- at a session by value, taken apart and put together again
-pub whole-decides : (σ : Session) {end : Session} {taken′ : List Bool} {calls′ : List ℕ} {r : Outcome} → Consistent σ → end ≡ figured (σ .shape) taken′ calls′ → {way : Way} {word word′ : List ℕ}
-    → Takes way (σ .shape) (σ .taken) (σ .calls) word taken′ calls′ word′ r → Deciding way σ word word′ (record { session = end; outcome = r })
-whole-decides σ {end} {taken′} {calls′} {r} right is {way} {word} {word′} h =
-    rw is (subst (λ (τ : Session). Deciding way τ word word′ (record { session = figured (σ .shape) taken′ calls′; outcome = r })) (sym (figured-whole σ right)) (h .decides))

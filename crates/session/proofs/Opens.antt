@@ -1,5 +1,6 @@
--- The first step of an arrival.
+-- The first step of an arrival, and both steps on a copy of the word.
 use mathlib.Core.Path.{_≡_, refl, sym, ap, _∙_, subst}
+use mathlib.Core.Bool.{true, false, cond}
 use mathlib.Core.List.{List, _++_}
 use Prim.Native.Nat.{ℕ, zero, suc, _+_, _-_, _≤_}
 use native.Mathlib.Omega.{arith}
@@ -22,11 +23,15 @@ use Rattle.page.specs.declared.PageRead.the-variants as page
 use Rattle.page.specs.Page.{pageOf}
 use Rattle.page.proofs.Pages.{marks-of, page-facts, marks-within}
 use Rattle.page.proofs.Parts.{marks-part}
+use Rattle.session.specs.declared.Session.{Session}
 use Rattle.session.specs.declared.Opening.{Opening}
 use Rattle.session.specs.declared.Opening.the-variants as opening
-use Rattle.session.specs.Arrival.{wayOf, Opened, Page, Bad, openPage, openWord}
-use Rattle.session.specs.Steps.{Functions, Reading, told, Readable, Tells, Opens}
+use Rattle.session.specs.declared.Outcome.the-variants.{Refused}
+use Rattle.session.specs.declared.Arrived.{Arrived}
+use Rattle.session.specs.Arrival.{wayOf, Opened, Page, Bad, openPage, openWord, outcomeOf, sessionAfter, isAccepted}
+use Rattle.session.specs.Steps.{Functions, Reading, Settling, openedBy, told, Readable, Tells, Opens, Deciding}
 use Rattle.session.proofs.Ways.{all-read}
+use Rattle.session.proofs.Arrive.{whole-copy}
 
 pub no-page : (e : Refusal) (number c k : ℕ) → opening.Refused e ≡ opening.Page number c k → ⊥
 no-page e number c k h = let z : _≡_ {A = ℕ} 0 1 = cc in omega arith
@@ -109,3 +114,29 @@ module _ (way : ℕ) (s : Shape) {word word′ : List ℕ} {found : Decoded} (re
 -- the marks as the code lends them
 pub lent-marks : {number c : ℕ} {symbols : List ℕ} → Readable number c symbols → Functions (take (2 + c - 2) (drop 2 symbols))
 lent-marks {c = c} {symbols = symbols} h = rw (marks-part c symbols) (h .marks)
+
+-- ---- both steps, on a copy of the word
+module _ (way : ℕ) (σ : Session) (word copied : List ℕ) {loaded left symbols : List ℕ} {found : Opening} (size : length copied ≡ length word) (load : loaded ≡ word ++ drop (length word) copied) (opens : Opens (wayOf way) (σ .shape) loaded left symbols found) where
+  same-word : loaded ≡ word
+  same-word = load ∙ whole-copy word copied (sym size)
+
+  brings : {r : Opening} → found ≡ r → told r symbols ≡ openedBy (wayOf way) (σ .shape) word
+  brings h = ap (λ (r : Opening). told r symbols) (sym h) ∙ opens .tells .brought ∙ ap (openedBy (wayOf way) (σ .shape)) same-word
+
+  pub copy-refused : {e : Refusal} {r : Arrived} → found ≡ opening.Refused e → (r .session ≡ σ) × (r .outcome ≡ Refused e) → Deciding (wayOf way) σ word word r
+  unfolding outcomeOf sessionAfter
+  copy-refused h answer = record { settled = rw (← brings h) (record { outcome = answer .1; session = answer .0 }); wordLeft = rw (answer .1) }
+
+  module _ {number c k : ℕ} (h : found ≡ opening.Page number c k) {r : Arrived} (settled : Settling σ (Page number (take (2 + c - 2) (drop 2 symbols)) k) r) where
+    decides : {word′ : List ℕ} → word′ ≡ cond (isAccepted (r .outcome)) left word → Deciding (wayOf way) σ word word′ r
+    decides w = record {
+      settled = rw (← brings h) (rw (marks-part c symbols) at settled);
+      wordLeft = w ∙ ap (λ (v : List ℕ). cond (isAccepted (r .outcome)) v word) (opens .restored number c k h ∙ ap (wayOf way .word (σ .shape)) same-word);
+    }
+
+    -- the copy is put back where the outcome accepts, and the word untouched where it does not
+    pub copy-accepts : isAccepted (r .outcome) ≡ true → {word′ : List ℕ} → word′ ≡ left ++ drop (length left) word → length left ≡ length loaded → Deciding (wayOf way) σ word word′ r
+    copy-accepts a w same = decides (rw a (w ∙ whole-copy left word (same ∙ ap length same-word)))
+
+    pub copy-stays : isAccepted (r .outcome) ≡ false → Deciding (wayOf way) σ word word r
+    copy-stays a = decides (rw a)

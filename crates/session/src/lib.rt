@@ -5,19 +5,18 @@ pub mod number;
 pub mod open;
 pub mod way;
 
-use crate::held::take_word;
-use crate::held::whole;
+use crate::open::open;
 use gtb::Refusal;
 use gtb::Shape;
 use gtb::Status;
-use gtb::size::info_length;
 use gtb::size::scratch_length;
 use gtb::size::word_length;
 ghost use mathlib.Core.Path.{_≡_};
 ghost use Prim.Native.Nat.{_<_};
+ghost use lib.ListN.{length};
 ghost use Rattle.session.specs.Session.{Consistent, sessionStatus, countedOf, Beginning};
-ghost use Rattle.session.specs.Arrival.{theWays, Opened, arrivalStatus, Arriving, Stepping, isAccepted};
-ghost use Rattle.session.specs.Steps.{Adding, Counts, Functions, Settling, Admitted};
+ghost use Rattle.session.specs.Arrival.{wayOf, theWays, Opened, arrivalStatus, Arriving, Stepping, isAccepted};
+ghost use Rattle.session.specs.Steps.{Adding, Counts, Functions, Settling, Admitted, Deciding};
 
 // A session handed in from elsewhere may hold anything, a bad shape too.
 pub struct Session {
@@ -170,23 +169,28 @@ impl Session {
             return self.refused(Refusal::Length);
         }
         gtb::clear(scratch);
-        let info = info_length(shape);
-        let mut came = [0u32; 961];
+        let mut copied = [0u32; 961];
+        self.settle_copy(way, word, &mut copied[..size])
+    }
+
+    // Both steps, on a copy: the word is written only once the answer is known to be taken or again.
+    fn settle_copy(self, way: u32, word: &mut [u32], copied: &mut [u32]) -> Arrived
+        requires { ⌜ Admitted self way × (length (now copied) ≡ length (now word)) ⌝ }
+        ensures { λ r. ⌜ Deciding (wayOf way) self (now (word .entry)) (now (word .exit)) r ⌝ }
+    {
         let mut symbols = [0u32; 900];
-        let mut taken = self.taken;
-        let mut calls = self.calls;
-        let outcome = take_word(
-            &mut taken,
-            &mut calls,
-            shape,
-            way,
-            word,
-            &mut came[..size],
-            &mut symbols[..info],
-        );
-        Arrived {
-            session: whole(shape, taken, calls, self.lowest),
-            outcome,
+        gtb::copy(word, copied);
+        match open(self.shape, way, copied, &mut symbols) {
+            Opening::Refused(e) => self.refused(e),
+            Opening::Page(number, count, corrected) => {
+                let end = 2 + count as usize;
+                let arrived = self.settled(number, corrected, &symbols[2..end]);
+                let outcome = arrived.outcome;
+                if accepts(outcome) {
+                    gtb::copy(copied, word);
+                }
+                arrived
+            }
         }
     }
 
