@@ -92,7 +92,7 @@ fn is_regular(shape: Shape) -> bool
         && shape.b <= 32
 }
 
-// The slope at place t is below q and stands at no place before it. The slopes are read where the shape lies: a copy of all seven would wait for the shape to be stored.
+// The slope at place t is below q and stands at no place before it.
 fn fits_slope(shape: Shape, t: usize) -> bool
     requires { ⌜ t < 7 ⌝ }
     ensures { λ r. ⌜ r ≡ fitsSlope (shape .q) (shape .slopes) t ⌝ }
