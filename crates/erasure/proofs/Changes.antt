@@ -27,7 +27,7 @@ use Rattle.correction.specs.Steps.{Toggled}
 use Rattle.correction.proofs.Errors.{mended-at, mended-word}
 use Rattle.erasure.specs.Fill.{isListed, Agrees}
 use Rattle.erasure.specs.Steps.{Places}
-use Rattle.erasure.proofs.Lists.{disjoint-count, same-place, place-only}
+use Rattle.erasure.proofs.Lists.{disjoint-count, place-only}
 
 -- the change at position j, where x k is that at place k
 unfoldable pub spread : List ℕ → (ℕ → ℕ) → ℕ → ℕ
@@ -114,7 +114,7 @@ module _ {size : ℕ} {places : List ℕ} (h : Places size places) (x : ℕ → 
   spread-count =
       count-cong size _ _ (λ j l. changed-any j)
       ∙ disjoint-count size (length places) changes-at
-      (λ j i k li lk ei ek. same-place h i k li lk (eqb-true _ j (and-left _ _ ei) ∙ sym (eqb-true _ j (and-left _ _ ek))))
+      (λ j i k li lk ei ek. h .once i k li lk (eqb-true _ j (and-left _ _ ei) ∙ sym (eqb-true _ j (and-left _ _ ek))))
       ∙ sum-cong (length places) _ _ one-changed
 
 -- ---- the word that the changes make

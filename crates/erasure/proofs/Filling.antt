@@ -17,8 +17,9 @@ use Rattle.gtb.specs.declared.Refusal.{Refusal}
 use Rattle.gtb.specs.declared.Status.{Status}
 use Rattle.gtb.specs.declared.Status.the-variants as status
 use Rattle.gtb.specs.Shape.{lawful, Lawful, wordLength, scratchLength}
-use Rattle.gtb.specs.Square.{at, narrow, Codeword}
+use Rattle.gtb.specs.Square.{at, narrow, Word, Codeword}
 use Rattle.gtb.proofs.Answers.{same-refusal, never-refused, unless-never, unless-done, other-refusal, Foreign, late-foreign}
+use Rattle.gtb.proofs.Words.{narrow-word}
 use Rattle.distance.specs.Distance.{differences, minimumDistance}
 use Rattle.distance.proofs.Distance.{few-unambiguous}
 use Rattle.correction.specs.declared.Decoded.{Decoded}
@@ -29,7 +30,7 @@ use Rattle.erasure.specs.Steps.{Places, Decision}
 use Rattle.erasure.proofs.Lists.{rising-places, listed-count}
 
 -- ---- one answer and one word
-status-cases : (t : Status) → ((e : Refusal) × (t ≡ status.Refused e)) ⊎ (t ≡ status.Done)
+pub status-cases : (t : Status) → ((e : Refusal) × (t ≡ status.Refused e)) ⊎ (t ≡ status.Done)
 status-cases status.Done = inr refl
 status-cases (status.Refused e) = inl (e, refl)
 
@@ -80,7 +81,7 @@ filling-unique {s} {word} {places} {scratch} f g =
 foreign : (s : Shape) → Foreign s Refusal.Ambiguous
 foreign s = late-foreign s Refusal.Ambiguous (lit< tt) (λ h. omega arith)
 
-tests-never : (s : Shape) (word places scratch : List ℕ) → fillStatus s word places scratch ≡ status.Refused Refusal.Ambiguous → ⊥
+pub tests-never : (s : Shape) (word places scratch : List ℕ) → fillStatus s word places scratch ≡ status.Refused Refusal.Ambiguous → ⊥
 unfolding fillStatus
 tests-never s word places scratch =
     unless-never (lawful s) _ _ (λ no e. foreign s .shape no (same-refusal _ _ e))
@@ -90,27 +91,27 @@ tests-never s word places scratch =
     (never-refused Refusal.Ambiguous))))
 
 -- what the tests let pass
-record Passed (s : Shape) (word places : List ℕ) : Type 0 where
+pub record Passed (s : Shape) (word places : List ℕ) : Type 0 where
   pub law : Lawful s
-  pub size : length word ≡ wordLength s
+  pub came : Word s word
   pub rises : rising (wordLength s) places ≡ true
 
-passed : (s : Shape) (word places scratch : List ℕ) → fillStatus s word places scratch ≡ status.Done → Passed s word places
+pub passed : (s : Shape) (word places scratch : List ℕ) → fillStatus s word places scratch ≡ status.Done → Passed s word places
 unfolding fillStatus
 passed s word places scratch h =
     let (law, h₁) = unless-done (lawful s) _ _ h in
     let (fits, h₂) = unless-done (eqb (length word) (wordLength s) && eqb (length scratch) (scratchLength s)) _ _ h₁ in
-    let (wide, h₃) = unless-done (narrow (s .b) word) _ _ h₂ in
+    let (slim, h₃) = unless-done (narrow (s .b) word) _ _ h₂ in
     let (up, h₄) = unless-done (rising (wordLength s) places) _ _ h₃ in
-    record { law = law; size = eqb-true _ _ (and-left _ _ fits); rises = up }
+    record { law = law; came = narrow-word s word (eqb-true _ _ (and-left _ _ fits)) slim; rises = up }
 
-never-both : (k : ℕ) (e : Refusal) (r : Decoded) → r ≡ Corrected k → r ≡ Refused e → ⊥
+pub never-both : (k : ℕ) (e : Refusal) (r : Decoded) → r ≡ Corrected k → r ≡ Refused e → ⊥
 never-both k e r a b = let z : _≡_ {A = ℕ} 0 1 = cc in omega arith
 
-refused-same : (e e′ : Refusal) (r : Decoded) → r ≡ Refused e → r ≡ Refused e′ → e ≡ e′
+pub refused-same : (e e′ : Refusal) (r : Decoded) → r ≡ Refused e → r ≡ Refused e′ → e ≡ e′
 refused-same e e′ r a b = cc
 
-no-choice : {s : Shape} {word places word′ : List ℕ} {r : Decoded} → Lawful s → length places < minimumDistance (s .n) → Places (wordLength s) places
+pub no-choice : {s : Shape} {word places word′ : List ℕ} {r : Decoded} → Lawful s → length places < minimumDistance (s .n) → Places (wordLength s) places
     → Decision s word places word′ r → r ≡ Refused Refusal.Ambiguous → ⊥
 no-choice {r = r} law few h (inl a) e = never-both _ _ r (a .answer) e
 no-choice {r = r} law few h (inr (inl a)) e = other-refusal Refusal.Unfillable Refusal.Ambiguous refl (refused-same _ _ r (a .answer) e)
@@ -198,4 +199,4 @@ empty-decision {s} {word} size (inr (inr a)) =
 
 pub empty-fill : {s : Shape} {word scratch word′ scratch′ : List ℕ} {r : Decoded} → fillStatus s word [] scratch ≡ status.Done
     → Filling s word [] scratch word′ scratch′ r → Emptied s word word′ r
-empty-fill {s} {word} {scratch} tests f = empty-decision (passed s word [] scratch tests .size) (f .decided tests .0)
+empty-fill {s} {word} {scratch} tests f = empty-decision (passed s word [] scratch tests .came .size) (f .decided tests .0)

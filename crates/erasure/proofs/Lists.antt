@@ -30,11 +30,18 @@ pub rising-places : {size : ℕ} {places : List ℕ} → rising size places ≡ 
 unfolding rising
 rising-places {size} {places} h = record {
   below = λ k l. ltb-true _ _ (and-left _ _ (passed k l));
-  up = λ i k l. fits-up size places i (passed i l) k;
+  once = λ i k li lk e.
+      elim (decLt i k) [
+        | yes l ↦ absurd (omega (arith, up k i lk l))
+        | no l ↦ elim (decLt k i) [ yes m ↦ absurd (omega (arith, up i k li m)) | no m ↦ omega arith ]
+      ];
 }
   where
     passed : (i : ℕ) → i < length places → fits size places i ≡ true
     passed = all-elim (length places) (fits size places) h
+
+    up : (i k : ℕ) → i < length places → k < i → at places k < at places i
+    up i k l = fits-up size places i (passed i l) k
 
 -- the number that the next place has to reach
 pub above-none : (places : List ℕ) → Above places 0 0
@@ -78,20 +85,12 @@ disjoint-count n m t one =
     sum-cong n _ _ (λ j l. any-count m (λ i. t i j) (one j)) ∙ sum-exchange n m (λ j i. bit (t i j))
 
 module _ {size : ℕ} {places : List ℕ} (h : Places size places) where
-  -- no place stands twice in the list
-  pub same-place : (i k : ℕ) → i < length places → k < length places → at places i ≡ at places k → i ≡ k
-  same-place i k li lk e =
-      elim (decLt i k) [
-        | yes l ↦ absurd (omega (arith, h .up k i lk l))
-        | no l ↦ elim (decLt k i) [ yes m ↦ absurd (omega (arith, h .up i k li m)) | no m ↦ omega arith ]
-      ]
-
   -- a listed position is one place of the list
   pub place-only : (k : ℕ) → k < length places → Only (length places) (λ i. eqb (at places i) (at places k)) k
   place-only k l = record {
     below = l;
     passes = eq-eqb (at places k) (at places k) (λ i. at places k);
-    alone = λ i li e. same-place i k li l (eqb-true _ _ e);
+    alone = λ i li e. h .once i k li l (eqb-true _ _ e);
   }
 
   position-only : (k : ℕ) → k < length places → Only size (λ j. eqb (at places k) j) (at places k)
@@ -105,7 +104,7 @@ module _ {size : ℕ} {places : List ℕ} (h : Places size places) where
   unfolding isListed count
   listed-count =
       disjoint-count size (length places) (λ i j. eqb (at places i) j)
-      (λ j i k li lk ei ek. same-place i k li lk (eqb-true _ j ei ∙ sym (eqb-true _ j ek)))
+      (λ j i k li lk ei ek. h .once i k li lk (eqb-true _ j ei ∙ sym (eqb-true _ j ek)))
       ∙ each-once (length places) size (λ i j. eqb (at places i) j) (λ k l. only-count _ _ _ (position-only k l))
 
   pub places-few : length places ≤ size

@@ -29,10 +29,10 @@ rises places i k = ltb (at places k) (at places i)
 abbrev pub fits : ℕ → List ℕ → ℕ → Bool
 fits size places i = ltb (at places i) size && all i (rises places i)
 
--- past test 12: places below `size`, each above all before it
+-- places below `size`, no two the same
 pub record Places (size : ℕ) (places : List ℕ) : Type 0 where
   pub below : (k : ℕ) → k < length places → at places k < size
-  pub up : (i k : ℕ) → i < length places → k < i → at places k < at places i
+  pub once : (i k : ℕ) → i < length places → k < length places → at places i ≡ at places k → i ≡ k
 
 -- the least number above the first i places
 pub record Above (places : List ℕ) (i next : ℕ) : Type 0 where

@@ -1,5 +1,5 @@
 // Filling in the symbols at places that are named as gone.
-mod list;
+pub mod list;
 mod system;
 
 use correction::Decoded;
@@ -46,7 +46,7 @@ fn solve(
 }
 
 // Tests 13 and 14: the word is written only if there is no choice.
-fn decide(shape: Shape, word: &mut [u32], places: &[u32], scratch: &mut [u32]) -> Decoded
+pub fn decide(shape: Shape, word: &mut [u32], places: &[u32], scratch: &mut [u32]) -> Decoded
     requires { ⌜ Lawful shape × Word shape (now word) × Places (wordLength shape) (now places)
         × (length (now scratch) ≡ scratchLength shape) ⌝ }
     ensures { λ r. ⌜ Decision shape (now (word .entry)) (now (places .entry)) (now (word .exit)) r ⌝ }

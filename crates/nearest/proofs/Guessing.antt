@@ -44,7 +44,7 @@ module _ {s : Shape} {w v : List ℕ} {k c : ℕ} (law : Lawful s) (near : Near 
   size = error-size s w v ∙ near .changed
 
   -- so many checks on a wrong position show what is wrong there
-  enough : (j : ℕ) → j < wordLength s → (errorOf w v j ≡ 0 → ⊥) → s .n + 1 ≤ shows (s .n) (onCheck s (at w) j) (errorOf w v j) + k
+  pub enough : (j : ℕ) → j < wordLength s → (errorOf w v j ≡ 0 → ⊥) → s .n + 1 ≤ shows (s .n) (onCheck s (at w) j) (errorOf w v j) + k
   enough j lj nz =
       omega (arith, most-show law near j lj, size, near .few, count-others (wordLength s) (support w v) j lj (not-of-false (ne-eqb (errorOf w v j) 0 nz)))
 
@@ -98,7 +98,7 @@ module _ {s : Shape} {w v : List ℕ} {k c : ℕ} (law : Lawful s) (near : Near 
       (λ (e : support w v j ≡ false). omega (arith, count-none (s .q) (λ L. support w v j && eqb (lineOf s t j) L) (λ L lL. and-no-left _ e)))
       (either (support w v j))
 
-  lines-few : (t : ℕ) → t < s .n → count (s .q) (λ L. not (eqb (syndrome s (at w) t L) 0)) ≤ k
+  pub lines-few : (t : ℕ) → t < s .n → count (s .q) (λ L. not (eqb (syndrome s (at w) t L) 0)) ≤ k
   unfolding count
   lines-few t lt =
       omega (
@@ -124,7 +124,7 @@ module _ {s : Shape} {w v : List ℕ} {k c : ℕ} (law : Lawful s) (near : Near 
       )
 
 -- ---- the first of the values that is x
-first-shown : (n : ℕ) (v : ℕ → ℕ) (x : ℕ) → 0 < shows n v x → (t : ℕ) × (t < n) × (v t ≡ x) × (shows t v x ≡ 0)
+pub first-shown : (n : ℕ) (v : ℕ → ℕ) (x : ℕ) → 0 < shows n v x → (t : ℕ) × (t < n) × (v t ≡ x) × (shows t v x ≡ 0)
 unfolding shows
 first-shown n v x pos =
     let p : ℕ → Bool = λ t. not (eqb (v t) x) in

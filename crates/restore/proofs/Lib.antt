@@ -1,0 +1,10 @@
+pub mod Lists
+pub mod Tables
+pub mod Choosing
+pub mod Straying
+pub mod Patching
+pub mod Searching
+pub mod Judging
+pub mod Answers
+pub mod Recovering
+pub mod Alikes
