@@ -1,6 +1,7 @@
 pub mod CheckNumbers
 pub mod Rows
 pub mod Listing
+pub mod Showing
 pub mod Tabulated
 pub mod Toggles
 pub mod Silence
@@ -8,4 +9,5 @@ pub mod Errors
 pub mod Tables
 pub mod Readings
 pub mod Near
+pub mod Guessing
 pub mod Slopes

@@ -19,6 +19,10 @@ checkOf s j t = t * s .q + lineOf s t j
 abbrev pub onCheck : Shape → (ℕ → ℕ) → ℕ → ℕ → ℕ
 onCheck s f j t = syndrome s f t (lineOf s t j)
 
+-- how many of the first n values are x
+unfoldable pub shows : ℕ → (ℕ → ℕ) → ℕ → ℕ
+shows n v x = count n (λ t. eqb (v t) x)
+
 -- how many error symbols are nonzero
 unfoldable pub weight : Shape → (ℕ → ℕ) → ℕ
 weight s e = count (wordLength s) (λ j. not (eqb (e j) 0))

@@ -3,3 +3,4 @@ pub mod Answer
 pub mod Reading
 pub mod Shipped
 pub mod Steps
+pub mod Guesses

@@ -18,7 +18,7 @@ use Rattle.gtb.specs.Lent.{wordStatus}
 use Rattle.correction.specs.declared.Decoded.{Decoded}
 use Rattle.correction.specs.declared.Decoded.the-variants.{Corrected, Refused}
 use Rattle.correction.specs.Answer.{decodedWord}
-use Rattle.correction.specs.Error.{mended}
+use Rattle.correction.specs.Error.{checkOf, mended}
 use Rattle.correction.specs.Reading.{Reader, changesBy, restoredBy, acceptedBy}
 
 -- tests 1, 18, 16, 2, 3
@@ -29,6 +29,10 @@ testsOf s suits w = unless (lawful s) (status.Refused (shapeRefusal s)) (unless 
 pub record Corrects (reader : Reader) (s : Shape) (w w′ : List ℕ) (r : Decoded) : Type 0 where
   pub answer : r ≡ unless (acceptedBy reader s w) (Refused (reader .refusal)) (Corrected (changesBy reader s w))
   pub word : w′ ≡ decodedWord w (restoredBy reader s w) r
+
+-- `onCheck` by the table
+abbrev pub checkIn : Shape → List ℕ → ℕ → ℕ → ℕ
+checkIn s syn j t = at syn (checkOf s j t)
 
 -- every check is silent
 abbrev pub quiet : Shape → List ℕ → Bool

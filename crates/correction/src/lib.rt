@@ -1,10 +1,13 @@
-// What every way of reading shares: its tests and answer, the checks on a position, corrections tried on the syndromes and written to the word.
+// What the ways of reading share: tests and answer, the checks on a position and what they show, corrections tried on the syndromes and
+// written to the word.
 pub mod cancel;
 pub mod checks;
+pub mod guesses;
 pub mod number;
 pub mod row;
 pub mod shipped;
 pub mod table;
+pub mod values;
 
 use gtb::Refusal;
 use gtb::Shape;

@@ -7,4 +7,5 @@ pub mod Distance
 pub mod Attained
 pub mod Sharp
 pub mod Near
+pub mod Between
 pub mod Examples

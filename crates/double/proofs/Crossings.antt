@@ -1,20 +1,18 @@
 -- Lines that are not silent, one after the other, and where two lines meet.
 use mathlib.Core.Path.{_≡_, refl, sym, ap, _∙_}
 use mathlib.Core.List.{List}
-use mathlib.Core.Logic.{Dec·not-not}
-use Prim.Native.Nat.{ℕ, zero, suc, _+_, _-_, _*_, _%_, _<_, _≤_}
-use native.Mathlib.Decide.{ℕ-discrete, decLt}
-use native.Mathlib.Nat.{mod-lt}
+use Prim.Native.Nat.{ℕ, _+_, _-_, _*_, _<_}
+use native.Mathlib.Decide.{decLt}
 use native.Mathlib.Omega.{arith}
-use lib.Arith.{digits-lt, digits-div}
-use Rattle.parity.proofs.Modular.{solve}
+use lib.Arith.{digits-lt}
 use Rattle.gtb.specs.declared.Shape.{Shape}
-use Rattle.gtb.specs.Shape.{Lawful, wordLength, slopeOf}
+use Rattle.gtb.specs.Shape.{Lawful, wordLength}
 use Rattle.gtb.specs.Square.{lineOf, at}
 use Rattle.gtb.proofs.Bounds.{positive}
-use Rattle.gtb.proofs.Slopes.{slope-lt}
-use Rattle.gtb.proofs.Lines.{line-zero, line-at, line-lt, share-one}
-use Rattle.double.specs.Steps.{FirstLine, LastLine, OnRow, Crosses}
+use Rattle.gtb.proofs.Lines.{line-lt}
+use Rattle.correction.specs.Guesses.{OnRow}
+use Rattle.correction.proofs.Guessing.{same-position}
+use Rattle.double.specs.Steps.{FirstLine, LastLine, Crosses}
 
 -- ---- the first line that is not silent, and the last
 module _ (s : Shape) (syn : List ℕ) (t : ℕ) where
@@ -56,33 +54,15 @@ module _ (s : Shape) (syn : List ℕ) (t : ℕ) where
 
 -- ---- where two lines meet
 module _ (s : Shape) (law : Lawful s) where
-  -- the position in a row on a line
-  pub row-position : (u row line : ℕ) → 1 ≤ u → u < s .n → row < s .q → line < s .q
-      → OnRow s u row line (row * s .q + (line + (s .q - slopeOf s u) * row) % s .q)
-  row-position zero row line one lu lr ll = absurd (omega arith)
-  row-position (suc u) row line one lu lr ll =
-      let c = (line + (s .q - slopeOf s (suc u)) * row) % s .q in
-      let lc : c < s .q = mod-lt (line + (s .q - slopeOf s (suc u)) * row) (positive s law) in
-      record {
-        below = digits-lt lr lc;
-        row-of = line-zero s (row * s .q + c) ∙ digits-div row lc;
-        line-of = line-at s u row c lc ∙ solve (s .q) (slopeOf s (suc u)) row line (omega (arith, slope-lt s law (suc u) one lu)) ll;
-      }
-
-  -- positions that share two lines are one
-  pub same-position : (t u i j : ℕ) → t < u → u < s .n → i < wordLength s → j < wordLength s → lineOf s t i ≡ lineOf s t j → lineOf s u i ≡ lineOf s u j → i ≡ j
-  same-position t u i j tu lu li lj a b =
-      Dec·not-not (ℕ-discrete i j) .0 (λ ne. share-one s law i j li lj ne t u (omega arith) lu (λ e. omega arith) a b)
-
   pub crosses-here : (t u a b j : ℕ) → t < u → u < s .n → j < wordLength s → lineOf s t j ≡ a → lineOf s u j ≡ b → Crosses s t u a b j
   crosses-here t u a b j tu lu lj la lb =
-      record { below = lj; meets = λ i li ia ib. same-position t u i j tu lu li lj (ia ∙ sym la) (ib ∙ sym lb) }
+      record { below = lj; meets = λ i li ia ib. same-position s law t u i j tu lu li lj (ia ∙ sym la) (ib ∙ sym lb) }
 
   -- no position of the rows passed is on both lines
   pub row-passed : (t u a b row j : ℕ) → t < u → u < s .n → OnRow s u row b j → (lineOf s t j ≡ a → ⊥)
       → (i : ℕ) → OnRow s u row b i → lineOf s t i ≡ a → ⊥
   row-passed t u a b row j tu lu here ne i there e =
-      ne (ap (lineOf s t) (same-position 0 u j i (omega arith) lu (here .below) (there .below) (here .row-of ∙ sym (there .row-of)) (here .line-of ∙ sym (there .line-of))) ∙ e)
+      ne (ap (lineOf s t) (same-position s law 0 u j i (omega arith) lu (here .below) (there .below) (here .row-of ∙ sym (there .row-of)) (here .line-of ∙ sym (there .line-of))) ∙ e)
 
   pub crosses-none : (t u a b : ℕ) → t < u → u < s .n → ((row : ℕ) → row < s .q → (i : ℕ) → OnRow s u row b i → lineOf s t i ≡ a → ⊥) → Crosses s t u a b 0
   crosses-none t u a b tu lu none = record {

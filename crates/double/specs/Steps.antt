@@ -26,12 +26,6 @@ pub record LastLine (s : Shape) (syn : List ℕ) (t r : ℕ) : Type 0 where
   pub below : r < s .q
   pub last : (L : ℕ) → L < s .q → (at syn (t * s .q + L) ≡ 0 → ⊥) → (L ≤ r) × (at syn (t * s .q + r) ≡ 0 → ⊥)
 
--- j is the position in a row on a line of direction u
-pub record OnRow (s : Shape) (u row line j : ℕ) : Type 0 where
-  pub below : j < wordLength s
-  pub row-of : lineOf s 0 j ≡ row
-  pub line-of : lineOf s u j ≡ line
-
 -- j is a position, and the one on line a of direction t and line b of direction u
 pub record Crosses (s : Shape) (t u a b j : ℕ) : Type 0 where
   pub below : j < wordLength s

@@ -1,10 +1,11 @@
 // Lines that are not silent, and where two lines meet.
+use correction::guesses::on_row;
 use correction::shipped::number_by;
 use gtb::Shape;
-ghost use Prim.Native.Nat.{_+_, _*_, _<_, _≤_};
+ghost use Prim.Native.Nat.{_<_};
 ghost use Rattle.gtb.specs.Shape.{Lawful};
 ghost use Rattle.correction.specs.Shipped.{Tabled};
-ghost use Rattle.double.specs.Steps.{FirstLine, LastLine, Crosses, OnRow};
+ghost use Rattle.double.specs.Steps.{FirstLine, LastLine, Crosses};
 
 // The first line of direction t that is not silent.
 pub fn first_line(shape: Shape, syn: &[u32; 248], t: usize) -> usize
@@ -33,15 +34,6 @@ pub fn last_line(shape: Shape, syn: &[u32; 248], t: usize) -> usize
         }
     }
     0
-}
-
-// The position in a row on a line of direction u, from 1 on.
-pub fn on_row(shape: Shape, u: usize, row: usize, line: usize) -> usize
-    requires { ⌜ Lawful shape × (1 ≤ u) × (u < shape .n) × (row < shape .q) × (line < shape .q) ⌝ }
-    ensures { λ r. ⌜ OnRow shape u row line r ⌝ }
-{
-    let q = shape.q as usize;
-    row * q + (line + (q - gtb::slope(shape, u)) * row) % q
 }
 
 // The position on line a of direction t and line b of direction u: in row a, or found row by row.

@@ -2,7 +2,7 @@
 use mathlib.Core.Path.{_≡_, sym, _∙_}
 use mathlib.Core.Bool.{false, _&&_}
 use mathlib.Core.List.{List}
-use mathlib.Core.Logic.{_⊎_, inl, inr, ⊎-elim}
+use mathlib.Core.Logic.{inl, inr}
 use Prim.Native.Nat.{ℕ, _+_, _*_, _/_}
 use lib.Dec.{eqb}
 use lib.ListN.{length}
@@ -19,7 +19,7 @@ use Rattle.gtb.proofs.Kept.{old-scratch}
 use Rattle.gtb.proofs.Alikes.{lawful-alike, refusal-alike, codeword-alike, alike-back}
 use Rattle.distance.specs.Distance.{differences}
 use Rattle.correction.specs.declared.Decoded.{Decoded}
-use Rattle.erasure.specs.Fill.{rising, fillStatus, Agrees, FilledIn, NoWord, SeveralWords, Filling}
+use Rattle.erasure.specs.Fill.{rising, fillStatus, Agrees, FilledIn, NoWord, SeveralWords, Decision, TestedFirst, Filling}
 
 agrees-alike : (s : Shape) (slopes : List ℕ) → Alike s slopes → {word places v : List ℕ} → Agrees s word places v → Agrees (reslope s slopes) word places v
 agrees-alike s slopes alike {v = v} a = record { codeword = codeword-alike s slopes alike v (a .codeword); same = a .same }
@@ -56,19 +56,22 @@ module _ (s : Shape) (slopes : List ℕ) (alike : Alike s slopes) (word places :
       left = f .left;
     }
 
+    decision-alike : Decision s word places word′ r → Decision (reslope s slopes) word places word′ r
+    decision-alike (inl x) = inl (filled-alike x)
+    decision-alike (inr (inl x)) = inr (inl (none-alike x))
+    decision-alike (inr (inr x)) = inr (inr (several-alike x))
+
+    -- what passes from slopes to slopes beside the tests passes with them
+    pub tested-alike : {Decided Decided′ : Type 0} {scratch scratch′ : List ℕ} → (Decided → Decided′) → TestedFirst Decided s word places scratch word′ scratch′ r
+        → TestedFirst Decided′ (reslope s slopes) word places scratch word′ scratch′ r
+    tested-alike {scratch = scratch} next f = record {
+      tested = λ e is. f .tested e (sym (fill-status-alike scratch) ∙ is);
+      decided = λ is. let (decided, cleared) = f .decided (sym (fill-status-alike scratch) ∙ is) in (next decided, cleared);
+    }
+
     -- the same answer, word and scratch
     pub fill-alike : {scratch scratch′ : List ℕ} → Filling s word places scratch word′ scratch′ r → Filling (reslope s slopes) word places scratch word′ scratch′ r
-    fill-alike {scratch} f = record {
-      tested = λ e is. f .tested e (sym (fill-status-alike scratch) ∙ is);
-      decided = λ is.
-          let (answers, cleared) = f .decided (sym (fill-status-alike scratch) ∙ is) in (
-            ⊎-elim (λ (x : FilledIn s word places word′ r). inl (filled-alike x))
-                (λ (y : NoWord s word places word′ r ⊎ SeveralWords s word places word′ r).
-                inr (⊎-elim (λ (x : NoWord s word places word′ r). inl (none-alike x)) (λ (x : SeveralWords s word places word′ r). inr (several-alike x)) y))
-                answers,
-            cleared,
-          );
-    }
+    fill-alike = tested-alike decision-alike
 
 -- ---- the scratch of before N7
 pub fill-old : (s : Shape) (word places scratch : List ℕ) → Lawful s → length scratch ≡ s .n * s .q * ((s .q * s .q + 31) / 32)

@@ -26,16 +26,16 @@ use Rattle.gtb.specs.declared.Status.the-variants as status
 use Rattle.gtb.specs.Shape.{Lawful, wordLength, scratchLength}
 use Rattle.gtb.specs.Square.{lineOf, at, syndrome, Word, Codeword}
 use Rattle.gtb.proofs.Bounds.{bounds}
-use Rattle.gtb.proofs.Words.{tabulate-word, word-narrow}
+use Rattle.gtb.proofs.Words.{tabulate-word}
 use Rattle.gtb.proofs.Lines.{line-lt, share-one}
 use Rattle.distance.specs.Distance.{differences, minimumDistance}
 use Rattle.distance.proofs.Even.{bit-inside}
 use Rattle.distance.proofs.Twice.{twice}
 use Rattle.correction.specs.declared.Decoded.{Decoded}
 use Rattle.correction.specs.declared.Decoded.the-variants.{Refused}
-use Rattle.erasure.specs.Fill.{isListed, rising, fillStatus, Agrees, Spoiled}
-use Rattle.erasure.specs.Steps.{Decision}
+use Rattle.erasure.specs.Fill.{isListed, rising, fillStatus, Agrees, Spoiled, Decision}
 use Rattle.erasure.proofs.Lists.{rising-places, listed-count}
+use Rattle.erasure.proofs.Filling.{tests-pass}
 
 -- ---- zeros with a 1 at position j
 abbrev zeros : Shape → List ℕ
@@ -75,15 +75,7 @@ one-changed s j lj =
 
 one-passes : (s : Shape) → Lawful s → (j : ℕ) (places : List ℕ) → rising (wordLength s) places ≡ true → (scratch : List ℕ)
     → length scratch ≡ scratchLength s → fillStatus s (oneAt s j) places scratch ≡ status.Done
-unfolding fillStatus
-one-passes s law j places up scratch size =
-    rw (
-      law,
-      eq-eqb (length (oneAt s j)) (wordLength s) (one-word s law j .size),
-      eq-eqb (length scratch) (scratchLength s) size,
-      word-narrow s (oneAt s j) (one-word s law j),
-      up,
-    )
+one-passes s law j places up scratch size = tests-pass s (oneAt s j) places scratch law (one-word s law j) size up
 
 -- ---- counts on a line l and off it
 bit-either : (a b c : Bool) → (b ≡ true → c ≡ false) → bit (a && (b || c)) ≡ bit (a && b) + bit (a && c)

@@ -14,26 +14,22 @@ use Rattle.parity.proofs.Tests.{and-left, or-no}
 use Rattle.parity.proofs.Sums.{count-none}
 use Rattle.gtb.specs.declared.Shape.{Shape}
 use Rattle.gtb.specs.declared.Refusal.{Refusal}
-use Rattle.gtb.specs.declared.Status.{Status}
 use Rattle.gtb.specs.declared.Status.the-variants as status
 use Rattle.gtb.specs.Shape.{lawful, Lawful, wordLength, scratchLength}
 use Rattle.gtb.specs.Square.{at, narrow, Word, Codeword}
 use Rattle.gtb.proofs.Answers.{same-refusal, never-refused, unless-never, unless-done, other-refusal, Foreign, late-foreign}
-use Rattle.gtb.proofs.Words.{narrow-word}
+use Rattle.gtb.proofs.Words.{narrow-word, word-narrow}
 use Rattle.distance.specs.Distance.{differences, minimumDistance}
 use Rattle.distance.proofs.Distance.{few-unambiguous}
 use Rattle.correction.specs.declared.Decoded.{Decoded}
 use Rattle.correction.specs.declared.Decoded.the-variants.{Corrected, Refused}
 use Rattle.correction.specs.Answer.{decodedNumber}
-use Rattle.erasure.specs.Fill.{isListed, rising, fillStatus, Agrees, FilledIn, NoWord, SeveralWords, Filling}
-use Rattle.erasure.specs.Steps.{Places, Decision}
+use Rattle.erasure.specs.Fill.{isListed, rising, fillStatus, Agrees, FilledIn, NoWord, SeveralWords, Decision, TestedFirst, Filling}
+use Rattle.erasure.specs.Steps.{Places}
 use Rattle.erasure.proofs.Lists.{rising-places, listed-count}
+use Rattle.erasure.proofs.Answers.{status-cases, tested-unique}
 
 -- ---- one answer and one word
-pub status-cases : (t : Status) → ((e : Refusal) × (t ≡ status.Refused e)) ⊎ (t ≡ status.Done)
-status-cases status.Done = inr refl
-status-cases (status.Refused e) = inl (e, refl)
-
 module _ {s : Shape} {word places w₁ w₂ : List ℕ} {r₁ r₂ : Decoded} where
   one-one : FilledIn s word places w₁ r₁ → FilledIn s word places w₂ r₂ → (r₁ ≡ r₂) × (w₁ ≡ w₂)
   one-one a b =
@@ -63,18 +59,7 @@ decision-unique (inr (inr a)) (inr (inr b)) = (a .answer ∙ sym (b .answer), a 
 
 pub filling-unique : {s : Shape} {word places scratch w₁ w₂ x₁ x₂ : List ℕ} {r₁ r₂ : Decoded} → Filling s word places scratch w₁ x₁ r₁
     → Filling s word places scratch w₂ x₂ r₂ → (r₁ ≡ r₂) × (w₁ ≡ w₂) × (x₁ ≡ x₂)
-filling-unique {s} {word} {places} {scratch} f g =
-    ⊎-elim
-    (λ (h : (e : Refusal) × (fillStatus s word places scratch ≡ status.Refused e)).
-    let (rf, nf, wf, xf) = f .tested (h .0) (h .1) in
-    let (rg, ng, wg, xg) = g .tested (h .0) (h .1) in
-    (rf ∙ sym rg, wf ∙ sym wg, xf ∙ sym xg))
-    (λ (h : fillStatus s word places scratch ≡ status.Done).
-    let (df, xf) = f .decided h in
-    let (dg, xg) = g .decided h in
-    let (r, w) = decision-unique df dg in
-    (r, w, xf ∙ sym xg))
-    (status-cases (fillStatus s word places scratch))
+filling-unique = tested-unique decision-unique
 
 -- ---- few places leave no choice
 -- no test answers 14
@@ -105,6 +90,13 @@ passed s word places scratch h =
     let (up, h₄) = unless-done (rising (wordLength s) places) _ _ h₃ in
     record { law = law; came = narrow-word s word (eqb-true _ _ (and-left _ _ fits)) slim; rises = up }
 
+-- and that they let it pass
+pub tests-pass : (s : Shape) (word places scratch : List ℕ) → Lawful s → Word s word → length scratch ≡ scratchLength s → rising (wordLength s) places ≡ true
+    → fillStatus s word places scratch ≡ status.Done
+unfolding fillStatus
+tests-pass s word places scratch law hw size up =
+    rw (law, eq-eqb (length word) (wordLength s) (hw .size), eq-eqb (length scratch) (scratchLength s) size, word-narrow s word hw, up)
+
 pub never-both : (k : ℕ) (e : Refusal) (r : Decoded) → r ≡ Corrected k → r ≡ Refused e → ⊥
 never-both k e r a b = let z : _≡_ {A = ℕ} 0 1 = cc in omega arith
 
@@ -120,16 +112,20 @@ no-choice {s} {places = places} law few h (inr (inr a)) e =
     (few-unambiguous s law (isListed places) (omega (arith, listed-count h)) .one (a .one) (a .another) (a .agrees .codeword) (a .agreesToo .codeword)
     (λ j l n. a .agrees .same j l n ∙ sym (a .agreesToo .same j l n)))
 
--- with fewer places than codewords are apart the answer is never 14: up to 2 n - 1 places
-pub never-several : {s : Shape} {word places scratch word′ scratch′ : List ℕ} {r : Decoded} → Lawful s → length places < minimumDistance (s .n)
-    → Filling s word places scratch word′ scratch′ r → r ≡ Refused Refusal.Ambiguous → ⊥
-never-several {s} {word} {places} {scratch} {r = r} law few f e =
+-- no test answers 14, so an entry whose work never does never does
+pub never-ambiguous : {Decided : Type 0} {s : Shape} {word places scratch word′ scratch′ : List ℕ} {r : Decoded}
+    → (Passed s word places → Decided → r ≡ Refused Refusal.Ambiguous → ⊥) → TestedFirst Decided s word places scratch word′ scratch′ r → r ≡ Refused Refusal.Ambiguous → ⊥
+never-ambiguous {s = s} {word = word} {places = places} {scratch = scratch} {r = r} never f e =
     ⊎-elim
     (λ (h : (e : Refusal) × (fillStatus s word places scratch ≡ status.Refused e)).
     tests-never s word places scratch (h .1 ∙ ap status.Refused (refused-same _ _ r (f .tested (h .0) (h .1) .0) e)))
-    (λ (h : fillStatus s word places scratch ≡ status.Done).
-    no-choice law few (rising-places (passed s word places scratch h .rises)) (f .decided h .0) e)
+    (λ (h : fillStatus s word places scratch ≡ status.Done). never (passed s word places scratch h) (f .decided h .0) e)
     (status-cases (fillStatus s word places scratch))
+
+-- with fewer places than codewords are apart the answer is never 14: up to 2 n - 1 places
+pub never-several : {s : Shape} {word places scratch word′ scratch′ : List ℕ} {r : Decoded} → Lawful s → length places < minimumDistance (s .n)
+    → Filling s word places scratch word′ scratch′ r → r ≡ Refused Refusal.Ambiguous → ⊥
+never-several law few = never-ambiguous (λ p. no-choice law few (rising-places (p .rises)))
 
 -- that takes in N2's limit: n places are always few
 pub n-few : (n : ℕ) → 2 ≤ n → n < minimumDistance n

@@ -65,12 +65,19 @@ pub record SeveralWords (s : Shape) (word places word′ : List ℕ) (r : Decode
   pub number : decodedNumber r ≡ 2 ^ 31 + 14
   pub left : word′ ≡ word
 
--- what filling in answers and leaves
-pub record Filling (s : Shape) (word places scratch word′ scratch′ : List ℕ) (r : Decoded) : Type 0 where
+-- one of the three
+abbrev pub Decision : Shape → List ℕ → List ℕ → List ℕ → Decoded → Type 0
+Decision s word places word′ r = FilledIn s word places word′ r ⊎ (NoWord s word places word′ r ⊎ SeveralWords s word places word′ r)
+
+-- what an entry answers and leaves that is lent a word, places and a scratch: a test refuses, and the word is as it came; or none does, and the rest is decided
+pub record TestedFirst (Decided : Type 0) (s : Shape) (word places scratch word′ scratch′ : List ℕ) (r : Decoded) : Type 0 where
   pub tested : (e : Refusal) → fillStatus s word places scratch ≡ status.Refused e
       → (r ≡ Refused e) × (decodedNumber r ≡ 2 ^ 31 + refusalNumber e) × (word′ ≡ word) × (scratch′ ≡ scratchAfter e scratch)
-  pub decided : fillStatus s word places scratch ≡ status.Done
-      → (FilledIn s word places word′ r ⊎ (NoWord s word places word′ r ⊎ SeveralWords s word places word′ r)) × (scratch′ ≡ replicate (length scratch) 0)
+  pub decided : fillStatus s word places scratch ≡ status.Done → Decided × (scratch′ ≡ replicate (length scratch) 0)
+
+-- what filling in answers and leaves
+abbrev pub Filling : Shape → List ℕ → List ℕ → List ℕ → List ℕ → List ℕ → Decoded → Type 0
+Filling s word places scratch word′ scratch′ r = TestedFirst (Decision s word places word′ r) s word places scratch word′ scratch′ r
 
 -- a codeword with one symbol changed, at a position that is not listed, which filling in answers with 13
 pub record Spoiled (s : Shape) (places : List ℕ) : Type 0 where

@@ -2,7 +2,6 @@
 use mathlib.Core.Path.{_≡_}
 use mathlib.Core.Bool.{Bool, true, false, not, xor, _&&_}
 use mathlib.Core.List.{List}
-use mathlib.Core.Logic.{_⊎_}
 use Prim.Native.Nat.{ℕ, _+_, _*_, _<_, _≤_}
 use lib.Dec.{eqb, ltb}
 use lib.ListN.{length}
@@ -19,7 +18,7 @@ use Rattle.gtb.specs.Kept.{keptDirection, keptLine}
 use Rattle.correction.specs.declared.Decoded.{Decoded}
 use Rattle.correction.specs.declared.Decoded.the-variants.{Corrected, Refused}
 use Rattle.correction.specs.Steps.{Toggled}
-use Rattle.erasure.specs.Fill.{rising, FilledIn, NoWord, SeveralWords}
+use Rattle.erasure.specs.Fill.{rising, FilledIn, NoWord, SeveralWords, Decision}
 
 -- place i of the list is above place k
 abbrev pub rises : List ℕ → ℕ → ℕ → Bool
@@ -80,12 +79,11 @@ pub record Solution (s : Shape) (word places : List ℕ) (answer : Outcome) (cha
   pub none : answer ≡ outcome.Unsolvable → NoWord s word places word (Refused Refusal.Unfillable)
   pub several : answer ≡ outcome.Ambiguous → SeveralWords s word places word (Refused Refusal.Ambiguous)
 
--- the answer and the word past the tests
-abbrev pub Decision : Shape → List ℕ → List ℕ → List ℕ → Decoded → Type 0
-Decision s word places word′ r = FilledIn s word places word′ r ⊎ (NoWord s word places word′ r ⊎ SeveralWords s word places word′ r)
-
 -- tests 3 and 12, then the work
-pub record PlacesTested (s : Shape) (word places word′ : List ℕ) (r : Decoded) : Type 0 where
+pub record LateTests (Decided : Type 0) (s : Shape) (word places word′ : List ℕ) (r : Decoded) : Type 0 where
   pub wide : narrow (s .b) word ≡ false → (r ≡ Refused Refusal.Width) × (word′ ≡ word)
   pub unordered : narrow (s .b) word ≡ true → rising (wordLength s) places ≡ false → (r ≡ Refused Refusal.Places) × (word′ ≡ word)
-  pub decided : narrow (s .b) word ≡ true → rising (wordLength s) places ≡ true → Decision s word places word′ r
+  pub decided : narrow (s .b) word ≡ true → rising (wordLength s) places ≡ true → Decided
+
+abbrev pub PlacesTested : Shape → List ℕ → List ℕ → List ℕ → Decoded → Type 0
+PlacesTested s word places word′ r = LateTests (Decision s word places word′ r) s word places word′ r

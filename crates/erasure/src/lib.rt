@@ -19,8 +19,8 @@ ghost use mathlib.Core.Path.{_≡_};
 ghost use lib.ListN.{length};
 ghost use Rattle.gtb.specs.Shape.{Lawful, wordLength, scratchLength};
 ghost use Rattle.gtb.specs.Square.{Word};
-ghost use Rattle.erasure.specs.Fill.{Filling};
-ghost use Rattle.erasure.specs.Steps.{Places, Solution, Decision, PlacesTested};
+ghost use Rattle.erasure.specs.Fill.{Decision, Filling};
+ghost use Rattle.erasure.specs.Steps.{Places, Solution, PlacesTested};
 
 // The changes at the places that make the word a codeword: how many such lists of changes there are, and the one.
 // Unknown k is the change at place k, so that a row needs as many bits as there are places.

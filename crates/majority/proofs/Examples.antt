@@ -8,9 +8,9 @@ use Rattle.gtb.specs.declared.Refusal.{Refusal}
 use Rattle.gtb.specs.Shape.{orders, isOrder, standard, regular, fitsSlope, sloped, lawful, slopeOf}
 use Rattle.gtb.specs.Square.{lineOf, narrow, syndrome, silentTest}
 use Rattle.correction.specs.declared.Decoded.the-variants.{Corrected, Refused}
-use Rattle.correction.specs.Error.{mended}
+use Rattle.correction.specs.Error.{shows, mended}
 use Rattle.correction.specs.Reading.{changesBy, restoredBy, acceptedBy, readOf}
-use Rattle.majority.specs.Majority.{shows, majority, votedAt, majorityOf, voted}
+use Rattle.majority.specs.Majority.{majority, votedAt, majorityOf, voted}
 
 -- P6: 7 on digits 3 and 4, where n/2 is 1
 pub two-changed : majorityOf (standard 3 3 3) (3 ∷ 6 ∷ 5 ∷ 2 ∷ 4 ∷ 6 ∷ 6 ∷ 5 ∷ 3 ∷ []) ≡ Refused Refusal.NoMajority

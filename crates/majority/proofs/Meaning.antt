@@ -3,41 +3,27 @@ use mathlib.Core.Path.{_≡_, refl}
 use mathlib.Core.Bool.{not, _&&_}
 use mathlib.Core.List.{List}
 use mathlib.Core.Logic.{⊎-elim}
-use Prim.Native.Nat.{ℕ, _+_, _/_, _^_, _<_, _≤_}
+use Prim.Native.Nat.{ℕ, _/_, _^_, _<_, _≤_}
 use native.Mathlib.Omega.{arith}
 use lib.Dec.{eqb}
 use lib.Pow.{pow-pos}
-use borrow.Author.Tests.{eq-eqb, ne-eqb, not-true}
+use borrow.Author.Tests.{ne-eqb}
 use Rattle.parity.specs.Count.{count}
 use Rattle.parity.proofs.Tests.{not-of-false}
-use Rattle.parity.proofs.Sums.{count-le, count-not}
 use Rattle.parity.proofs.Pigeon.{others-le, count-others}
 use Rattle.gtb.specs.declared.Shape.{Shape}
 use Rattle.gtb.specs.Shape.{Lawful, wordLength}
 use Rattle.gtb.specs.Square.{lineOf, at, Word, Codeword}
 use Rattle.gtb.proofs.Rows.{syndrome-width}
-use Rattle.gtb.proofs.Crossing.{others, crossing}
 use Rattle.distance.specs.Distance.{Near}
 use Rattle.correction.specs.declared.Decoded.the-variants.{Corrected}
 use Rattle.correction.specs.Error.{weight, damaged, onCheck}
 use Rattle.correction.specs.Answer.{decodedWord}
-use Rattle.correction.proofs.Near.{errorOf, support, error-size, near-private, damaged-near, near-meant}
+use Rattle.correction.proofs.Near.{errorOf, support, error-size, damaged-near, near-meant}
+use Rattle.correction.proofs.Guessing.{most-show}
 use Rattle.correction.proofs.Readings.{Meant, means-read, meets}
-use Rattle.majority.specs.Majority.{shows, majority, votedAt, vote, majorityOf, voted, Voting}
+use Rattle.majority.specs.Majority.{majority, votedAt, vote, majorityOf, voted, Voting}
 use Rattle.majority.proofs.Votes.{majority-is, majority-among}
-
--- a check that no other wrong position is on shows the error at j, be it zero or not
-pub most-show : {s : Shape} {l k : ℕ} {w v : List ℕ} → Lawful s → Near s l w v k → (j : ℕ) → j < wordLength s
-    → s .n ≤ shows (s .n) (onCheck s (at w) j) (errorOf w v j) + count (wordLength s) (λ i. support w v i && not (eqb i j))
-unfolding shows
-most-show {s} {l} {k} {w} {v} law near j lj =
-    omega (
-      arith,
-      crossing s law (support w v) j lj,
-      count-not (s .n) (others s (support w v) j),
-      count-le (s .n) (λ t. not (others s (support w v) j t)) (λ t. eqb (onCheck s (at w) j t) (errorOf w v j))
-          (λ t lt free. eq-eqb (onCheck s (at w) j t) (errorOf w v j) (near-private law near j t lj lt (not-true (others s (support w v) j t) free))),
-    )
 
 -- so the vote finds the error everywhere
 pub vote-exact : (s : Shape) → Lawful s → (w v : List ℕ) (k : ℕ) → Near s (s .n / 2) w v k → (j : ℕ) → j < wordLength s → votedAt s (at w) j ≡ errorOf w v j

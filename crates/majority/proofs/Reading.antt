@@ -20,13 +20,13 @@ use Rattle.gtb.proofs.Bounds.{bounds}
 use Rattle.distance.specs.Distance.{Near}
 use Rattle.correction.specs.Error.{onCheck, mended}
 use Rattle.correction.specs.Reading.{changesBy, restoredBy, acceptedBy}
-use Rattle.correction.specs.Steps.{quiet, Lists, Listed, Cancelled, Found}
+use Rattle.correction.specs.Steps.{checkIn, quiet, Lists, Listed, Cancelled, Found}
 use Rattle.correction.proofs.Listing.{within, listed-lists, lists-cong, when-nonzero}
 use Rattle.correction.proofs.Tables.{shown, silent-by}
 use Rattle.correction.proofs.Near.{error-near}
 use Rattle.correction.proofs.Readings.{too-many, still-loud, found-none, found-few}
 use Rattle.majority.specs.Majority.{votedAt, vote}
-use Rattle.majority.specs.Steps.{checkIn, votedIn, changes, passedOver, foundIn, tooMany}
+use Rattle.majority.specs.Steps.{votedIn, changes, passedOver, foundIn, tooMany}
 use Rattle.majority.proofs.Votes.{majority-cong}
 use Rattle.majority.proofs.Meaning.{vote-narrow, vote-meant}
 

@@ -1,5 +1,5 @@
 -- The vote at one position, by the table of syndromes.
-use mathlib.Core.Path.{_≡_, sym, ap, ap₂, _∙_}
+use mathlib.Core.Path.{_≡_, sym, ap, _∙_}
 use mathlib.Core.Bool.{Bool, true, false, not, _&&_}
 use mathlib.Core.List.{List}
 use Prim.Native.Nat.{ℕ, _+_, _*_, _/_, _<_, _≤_}
@@ -12,32 +12,16 @@ use borrow.Author.Tests.{eq-eqb, ne-eqb}
 use Rattle.parity.specs.Lists.{Begins}
 use Rattle.parity.specs.Count.{bit}
 use Rattle.parity.proofs.Tests.{and-no-left}
-use Rattle.parity.proofs.Sums.{count-zero, count-more, count-bound}
 use Rattle.parity.proofs.First.{first-at, first-none}
 use Rattle.gtb.specs.declared.Shape.{Shape}
 use Rattle.gtb.specs.Square.{at}
-use Rattle.correction.proofs.Listing.{count-grows}
+use Rattle.correction.specs.Error.{shows}
+use Rattle.correction.specs.Steps.{checkIn}
 use Rattle.correction.proofs.Rows.{own-check}
-use Rattle.majority.specs.Majority.{shows, majority}
-use Rattle.majority.specs.Steps.{checkIn, prevailing, votedIn, changes, passedOver, foundIn}
+use Rattle.correction.proofs.Showing.{shows-zero, shows-more, shows-grows}
+use Rattle.majority.specs.Majority.{majority}
+use Rattle.majority.specs.Steps.{prevailing, votedIn, changes, passedOver, foundIn}
 use Rattle.majority.proofs.Votes.{majority-quiet, majority-cong}
-
--- ---- counting
-pub shows-zero : (v : ℕ → ℕ) (x : ℕ) → 0 ≡ shows 0 v x
-unfolding shows
-shows-zero v x = sym (count-zero (λ t. eqb (v t) x))
-
-pub shows-more : {c h : ℕ} (t : ℕ) (v : ℕ → ℕ) (x : ℕ) → c ≡ shows t v x → h ≡ bit (eqb (v t) x) → c + h ≡ shows (t + 1) v x
-unfolding shows
-shows-more t v x e b = ap₂ (λ (a b : ℕ). a + b) e b ∙ sym (count-more t (λ t. eqb (v t) x))
-
-pub shows-le : (t : ℕ) (v : ℕ → ℕ) (x : ℕ) → shows t v x ≤ t
-unfolding shows
-shows-le t v x = count-bound t (λ t. eqb (v t) x)
-
-shows-grows : (t n : ℕ) (v : ℕ → ℕ) (x : ℕ) → t ≤ n → shows t v x ≤ shows n v x
-unfolding shows
-shows-grows t n v x l = count-grows (λ t. eqb (v t) x) l
 
 -- the values of the checks
 pub values-vote : (s : Shape) (syn : List ℕ) (j : ℕ) {values : List ℕ} → Begins 8 (s .n) (checkIn s syn j) values → majority (s .n) (at values) ≡ votedIn s syn j

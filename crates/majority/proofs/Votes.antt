@@ -8,9 +8,11 @@ use lib.Dec.{eqb, ltb}
 use borrow.Author.Tests.{ne-eqb, eqb-true, eqb-false, ltb-true, lt-ltb, le-ltb}
 use Rattle.parity.specs.Count.{any}
 use Rattle.parity.proofs.Tests.{either, and-right, and-both, and-no-left, and-no-right, not-of-true, not-of-false, any-elim, any-no}
-use Rattle.parity.proofs.Sums.{count-cong, count-le, count-not, count-none}
+use Rattle.parity.proofs.Sums.{count-le, count-not}
 use Rattle.parity.proofs.First.{first-some, first-none, first-cong}
-use Rattle.majority.specs.Majority.{shows, majority}
+use Rattle.correction.specs.Error.{shows}
+use Rattle.correction.proofs.Showing.{shows-cong, first-shown}
+use Rattle.majority.specs.Majority.{majority}
 use Rattle.majority.specs.Steps.{prevailing}
 
 -- two different values share the n between them
@@ -23,16 +25,6 @@ shows-apart n v x y ne =
           (λ t l h. not-of-false (ne-eqb (v t) y (λ e. ne (sym (eqb-true (v t) x h) ∙ e)))),
       count-not n (λ t. eqb (v t) y),
     )
-
--- a value that some are
-shows-some : (n : ℕ) (v : ℕ → ℕ) (x : ℕ) → 0 < shows n v x → (t : ℕ) × (t < n) × (v t ≡ x)
-unfolding shows
-shows-some n v x pos =
-    ⊎-elim
-    (λ (h : any n (λ t. eqb (v t) x) ≡ true). let (t, l, e) = any-elim n (λ t. eqb (v t) x) h in (t, l, eqb-true (v t) x e))
-    (λ (h : any n (λ t. eqb (v t) x) ≡ false).
-    absurd (omega (arith, count-none n (λ t. eqb (v t) x) (any-no n (λ t. eqb (v t) x) h))))
-    (either (any n (λ t. eqb (v t) x)))
 
 -- a value that passes the test is shown by more than half
 prevails-most : (n : ℕ) (v : ℕ → ℕ) (x : ℕ) → prevailing n v x ≡ true → n < 2 * shows n v x
@@ -57,12 +49,12 @@ majority-quiet n v half = majority-none n v (λ x ne. omega (arith, shows-apart 
 pub majority-most : (n : ℕ) (v : ℕ → ℕ) (x : ℕ) → (x ≡ 0 → ⊥) → n < 2 * shows n v x → majority n v ≡ x
 unfolding majority prevailing
 majority-most n v x ne most =
-    let (t, lt, e) = shows-some n v x (omega arith) in
+    let (t, lt, e, first) = first-shown n v x (omega arith) in
     let pass : prevailing n v (v t) ≡ true =
     and-both (not-of-false (ne-eqb (v t) 0 (λ z. ne (sym e ∙ z))))
     (lt-ltb n (2 * shows n v (v t)) (rw e most)) in
-    let (u, lu, h, first) = first-some n (λ t. prevailing n v (v t)) v t lt pass in
-    first
+    let (u, lu, h, value) = first-some n (λ t. prevailing n v (v t)) v t lt pass in
+    value
     ∙ ⊎-elim (λ (same : eqb (v u) x ≡ true). eqb-true (v u) x same)
     (λ (other : eqb (v u) x ≡ false).
     absurd (omega (arith, prevails-most n v (v u) h, shows-apart n v (v u) x (eqb-false (v u) x other))))
@@ -93,10 +85,6 @@ majority-among n v =
     (λ (h : any n (λ t. prevailing n v (v t)) ≡ false).
     inl (first-none n (λ t. prevailing n v (v t)) v (any-no n (λ t. prevailing n v (v t)) h)))
     (either (any n (λ t. prevailing n v (v t))))
-
-pub shows-cong : (n : ℕ) (v v′ : ℕ → ℕ) (x : ℕ) → ((t : ℕ) → t < n → v t ≡ v′ t) → shows n v x ≡ shows n v′ x
-unfolding shows
-shows-cong n v v′ x h = count-cong n _ _ (λ t l. ap (λ (y : ℕ). eqb y x) (h t l))
 
 pub majority-cong : (n : ℕ) (v v′ : ℕ → ℕ) → ((t : ℕ) → t < n → v t ≡ v′ t) → majority n v ≡ majority n v′
 unfolding majority prevailing

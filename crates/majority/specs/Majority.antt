@@ -3,17 +3,13 @@ use mathlib.Core.Bool.{true, not, _&&_}
 use mathlib.Core.List.{List}
 use Prim.Native.Nat.{ℕ, _*_, _/_}
 use lib.Dec.{eqb, ltb}
-use Rattle.parity.specs.Count.{count, firstValue}
+use Rattle.parity.specs.Count.{firstValue}
 use Rattle.gtb.specs.declared.Shape.{Shape}
 use Rattle.gtb.specs.declared.Refusal.{Refusal}
 use Rattle.distance.specs.Distance.{Near}
 use Rattle.correction.specs.declared.Decoded.{Decoded}
-use Rattle.correction.specs.Error.{onCheck}
+use Rattle.correction.specs.Error.{onCheck, shows}
 use Rattle.correction.specs.Reading.{Reader, restoredBy, readOf, Reads}
-
--- how many of the first n values are x
-unfoldable pub shows : ℕ → (ℕ → ℕ) → ℕ → ℕ
-shows n v x = count n (λ t. eqb (v t) x)
 
 -- the nonzero value that strictly more than half of the n values are, or 0 if there is none
 unfoldable pub majority : ℕ → (ℕ → ℕ) → ℕ

@@ -6,13 +6,9 @@ use Prim.Native.Nat.{ℕ, _+_, _*_, _/_}
 use lib.Dec.{eqb, ltb}
 use Rattle.gtb.specs.declared.Shape.{Shape}
 use Rattle.gtb.specs.Square.{at}
-use Rattle.correction.specs.Error.{checkOf}
-use Rattle.correction.specs.Steps.{Listed}
-use Rattle.majority.specs.Majority.{shows, majority}
-
--- `onCheck` by the table
-abbrev pub checkIn : Shape → List ℕ → ℕ → ℕ → ℕ
-checkIn s syn j t = at syn (checkOf s j t)
+use Rattle.correction.specs.Error.{shows}
+use Rattle.correction.specs.Steps.{checkIn, Listed}
+use Rattle.majority.specs.Majority.{majority}
 
 -- a nonzero value that more than half of n values are
 unfoldable pub prevailing : ℕ → (ℕ → ℕ) → ℕ → Bool

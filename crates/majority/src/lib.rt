@@ -1,7 +1,7 @@
 // Reading a damaged word by vote.
 mod correct;
 mod locate;
-pub mod vote;
+mod vote;
 
 use correction::Decoded;
 use correction::test;

@@ -1,9 +1,9 @@
 // The positions that the vote changes, in rising order, in a local array of 8. One more than n/2 of them is one too many, and ends the search.
 // Most positions have many silent checks, and are passed over by these alone.
-use crate::vote::hit;
 use crate::vote::vote;
 use correction::row::check_in_row;
 use correction::row::shifts_by;
+use correction::values::hit;
 use gtb::Shape;
 ghost use mathlib.Core.Path.{_≡_};
 ghost use mathlib.Core.Bool.{true};

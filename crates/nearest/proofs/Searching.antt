@@ -18,13 +18,14 @@ use Rattle.gtb.proofs.Bounds.{bounds, positive}
 use Rattle.distance.specs.Distance.{Near}
 use Rattle.distance.proofs.Near.{near-self}
 use Rattle.correction.specs.Error.{checkOf}
-use Rattle.correction.specs.Steps.{Toggled}
+use Rattle.correction.specs.Steps.{Toggled, checkIn}
+use Rattle.correction.specs.Guesses.{NotSilent, ManyNotSilent, numberOn, Placed, guessed}
 use Rattle.correction.proofs.Tables.{silent-codeword}
+use Rattle.correction.proofs.Guessing.{line-right, number-lt}
 use Rattle.correction.proofs.Toggles.{toggled-back}
-use Rattle.majority.specs.Steps.{checkIn}
-use Rattle.nearest.specs.Steps.{Room, Loud, Crowded, numberOn, Placed, guessed, Narrow, Tried, Searched, Visited, Attempted}
+use Rattle.nearest.specs.Steps.{Room, Narrow, Tried, Searched, Visited, Attempted}
 use Rattle.nearest.proofs.Changing.{lists-none, changed, changed-word, changed-syndromes, near-less, restores-more, mended-none}
-use Rattle.nearest.proofs.Guessing.{none-wrong, line-right, not-crowded, guess-met, number-lt}
+use Rattle.nearest.proofs.Guessing.{none-wrong, few-not-silent, guess-met}
 
 -- nothing found
 tried-none : {s : Shape} {k : ℕ} {syn syn′ places errors : List ℕ} → Room syn′ places errors → syn′ ≡ syn → Tried s k syn syn′ places errors (k + 1)
@@ -106,7 +107,7 @@ module _ {s : Shape} {k j : ℕ} {syn now : List ℕ} (same : now ≡ syn) where
   }
 
 -- ---- the search
-pub search-silent : {s : Shape} {k check : ℕ} {syn places errors : List ℕ} → Lawful s → Room syn places errors → Loud s syn check → s .n * s .q ≤ check
+pub search-silent : {s : Shape} {k check : ℕ} {syn places errors : List ℕ} → Lawful s → Room syn places errors → NotSilent s syn check → s .n * s .q ≤ check
     → Searched s k syn syn places errors 0
 search-silent {s} {k} {check} {syn} {places} {errors} law room h l = record {
   tried = record {
@@ -123,8 +124,8 @@ search-silent {s} {k} {check} {syn} {places} {errors} law room h l = record {
   far = λ m. absurd (omega arith);
 }
 
-pub search-crowded : {s : Shape} {k : ℕ} {syn places errors : List ℕ} → Lawful s → Room syn places errors → Crowded s syn k → Searched s k syn syn places errors (k + 1)
-search-crowded law room crowd = record { tried = tried-none room refl; far = λ l w v c y near. not-crowded law near y crowd }
+pub search-many : {s : Shape} {k : ℕ} {syn places errors : List ℕ} → Lawful s → Room syn places errors → ManyNotSilent s syn k → Searched s k syn syn places errors (k + 1)
+search-many law room many = record { tried = tried-none room refl; far = λ l w v c y near. few-not-silent law near y many }
 
 -- the first i positions on line L of direction t are right
 pub record Passed (s : Shape) (k : ℕ) (syn : List ℕ) (t L i : ℕ) : Type 0 where
@@ -134,12 +135,12 @@ pub passed-none : (s : Shape) (k : ℕ) (syn : List ℕ) (t L : ℕ) → Passed 
 passed-none s k syn t L = record { right = λ w v c y near p lp e l. absurd (omega arith) }
 
 -- a check that is not silent has a wrong symbol
-module _ {s : Shape} {syn : List ℕ} {check : ℕ} (law : Lawful s) (lc : check < s .n * s .q) (h : Loud s syn check) where
+module _ {s : Shape} {syn : List ℕ} {check : ℕ} (law : Lawful s) (lc : check < s .n * s .q) (h : NotSilent s syn check) where
   loud-wrong : {k c : ℕ} {w v : List ℕ} → Syndromes s w syn → Near s k w v c → ((p : ℕ) → p < wordLength s → lineOf s (check / s .q) p ≡ check % s .q → at w p ⊕ at v p ≡ 0) → ⊥
   loud-wrong y near right =
       let lt : check / s .q < s .n = div-lt-iff-lt-mul (positive s law) .1 lc in
       let lL : check % s .q < s .q = mod-lt check (positive s law) in
-      h .loud lc
+      h .nonzero lc
       (ap (at syn) (sym (div-add-mod' check (s .q))) ∙ y .entry (check / s .q) (check % s .q) lt lL ∙ line-right law near (check / s .q) (check % s .q) lt lL right)
 
   pub search-none : {k : ℕ} {places errors : List ℕ} → Room syn places errors → k ≡ 0 → Searched s k syn syn places errors 1

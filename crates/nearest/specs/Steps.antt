@@ -1,53 +1,20 @@
 -- What the private steps of the search for the nearest codeword establish. They see the syndromes in their table alone, `syn` here: check t × q + L at that place.
 use mathlib.Core.Path.{_≡_}
-use mathlib.Core.Bool.{true, not, cond, _&&_}
 use mathlib.Core.List.{List}
-use Prim.Native.Nat.{ℕ, zero, suc, _+_, _*_, _/_, _%_, _^_, _<_, _≤_}
-use lib.Dec.{eqb, leb}
+use Prim.Native.Nat.{ℕ, _^_, _<_, _≤_}
 use lib.ListN.{length}
 use Rattle.parity.specs.Xor.{_⊕_}
 use Rattle.gtb.specs.declared.Shape.{Shape}
-use Rattle.gtb.specs.Shape.{wordLength}
-use Rattle.gtb.specs.Square.{lineOf, at, Word, Syndromes}
+use Rattle.gtb.specs.Square.{at, Word, Syndromes}
 use Rattle.distance.specs.Distance.{Near}
 use Rattle.correction.specs.Error.{mended}
-use Rattle.correction.specs.Steps.{quiet, Within, Lists}
-use Rattle.majority.specs.Majority.{shows}
+use Rattle.correction.specs.Steps.{Within, Lists}
 
 -- the lent arrays have their sizes
 pub record Room (syn places errors : List ℕ) : Type 0 where
   pub table : length syn ≡ 248
   pub positions : length places ≡ 8
   pub values : length errors ≡ 8
-
--- a check that is not silent, or n × q if there is none
-pub record Loud (s : Shape) (syn : List ℕ) (r : ℕ) : Type 0 where
-  pub loud : r < s .n * s .q → at syn r ≡ 0 → ⊥
-  pub silent : s .n * s .q ≤ r → quiet s syn ≡ true
-
--- how many lines of direction t are silent
-abbrev pub silentLines : Shape → List ℕ → ℕ → ℕ
-silentLines s syn t = shows (s .q) (λ L. at syn (t * s .q + L)) 0
-
--- in some direction more than k lines are not
-pub record Crowded (s : Shape) (syn : List ℕ) (k : ℕ) : Type 0 where
-  pub direction : ℕ
-  pub below : direction < s .n
-  pub many : silentLines s syn direction + k < s .q
-
--- which of the q positions on its line of direction t position p is
-unfoldable pub numberOn : Shape → ℕ → ℕ → ℕ
-numberOn s zero p = p % s .q
-numberOn s (suc t) p = p / s .q
-
--- position j is number i on line L of direction t
-pub record Placed (s : Shape) (t L i j : ℕ) : Type 0 where
-  pub below : j < wordLength s
-  pub only : (p : ℕ) → p < wordLength s → lineOf s t p ≡ L → numberOn s t p ≡ i → p ≡ j
-
--- of n values the one at t, if it is not 0, none before it is it, and at least `least` of them all are; else 0
-unfoldable pub guessed : ℕ → (ℕ → ℕ) → ℕ → ℕ → ℕ
-guessed n v least t = cond (not (eqb (v t) 0) && eqb (shows t v (v t)) 0 && leb least (shows n v (v t))) (v t) 0
 
 -- x is as narrow as the symbols of a word with these syndromes
 pub record Narrow (s : Shape) (syn : List ℕ) (x : ℕ) : Type 0 where

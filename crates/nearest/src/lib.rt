@@ -1,5 +1,4 @@
 // Reading a word with at most n - 1 wrong symbols, whether they cancel on a check or not.
-pub mod guesses;
 mod restore;
 mod search;
 

@@ -1,12 +1,12 @@
 // The search for a codeword that differs at no more than k positions. What is guessed is XORed onto the checks on its position, and taken
 // off again where the search with one position less finds nothing. The list gets what was guessed, the last guess first.
-use crate::guesses::candidate;
-use crate::guesses::is_crowded;
-use crate::guesses::loud_check;
-use crate::guesses::place_of;
 use correction::cancel::cancel_one;
+use correction::guesses::candidate;
+use correction::guesses::first_not_silent;
+use correction::guesses::place_of;
+use correction::guesses::too_many_not_silent;
+use correction::values::gather;
 use gtb::Shape;
-use majority::vote::gather;
 ghost use mathlib.Core.Bool.{true};
 ghost use Prim.Native.Nat.{_<_};
 ghost use Rattle.gtb.specs.Shape.{Lawful, wordLength};
@@ -84,14 +84,14 @@ fn search(
 {
     let q = shape.q as usize;
     let n = shape.n as usize;
-    let check = loud_check(shape, syn);
+    let check = first_not_silent(shape, syn);
     if n * q <= check {
         return 0;
     }
     if k == 0 {
         return 1;
     }
-    if is_crowded(shape, syn, k) {
+    if too_many_not_silent(shape, syn, k) {
         return k + 1;
     }
     let t = check / q;

@@ -1,1 +1,1 @@
-// Arrivals of words that decode_nearest restored first. No code: specs/ has the definitions, proofs/ puts the nearest codeword and demand 3 together.
+// Arrivals of words that were restored first. No code: specs/ has the definitions, proofs/ puts the nearest codeword, restoring and demand 3 together.

@@ -1,5 +1,4 @@
--- Reading with dead cells looks at the first n - 1 slopes alone.
-use mathlib.Core.Path.{sym, _∙_}
+-- Restoring looks at the first n - 1 slopes alone.
 use mathlib.Core.List.{List}
 use mathlib.Core.Logic.{inl, inr}
 use Prim.Native.Nat.{ℕ}
@@ -8,7 +7,7 @@ use Rattle.gtb.specs.Alike.{reslope, Alike}
 use Rattle.gtb.proofs.Alikes.{codeword-alike, alike-back}
 use Rattle.distance.specs.Distance.{differences}
 use Rattle.correction.specs.declared.Decoded.{Decoded}
-use Rattle.erasure.proofs.Alikes.{fill-status-alike}
+use Rattle.erasure.proofs.Alikes.{tested-alike}
 use Rattle.restore.specs.Restore.{reach, strays, Reaches, Judgement, Recovering}
 
 reaches-alike : (s : Shape) (slopes : List ℕ) → Alike s slopes → {word places v : List ℕ} → Reaches s word places v → Reaches (reslope s slopes) word places v
@@ -41,7 +40,4 @@ module _ (s : Shape) (slopes : List ℕ) (alike : Alike s slopes) (word places :
 
     -- the same answer, word and scratch
     pub restore-alike : {scratch scratch′ : List ℕ} → Recovering s word places scratch word′ scratch′ r → Recovering (reslope s slopes) word places scratch word′ scratch′ r
-    restore-alike {scratch} f = record {
-      tested = λ e is. f .tested e (sym (fill-status-alike s slopes alike word places scratch) ∙ is);
-      decided = λ is. let (answers, cleared) = f .decided (sym (fill-status-alike s slopes alike word places scratch) ∙ is) in (judgement-alike answers, cleared);
-    }
+    restore-alike = tested-alike s slopes alike word places judgement-alike

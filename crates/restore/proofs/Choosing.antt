@@ -13,11 +13,11 @@ use Rattle.parity.proofs.Tests.{either, clash}
 use Rattle.gtb.specs.declared.Shape.{Shape}
 use Rattle.gtb.specs.Shape.{Lawful, wordLength}
 use Rattle.gtb.specs.Square.{at}
-use Rattle.majority.specs.Majority.{shows}
-use Rattle.majority.specs.Steps.{checkIn}
-use Rattle.majority.proofs.Votes.{shows-cong}
-use Rattle.nearest.specs.Steps.{numberOn, Placed, guessed}
-use Rattle.nearest.proofs.Guessing.{first-shown, guess-is, number-lt}
+use Rattle.correction.specs.Error.{shows}
+use Rattle.correction.specs.Steps.{checkIn}
+use Rattle.correction.specs.Guesses.{numberOn, Placed, guessed}
+use Rattle.correction.proofs.Showing.{shows-cong, first-shown}
+use Rattle.correction.proofs.Guessing.{guess-is, number-lt}
 use Rattle.erasure.specs.Fill.{isListed}
 use Rattle.restore.specs.Steps.{suspects, rank, On, Chosen, Outvoted, Suspected}
 

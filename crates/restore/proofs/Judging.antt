@@ -11,15 +11,14 @@ use Rattle.parity.proofs.Sums.{count-or}
 use Rattle.gtb.specs.declared.Shape.{Shape}
 use Rattle.gtb.specs.declared.Refusal.{Refusal}
 use Rattle.gtb.specs.Shape.{Lawful, wordLength}
-use Rattle.gtb.specs.Square.{at}
 use Rattle.gtb.proofs.Answers.{other-refusal}
 use Rattle.distance.specs.Distance.{minimumDistance}
 use Rattle.distance.proofs.Distance.{few-unambiguous}
 use Rattle.correction.specs.declared.Decoded.{Decoded}
 use Rattle.correction.specs.declared.Decoded.the-variants.{Corrected, Refused}
 use Rattle.correction.specs.Answer.{decodedNumber}
-use Rattle.erasure.specs.Fill.{isListed, Agrees}
-use Rattle.erasure.specs.Steps.{Places, Decision}
+use Rattle.erasure.specs.Fill.{isListed, Agrees, Decision}
+use Rattle.erasure.specs.Steps.{Places}
 use Rattle.erasure.proofs.Lists.{listed-count}
 use Rattle.erasure.proofs.Filling.{never-both, refused-same}
 use Rattle.restore.specs.Restore.{reach, strays, Close, Reaches, Judgement}

@@ -5,6 +5,6 @@ pub mod Straying
 pub mod Patching
 pub mod Searching
 pub mod Judging
-pub mod Answers
 pub mod Recovering
+pub mod Limit
 pub mod Alikes

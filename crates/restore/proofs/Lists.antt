@@ -35,10 +35,10 @@ module _ (places : List ℕ) (j : ℕ) where
         | no g ↦ absurd (omega (arith, longer, ap length (sym (take-all (length places + 1) full (omega arith)) ∙ e)))
       ]
 
-  earlier : (i : ℕ) → i < length places → at (places ++ (j ∷ [])) i ≡ at places i
+  pub earlier : (i : ℕ) → i < length places → at (places ++ (j ∷ [])) i ≡ at places i
   earlier i l = List·getD-append places (j ∷ []) 0 i l
 
-  latest : at (places ++ (j ∷ [])) (length places) ≡ j
+  pub latest : at (places ++ (j ∷ [])) (length places) ≡ j
   latest = getD-append-seam places j [] 0
 
   -- what is listed then

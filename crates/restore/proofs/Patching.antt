@@ -23,12 +23,11 @@ use Rattle.gtb.proofs.Bounds.{positive}
 use Rattle.gtb.proofs.Lines.{line-lt}
 use Rattle.gtb.proofs.Words.{tabulate-word}
 use Rattle.distance.specs.Distance.{differences, Near}
-use Rattle.correction.specs.Error.{onCheck}
+use Rattle.correction.specs.Error.{onCheck, shows}
+use Rattle.correction.specs.Steps.{checkIn}
+use Rattle.correction.specs.Guesses.{ManyNotSilent}
 use Rattle.correction.proofs.Near.{errorOf}
-use Rattle.majority.specs.Majority.{shows}
-use Rattle.majority.specs.Steps.{checkIn}
-use Rattle.nearest.specs.Steps.{Crowded}
-use Rattle.nearest.proofs.Guessing.{enough, line-right, lines-few}
+use Rattle.correction.proofs.Guessing.{enough, line-right, lines-few}
 use Rattle.erasure.specs.Fill.{isListed}
 use Rattle.restore.specs.Restore.{strays, Close}
 use Rattle.restore.specs.Steps.{Hidden}
@@ -111,20 +110,20 @@ module _ (s : Shape) (word places v : List ℕ) where
         (masked t L lt lL)
 
     -- in each direction no more checks are not silent than positions are wrong
-    pub not-crowded : Crowded s seen k → ⊥
+    pub few-not-silent : ManyNotSilent s seen k → ⊥
     unfolding shows
-    not-crowded crowd =
-        let t : ℕ = crowd .direction in
+    few-not-silent many =
+        let t : ℕ = many .direction in
         omega (
           arith,
-          crowd .many,
-          lines-few law near t (crowd .below),
+          many .many,
+          lines-few law near t (many .below),
           count-not (s .q) (λ L. eqb (at seen (t * s .q + L)) 0),
           count-le (s .q) (λ L. not (eqb (at seen (t * s .q + L)) 0)) (λ L. not (eqb (syndrome s (at patched) t L) 0))
               (λ L lL loud.
               ⊎-elim (λ both. absurd (clash (eq-eqb (at seen (t * s .q + L)) 0 (both .0)) (not-true _ loud)))
               (λ shows. ap (λ (x : ℕ). not (eqb x 0)) (sym shows) ∙ loud)
-              (masked t L (crowd .below) lL)),
+              (masked t L (many .below) lL)),
         )
 
     -- of a wrong position's checks at most k - 1 are not touched and do not show what is wrong there

@@ -1,5 +1,5 @@
--- Reading with dead cells leaves one answer and one word; with few places it never leaves a choice, and undoes any damage on them and on as many others as
--- are in reach; with none it reads the nearest codeword; and what filling in accepts it answers the same.
+-- Restoring leaves one answer and one word; with few places it never leaves a choice, and undoes any damage on them and on as many others as are in reach;
+-- with none, what is in reach is within n - 1 symbols; and what filling in accepts it answers the same.
 use mathlib.Core.Path.{_≡_, refl, sym, ap, _∙_}
 use mathlib.Core.Bool.{Bool, not, _&&_}
 use mathlib.Core.List.{List, []}
@@ -8,8 +8,8 @@ use Prim.Native.Nat.{ℕ, _-_, _*_, _<_, _≤_}
 use native.Mathlib.Decide.{decLt}
 use native.Mathlib.Omega.{arith}
 use lib.Dec.{eqb}
-use lib.ListN.{length}
-use Rattle.parity.specs.Count.{count, any}
+use lib.ListN.{length, replicate}
+use Rattle.parity.specs.Count.{any}
 use Rattle.parity.proofs.Xors.{comm}
 use Rattle.parity.proofs.Sums.{count-cong}
 use Rattle.gtb.specs.declared.Shape.{Shape}
@@ -17,22 +17,21 @@ use Rattle.gtb.specs.declared.Refusal.{Refusal}
 use Rattle.gtb.specs.declared.Status.the-variants as status
 use Rattle.gtb.specs.Shape.{Lawful, wordLength}
 use Rattle.gtb.specs.Square.{at, Word, Codeword}
-use Rattle.gtb.proofs.Answers.{other-refusal}
+use Rattle.gtb.proofs.Answers.{never-refused, other-refusal}
 use Rattle.gtb.proofs.Bounds.{bounds}
 use Rattle.gtb.proofs.Crossing.{eqb-xor}
 use Rattle.distance.specs.Distance.{differences, minimumDistance, Near}
 use Rattle.correction.specs.declared.Decoded.{Decoded}
 use Rattle.correction.specs.declared.Decoded.the-variants.{Corrected, Refused}
-use Rattle.correction.specs.Answer.{decodedNumber, decodedWord}
-use Rattle.correction.specs.Error.{damaged}
+use Rattle.correction.specs.Answer.{decodedNumber}
+use Rattle.correction.specs.Error.{weight, damaged}
 use Rattle.correction.proofs.Near.{damaged-error}
-use Rattle.nearest.specs.Nearest.{nearestOf, nearestWord}
-use Rattle.nearest.proofs.Meaning.{near-nearest, far-refused}
-use Rattle.erasure.specs.Fill.{isListed, fillStatus, Filling}
-use Rattle.erasure.specs.Steps.{Places, Decision}
+use Rattle.erasure.specs.Fill.{isListed, fillStatus, Decision, Filling}
+use Rattle.erasure.specs.Steps.{Places}
 use Rattle.erasure.proofs.Lists.{rising-places}
-use Rattle.erasure.proofs.Filling.{status-cases, tests-never, passed, never-both, refused-same}
-use Rattle.restore.specs.Restore.{reach, strays, Reaches, Restored, SeveralReach, Judgement, Recovering}
+use Rattle.erasure.proofs.Answers.{status-cases, tested-unique}
+use Rattle.erasure.proofs.Filling.{passed, never-ambiguous, never-both, refused-same}
+use Rattle.restore.specs.Restore.{reach, weightBeside, strays, Reaches, Restored, SeveralReach, Judgement, Recovering}
 use Rattle.restore.proofs.Straying.{agrees-close}
 use Rattle.restore.proofs.Judging.{reach-half, reaches-agrees, close-unique}
 
@@ -60,16 +59,7 @@ judgement-unique (inr (inr a)) (inr (inr b)) = (a .answer ∙ sym (b .answer), a
 
 pub recovering-unique : {s : Shape} {word places scratch w₁ w₂ x₁ x₂ : List ℕ} {r₁ r₂ : Decoded} → Recovering s word places scratch w₁ x₁ r₁
     → Recovering s word places scratch w₂ x₂ r₂ → (r₁ ≡ r₂) × (w₁ ≡ w₂) × (x₁ ≡ x₂)
-recovering-unique {s} {word} {places} {scratch} f g =
-    ⊎-elim
-    (λ (h : (e : Refusal) × (fillStatus s word places scratch ≡ status.Refused e)).
-    let (rf, nf, wf, xf) = f .tested (h .0) (h .1) in
-    let (rg, ng, wg, xg) = g .tested (h .0) (h .1) in
-    (rf ∙ sym rg, wf ∙ sym wg, xf ∙ sym xg))
-    (λ (h : fillStatus s word places scratch ≡ status.Done).
-    let (r, w) = judgement-unique (f .decided h .0) (g .decided h .0) in
-    (r, w, f .decided h .1 ∙ sym (g .decided h .1)))
-    (status-cases (fillStatus s word places scratch))
+recovering-unique = tested-unique judgement-unique
 
 -- ---- few places leave no choice
 module _ {s : Shape} {word places : List ℕ} (law : Lawful s) (few : length places < minimumDistance (s .n)) (h : Places (wordLength s) places) where
@@ -91,13 +81,7 @@ module _ {s : Shape} {word places : List ℕ} (law : Lawful s) (few : length pla
 -- with fewer places than codewords are apart the answer is never 14: up to 2 n - 1 places
 pub never-several : {s : Shape} {word places scratch word′ scratch′ : List ℕ} {r : Decoded} → Lawful s → length places < minimumDistance (s .n)
     → Recovering s word places scratch word′ scratch′ r → r ≡ Refused Refusal.Ambiguous → ⊥
-never-several {s} {word} {places} {scratch} {r = r} law few f e =
-    ⊎-elim
-    (λ (h : (e : Refusal) × (fillStatus s word places scratch ≡ status.Refused e)).
-    tests-never s word places scratch (h .1 ∙ ap status.Refused (refused-same _ _ r (f .tested (h .0) (h .1) .0) e)))
-    (λ (h : fillStatus s word places scratch ≡ status.Done).
-    no-choice law few (rising-places (passed s word places scratch h .rises)) (f .decided h .0) e)
-    (status-cases (fillStatus s word places scratch))
+never-several law few = never-ambiguous (λ p. no-choice law few (rising-places (p .rises)))
 
 -- ---- the codeword that was stored comes back
 pub restore-right : {s : Shape} {word places scratch word′ scratch′ v : List ℕ} {r : Decoded} → fillStatus s word places scratch ≡ status.Done
@@ -107,10 +91,23 @@ restore-right {s} {word} {places} {scratch} tests few stored f =
     let p = passed s word places scratch tests in
     judgement-right (p .law) few (rising-places (p .rises)) stored (f .decided tests .0)
 
+-- and that is an answer that the contract allows
+pub recovering-there : {s : Shape} {word places scratch v : List ℕ} → fillStatus s word places scratch ≡ status.Done → length places < minimumDistance (s .n)
+    → Reaches s word places v → Recovering s word places scratch v (replicate (length scratch) 0) (Corrected (differences s v word))
+recovering-there {s} {word} {places} {scratch} {v} tests few stored =
+    let p = passed s word places scratch tests in
+    record {
+      tested = λ e h. absurd (never-refused e (sym tests ∙ h));
+      decided = λ h. (
+        inl (record { reaches = stored; only = λ u a. reaches-unique (p .law) few (rising-places (p .rises)) a stored; answer = refl; number = refl }),
+        refl,
+      );
+    }
+
 -- any damage on the listed places, and on as many others as are in reach
 pub damage-reaches : (s : Shape) (v e places : List ℕ) → Codeword s v → Word s e
-    → count (wordLength s) (λ j. not (isListed places j) && not (eqb (at e j) 0)) ≤ reach s (length places) → Reaches s (damaged v e) places v
-unfolding strays
+    → weightBeside s places (at e) ≤ reach s (length places) → Reaches s (damaged v e) places v
+unfolding strays weightBeside
 damage-reaches s v e places hv he few = record {
   codeword = hv;
   few =
@@ -153,33 +150,22 @@ accepts-filled {s} {word} {places} {scratch} {r₁ = r₁} f e g =
     (status-cases (fillStatus s word places scratch))
 
 -- ---- no places
--- n - 1 symbols are in reach, wherever they are
+-- n - 1 symbols are in reach, wherever they are: what `decode_nearest` looks for
 module _ (s : Shape) (word : List ℕ) (law : Lawful s) where
-  empty-reach : reach s 0 ≡ s .n - 1
+  pub empty-reach : reach s 0 ≡ s .n - 1
   unfolding reach
   empty-reach = omega (arith, bounds s law .n2)
 
-  empty-strays : (v : List ℕ) → strays s word [] v ≡ differences s v word
+  pub empty-strays : (v : List ℕ) → strays s word [] v ≡ differences s v word
   unfolding strays differences isListed any
   empty-strays v = refl
 
-  reaches-near : {v : List ℕ} → Word s word → Reaches s word [] v → Near s (s .n - 1) word v (differences s v word)
+  pub empty-weight : (e : ℕ → ℕ) → weightBeside s [] e ≡ weight s e
+  unfolding weightBeside weight isListed any
+  empty-weight e = refl
+
+  pub reaches-near : {v : List ℕ} → Word s word → Reaches s word [] v → Near s (s .n - 1) word v (differences s v word)
   reaches-near {v} hw a = record { word = hw; codeword = a .codeword; changed = refl; few = omega (arith, a .few, empty-strays v, empty-reach) }
 
-  near-reaches : {v : List ℕ} {k : ℕ} → Near s (s .n - 1) word v k → Reaches s word [] v
+  pub near-reaches : {v : List ℕ} {k : ℕ} → Near s (s .n - 1) word v k → Reaches s word [] v
   near-reaches {v} x = record { codeword = x .codeword; few = omega (arith, x .few, x .changed, empty-strays v, empty-reach) }
-
-  empty-judgement : {word′ : List ℕ} {r : Decoded} → Word s word → Judgement s word [] word′ r → (r ≡ nearestOf s word) × (word′ ≡ decodedWord word (nearestWord s word) r)
-  empty-judgement {word′} hw (inl a) =
-      let (answer, found) = near-nearest s law word word′ _ (reaches-near hw (a .reaches)) in
-      (a .answer ∙ sym answer, rw (a .answer) (sym found))
-  empty-judgement hw (inr (inl a)) = (a .answer ∙ sym (far-refused s law word hw (λ v k x. a .none v (near-reaches x))), rw (a .answer) (a .left))
-  empty-judgement hw (inr (inr a)) =
-      absurd
-      (a .different
-      (sym (near-nearest s law word (a .one) _ (reaches-near hw (a .reaches)) .1) ∙ near-nearest s law word (a .another) _ (reaches-near hw (a .reachesToo)) .1))
-
--- it reads the nearest codeword
-pub empty-nearest : {s : Shape} {word scratch word′ scratch′ : List ℕ} {r : Decoded} → fillStatus s word [] scratch ≡ status.Done → Recovering s word [] scratch word′ scratch′ r
-    → (r ≡ nearestOf s word) × (word′ ≡ decodedWord word (nearestWord s word) r)
-empty-nearest {s} {word} {scratch} tests f = let p = passed s word [] scratch tests in empty-judgement s word (p .law) (p .came) (f .decided tests .0)

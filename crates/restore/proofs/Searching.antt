@@ -15,9 +15,9 @@ use Rattle.gtb.specs.Square.{at, Word, Syndromes}
 use Rattle.distance.specs.Distance.{differences, minimumDistance}
 use Rattle.correction.specs.declared.Decoded.{Decoded}
 use Rattle.correction.specs.declared.Decoded.the-variants.{Corrected, Refused}
-use Rattle.nearest.specs.Steps.{Crowded, Loud}
-use Rattle.erasure.specs.Fill.{isListed}
-use Rattle.erasure.specs.Steps.{Places, Decision}
+use Rattle.correction.specs.Guesses.{NotSilent, ManyNotSilent}
+use Rattle.erasure.specs.Fill.{isListed, Decision}
+use Rattle.erasure.specs.Steps.{Places}
 use Rattle.erasure.proofs.Filling.{never-both, refused-same, no-choice}
 use Rattle.restore.specs.Restore.{Close}
 use Rattle.restore.specs.Steps.{Hides, HidesAll, rank, suspects, On, Chosen, Suspected, Node, Leaf, Sought}
@@ -25,7 +25,7 @@ use Rattle.restore.proofs.Lists.{longer, places-more}
 use Rattle.restore.proofs.Tables.{hidden-none}
 use Rattle.restore.proofs.Choosing.{rank-lt}
 use Rattle.restore.proofs.Straying.{wrong, wrong-is, wrong-unlisted, wrong-differs, close-agrees, agrees-close, close-right, close-within, some-wrong, close-fewer, close-more}
-use Rattle.restore.proofs.Patching.{patched-wrong, loud-wrong, not-crowded, votes}
+use Rattle.restore.proofs.Patching.{patched-wrong, loud-wrong, few-not-silent, votes}
 
 -- ---- the two answers
 module _ {s : Shape} {k : ℕ} {word places word′ : List ℕ} {Like : List ℕ → Type 0} where
@@ -76,9 +76,9 @@ leaf {touched = touched} node = record {
 }
 
 module _ {s : Shape} {word places seen touched : List ℕ} {k : ℕ} (node : Node s word places seen touched k) where
-  pub settle-loud : {check : ℕ} → check < s .n * s .q → Loud s seen check → Sought s 0 word places word (Refused Refusal.Far) (λ v. ⊥)
+  pub settle-loud : {check : ℕ} → check < s .n * s .q → NotSilent s seen check → Sought s 0 word places word (Refused Refusal.Far) (λ v. ⊥)
   settle-loud lc loud =
-      lost refl (λ v c. loud-wrong s word places v (node .law) (node .came) (node .hidden) c lc (loud .loud lc) (λ p lp e. close-right c p lp))
+      lost refl (λ v c. loud-wrong s word places v (node .law) (node .came) (node .hidden) c lc (loud .nonzero lc) (λ p lp e. close-right c p lp))
 
   pub settle-far : {word′ : List ℕ} {r : Decoded} {e : Refusal} → Decision s word places word′ r → r ≡ Refused e → Sought s 0 word places word′ (Refused Refusal.Far) (λ v. ⊥)
   unfolding minimumDistance
@@ -157,10 +157,10 @@ module _ {s : Shape} {k : ℕ} {word places seen touched now : List ℕ} {r : De
   pub search-none : k ≡ 0 → Sought s k word places now (Refused Refusal.Far) (λ v. ⊥)
   search-none z = lost (settled .left e is) (λ v c. settled .like e is v (close-within c (omega arith)))
 
-  pub search-crowded : Crowded s seen k → Sought s k word places now (Refused Refusal.Far) (λ v. ⊥)
-  search-crowded crowd = lost (settled .left e is) (λ v c. not-crowded s word places v (node .law) (node .came) (node .hidden) c crowd)
+  pub search-many : ManyNotSilent s seen k → Sought s k word places now (Refused Refusal.Far) (λ v. ⊥)
+  search-many many = lost (settled .left e is) (λ v c. few-not-silent s word places v (node .law) (node .came) (node .hidden) c many)
 
-  pub search-far : {check i : ℕ} {word′ : List ℕ} → word′ ≡ now → Loud s seen check → Passed s k now places check i → suspects s check ≤ i
+  pub search-far : {check i : ℕ} {word′ : List ℕ} → word′ ≡ now → NotSilent s seen check → Passed s k now places check i → suspects s check ≤ i
       → Sought s k word places word′ (Refused Refusal.Far) (λ v. ⊥)
   search-far {check} {i} same loud passed all =
       let m : Passed s k word places check i = subst (λ (w : List ℕ). Passed s k w places check i) (settled .left e is) passed in
@@ -168,7 +168,7 @@ module _ {s : Shape} {k : ℕ} {word places seen touched now : List ℕ} {r : De
       (λ v c.
       let right : (p : ℕ) → On s check p → wrong word places v p ≡ false = λ p on. m .right v c p on (omega (arith, rank-lt s check (node .law) on)) in
       elim (decLt check (s .n * s .q)) [
-        | yes lc ↦ loud-wrong s word places v (node .law) (node .came) (node .hidden) c lc (loud .loud lc) (λ p lp line. right p (record { below = lp; line = λ l. line }))
+        | yes lc ↦ loud-wrong s word places v (node .law) (node .came) (node .hidden) c lc (loud .nonzero lc) (λ p lp line. right p (record { below = lp; line = λ l. line }))
         | no nl ↦
             let (p, lp, wr) = some-wrong c (settled .like e is v) in
             clash wr (right p (record { below = lp; line = λ l. absurd (nl l) }))

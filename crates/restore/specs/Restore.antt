@@ -1,27 +1,30 @@
--- Reading a word with dead cells and other damage: any change at the listed places, and at few others.
+-- Dead cells and damage together: any change at the listed places, and at few others (RULES 3.6).
 use mathlib.Core.Path.{_≡_}
 use mathlib.Core.Bool.{not, _&&_}
 use mathlib.Core.List.{List}
 use mathlib.Core.Logic.{_⊎_}
 use Prim.Native.Nat.{ℕ, _+_, _-_, _*_, _/_, _^_, _≤_}
 use lib.Dec.{eqb}
-use lib.ListN.{length, replicate}
+use lib.ListN.{length}
 use Rattle.parity.specs.Count.{count}
 use Rattle.gtb.specs.declared.Shape.{Shape}
 use Rattle.gtb.specs.declared.Refusal.{Refusal}
-use Rattle.gtb.specs.declared.Status.the-variants as status
 use Rattle.gtb.specs.Shape.{wordLength}
 use Rattle.gtb.specs.Square.{at, Codeword}
-use Rattle.gtb.specs.Answer.{refusalNumber, scratchAfter}
 use Rattle.distance.specs.Distance.{differences}
 use Rattle.correction.specs.declared.Decoded.{Decoded}
 use Rattle.correction.specs.declared.Decoded.the-variants.{Corrected, Refused}
 use Rattle.correction.specs.Answer.{decodedNumber}
-use Rattle.erasure.specs.Fill.{isListed, fillStatus}
+use Rattle.erasure.specs.Fill.{isListed, TestedFirst}
 
--- how many symbols may be wrong beside f listed places: each costs two of the 2 n - 1 that the distance allows
+-- how many symbols may be wrong beside f listed places: each costs two of the 2 n - 1 that the distance allows. Subtraction stops at 0, so it is 0 from
+-- f = 2 n - 1 on
 unfoldable pub reach : Shape → ℕ → ℕ
 reach s f = (2 * s .n - 1 - f) / 2
+
+-- how many symbols of an error are not 0, beside those at listed places
+unfoldable pub weightBeside : Shape → List ℕ → (ℕ → ℕ) → ℕ
+weightBeside s places e = count (wordLength s) (λ j. not (isListed places j) && not (eqb (e j) 0))
 
 -- at how many positions that are not listed v is not the word that came
 unfoldable pub strays : Shape → List ℕ → List ℕ → List ℕ → ℕ
@@ -32,6 +35,7 @@ pub record Close (s : Shape) (k : ℕ) (word places v : List ℕ) : Type 0 where
   pub codeword : Codeword s v
   pub few : strays s word places v ≤ k
 
+-- within reach of the list
 abbrev pub Reaches : Shape → List ℕ → List ℕ → List ℕ → Type 0
 Reaches s word places v = Close s (reach s (length places)) word places v
 
@@ -60,11 +64,10 @@ pub record SeveralReach (s : Shape) (word places word′ : List ℕ) (r : Decode
   pub number : decodedNumber r ≡ 2 ^ 31 + 14
   pub left : word′ ≡ word
 
+-- one of the three
 abbrev pub Judgement : Shape → List ℕ → List ℕ → List ℕ → Decoded → Type 0
 Judgement s word places word′ r = Restored s word places word′ r ⊎ (OutOfReach s word places word′ r ⊎ SeveralReach s word places word′ r)
 
--- what reading with dead cells answers and leaves
-pub record Recovering (s : Shape) (word places scratch word′ scratch′ : List ℕ) (r : Decoded) : Type 0 where
-  pub tested : (e : Refusal) → fillStatus s word places scratch ≡ status.Refused e
-      → (r ≡ Refused e) × (decodedNumber r ≡ 2 ^ 31 + refusalNumber e) × (word′ ≡ word) × (scratch′ ≡ scratchAfter e scratch)
-  pub decided : fillStatus s word places scratch ≡ status.Done → Judgement s word places word′ r × (scratch′ ≡ replicate (length scratch) 0)
+-- what restoring answers and leaves
+abbrev pub Recovering : Shape → List ℕ → List ℕ → List ℕ → List ℕ → List ℕ → Decoded → Type 0
+Recovering s word places scratch word′ scratch′ r = TestedFirst (Judgement s word places word′ r) s word places scratch word′ scratch′ r

@@ -1,5 +1,5 @@
--- What the private steps of the search establish. Position p is wrong in a codeword v that is close if it is not listed and v has another symbol there.
--- The steps see the word's syndromes in a table `seen`: those of checks that no listed place is on, and 0 for the others, which `touched` marks with 1.
+-- What the private steps of the search establish. A position is wrong, where a codeword v is close, if it is not listed and v has another symbol there.
+-- The steps see the syndromes of the word in a table `seen`: of the checks that no listed place is on; for the others it has 0, and `touched` has 1.
 use mathlib.Core.Path.{_≡_}
 use mathlib.Core.Bool.{Bool, true, false, cond}
 use mathlib.Core.List.{List, [], _∷_, _++_}
@@ -10,16 +10,15 @@ use lib.ListN.{length}
 use Rattle.gtb.specs.declared.Shape.{Shape}
 use Rattle.gtb.specs.declared.Refusal.{Refusal}
 use Rattle.gtb.specs.Shape.{Lawful, wordLength}
-use Rattle.gtb.specs.Square.{lineOf, at, narrow, syndrome, Word}
+use Rattle.gtb.specs.Square.{lineOf, at, syndrome, Word}
 use Rattle.distance.specs.Distance.{differences}
 use Rattle.correction.specs.declared.Decoded.{Decoded}
 use Rattle.correction.specs.declared.Decoded.the-variants.{Corrected, Refused}
-use Rattle.correction.specs.Error.{checkOf}
-use Rattle.majority.specs.Majority.{shows}
-use Rattle.majority.specs.Steps.{checkIn}
-use Rattle.nearest.specs.Steps.{numberOn}
-use Rattle.erasure.specs.Fill.{isListed, rising}
-use Rattle.erasure.specs.Steps.{Places}
+use Rattle.correction.specs.Error.{checkOf, shows}
+use Rattle.correction.specs.Steps.{checkIn}
+use Rattle.correction.specs.Guesses.{numberOn}
+use Rattle.erasure.specs.Fill.{isListed}
+use Rattle.erasure.specs.Steps.{Places, LateTests}
 use Rattle.restore.specs.Restore.{Close, Judgement}
 
 -- ---- the two tables
@@ -100,7 +99,5 @@ pub record Sought (s : Shape) (k : ℕ) (word places word′ : List ℕ) (r : De
   pub like : (e : Refusal) → r ≡ Refused e → (v : List ℕ) → Close s k word places v → Like v
 
 -- tests 3 and 12, then the work
-pub record Judged (s : Shape) (word places word′ : List ℕ) (r : Decoded) : Type 0 where
-  pub wide : narrow (s .b) word ≡ false → (r ≡ Refused Refusal.Width) × (word′ ≡ word)
-  pub unordered : narrow (s .b) word ≡ true → rising (wordLength s) places ≡ false → (r ≡ Refused Refusal.Places) × (word′ ≡ word)
-  pub decided : narrow (s .b) word ≡ true → rising (wordLength s) places ≡ true → Judgement s word places word′ r
+abbrev pub Judged : Shape → List ℕ → List ℕ → List ℕ → Decoded → Type 0
+Judged s word places word′ r = LateTests (Judgement s word places word′ r) s word places word′ r

@@ -1,4 +1,4 @@
-// Reading a word with dead cells and other damage, up to half the distance.
+// Dead cells and damage together, up to half the distance between codewords.
 mod list;
 mod marks;
 mod search;
@@ -22,7 +22,7 @@ ghost use Rattle.erasure.specs.Steps.{Places};
 ghost use Rattle.restore.specs.Restore.{reach, Judgement, Recovering};
 ghost use Rattle.restore.specs.Steps.{Sought, Judged};
 
-// So many places that nothing beside them may be wrong: they are filled in.
+// With 2n places or more nothing beside them is in reach, so they are filled in.
 fn fill_in(shape: Shape, word: &mut [u32], places: &[u32], scratch: &mut [u32]) -> Decoded
     requires { ⌜ Lawful shape × Word shape (now word) × Places (wordLength shape) (now places)
         × (length (now scratch) ≡ scratchLength shape) × (2 * shape .n ≤ length (now places)) ⌝ }
@@ -38,7 +38,7 @@ fn fill_in(shape: Shape, word: &mut [u32], places: &[u32], scratch: &mut [u32]) 
     }
 }
 
-// Few places, with the table of the shipped shape.
+// With fewer places the search looks for a codeword in reach. The shipped shape has a table of its check numbers.
 fn look(shape: Shape, word: &mut [u32], places: &[u32], scratch: &mut [u32]) -> Decoded
     requires { ⌜ Lawful shape × Word shape (now word) × Places (wordLength shape) (now places)
         × (length (now scratch) ≡ scratchLength shape) × (length (now places) < 2 * shape .n) ⌝ }
@@ -70,7 +70,7 @@ fn judge(shape: Shape, word: &mut [u32], places: &[u32], scratch: &mut [u32]) ->
     look(shape, word, places, scratch)
 }
 
-// Reading with dead cells: tests 1, 18, 2, then the others. From test 3 on the scratch ends as zeros.
+// Restoring: tests 1, 18, 2, then the others. From test 3 on the scratch ends as zeros.
 pub fn restore(shape: Shape, word: &mut [u32], places: &[u32], scratch: &mut [u32]) -> Decoded
     ensures { λ r.
         ⌜ Recovering shape (now (word .entry)) (now (places .entry)) (now (scratch .entry)) (now (word .exit)) (now (scratch .exit)) r ⌝ }

@@ -9,7 +9,7 @@ ghost use Rattle.gtb.specs.Square.{at};
 ghost use Rattle.correction.specs.Shipped.{Tabled};
 ghost use Rattle.restore.specs.Steps.{Put, Hides, HidesAll};
 
-// The n checks on position j get a value.
+// The n checks on position j get the value x.
 fn put(shape: Shape, table: &[u8], values: &mut [u32; 248], j: usize, x: u32)
     requires { ⌜ Lawful shape × Tabled shape (now table) × (length (now values) ≡ 248) × (j < wordLength shape) ⌝ }
     ensures { λ _. ⌜ Put shape j x (shape .n) (now (values .entry)) (now (values .exit)) ⌝ }
@@ -21,7 +21,7 @@ fn put(shape: Shape, table: &[u8], values: &mut [u32; 248], j: usize, x: u32)
     }
 }
 
-// Position j is listed from now on.
+// Position j is listed from now on: its checks show nothing, and are marked.
 pub fn hide(shape: Shape, table: &[u8], seen: &mut [u32; 248], touched: &mut [u32; 248], j: usize)
     requires { ⌜ Lawful shape × Tabled shape (now table) × (length (now seen) ≡ 248) × (length (now touched) ≡ 248) × (j < wordLength shape) ⌝ }
     ensures { λ _. ⌜ Hides shape j (now (seen .entry)) (now (touched .entry)) (now (seen .exit)) (now (touched .exit)) ⌝ }

@@ -1,5 +1,5 @@
-// The search for a codeword that differs at no more than k positions that are not listed. A wrong symbol is a dead cell that nobody named: the
-// search lists it, and goes on with one position less.
+// The search for a codeword that differs at no more than k positions that are not listed. A wrong symbol is a dead cell that nobody named:
+// the search lists it, and goes on with k - 1. Tables and list are copied for that, so that nothing is taken back.
 use crate::list::append;
 use crate::marks::hide;
 use crate::marks::hide_all;
@@ -7,11 +7,11 @@ use crate::suspects::is_suspect;
 use crate::suspects::suspect;
 use crate::suspects::suspect_count;
 use correction::Decoded;
+use correction::guesses::first_not_silent;
+use correction::guesses::too_many_not_silent;
 use erasure::decide;
 use gtb::Refusal;
 use gtb::Shape;
-use nearest::guesses::is_crowded;
-use nearest::guesses::loud_check;
 use syndrome::syndromes;
 ghost use mathlib.Core.Path.{_≡_};
 ghost use mathlib.Core.Bool.{false};
@@ -38,7 +38,7 @@ fn settle(
 {
     let q = shape.q as usize;
     let n = shape.n as usize;
-    if loud_check(shape, seen) < n * q {
+    if first_not_silent(shape, seen) < n * q {
         return Decoded::Refused(Refusal::Far);
     }
     let answer = decide(shape, word, places, scratch);
@@ -48,7 +48,7 @@ fn settle(
     }
 }
 
-// Position j is wrong, if its checks allow it.
+// Position j is taken to be wrong, if its checks allow that, and is listed.
 fn visit(
     shape: Shape,
     table: &[u8],
@@ -106,10 +106,10 @@ fn search(
     if k == 0 {
         return Decoded::Refused(Refusal::Far);
     }
-    if is_crowded(shape, seen, k) {
+    if too_many_not_silent(shape, seen, k) {
         return Decoded::Refused(Refusal::Far);
     }
-    let check = loud_check(shape, seen);
+    let check = first_not_silent(shape, seen);
     let count = suspect_count(shape, check);
     for i in 0..count {
         let j = suspect(shape, check, i);

@@ -1,10 +1,10 @@
-// The positions that may be wrong.
+// Which positions may be wrong: those on one check, or all, and of these the ones whose checks allow it.
 use crate::list::is_listed;
+use correction::guesses::candidate;
+use correction::guesses::place_of;
+use correction::values::gather;
+use correction::values::shown;
 use gtb::Shape;
-use majority::vote::gather;
-use majority::vote::shown;
-use nearest::guesses::candidate;
-use nearest::guesses::place_of;
 ghost use mathlib.Core.Path.{_≡_};
 ghost use mathlib.Core.Bool.{false};
 ghost use Prim.Native.Nat.{_<_, _≤_};

@@ -10,10 +10,10 @@ use Rattle.gtb.specs.declared.Refusal.{Refusal}
 use Rattle.gtb.specs.Shape.{orders, isOrder, standard, regular, fitsSlope, sloped, lawful, slopeOf, keptChecks, scratchLength}
 use Rattle.gtb.specs.Square.{lineOf, narrow, syndrome, silentTest}
 use Rattle.gtb.specs.Positions.{infoPosition, extractOf}
-use Rattle.correction.specs.Error.{mended, off}
+use Rattle.correction.specs.Error.{shows, mended, off}
 use Rattle.correction.specs.Reading.{changesBy, restoredBy, acceptedBy, readOf}
 use Rattle.decoder.specs.Decode.{located, alone, errorAt}
-use Rattle.majority.specs.Majority.{shows, majority, votedAt}
+use Rattle.majority.specs.Majority.{majority, votedAt}
 use Rattle.double.specs.Double.{single, twoAt}
 use Rattle.page.specs.Page.{functions, zeros, pageOf, marksOf}
 use Rattle.session.specs.Arrival.{isWay, wayOf, theWays, Opened, Page, Bad, opened}

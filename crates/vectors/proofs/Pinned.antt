@@ -15,10 +15,10 @@ use Rattle.gtb.specs.Answer.{refusalNumber, isEarly, scratchAfter}
 use Rattle.gtb.specs.Shape.{orders, isOrder, lawful, regular, sloped, fitsSlope, shapeRefusal, slopeOf, keptChecks, scratchLength}
 use Rattle.gtb.specs.Square.{lineOf, narrow, syndrome, silentTest}
 use Rattle.encoder.specs.Contract.{statusOf}
-use Rattle.correction.specs.Error.{mended}
+use Rattle.correction.specs.Error.{shows, mended}
 use Rattle.correction.specs.Reading.{changesBy, restoredBy, acceptedBy, readOf}
 use Rattle.decoder.specs.Looking.{lookingOf}
-use Rattle.majority.specs.Majority.{shows, majority, votedAt}
+use Rattle.majority.specs.Majority.{majority, votedAt}
 use Rattle.erasure.specs.Fill.{rising, fillStatus}
 use Rattle.page.specs.Page.{functions, zeros, pageOf, writeStatus}
 use Rattle.session.specs.Session.{pagesOf, lowestOf, consistent, freshOf, freshStatus, countOf, overflows, sessionStatus, countedOf}

@@ -3,7 +3,7 @@ use mathlib.Core.Path.{_≡_, sym, _∙_}
 use lib.ListN.{length}
 use borrow.Author.Tests.{not-true, not-false}
 use Rattle.gtb.specs.Shape.{Lawful}
-use Rattle.erasure.proofs.Answers.{refuses-shape, refuses-word, refuses-scratch, fills}
+use Rattle.erasure.proofs.Answers.{refuses-shape, refuses-word, refuses-scratch, decides}
 use borrow.Author.Needs.{needs}
 use Rattle.erasure.proofs.fill.Statement.{statement}
 use Rattle.erasure.proofs.fill.Tie as tie
@@ -34,7 +34,7 @@ returns-4 c =
     let e = j .before .before .before in
     let w = e .before .before in
     let size : length (j .judge .last .1 .1 .1 .0) ≡ length (w .before .before .before .before .before .before .before .args .scratch .now) = search needs in
-    fills _ (shape-passes (w .before .before)) _ _ _ (w .if2 .left ∙ w .before .word-length .ensures) (e .if3 .left ∙ e .before .scratch-length .ensures)
+    decides _ (shape-passes (w .before .before)) _ _ _ (w .if2 .left ∙ w .before .word-length .ensures) (e .if3 .left ∙ e .before .scratch-length .ensures)
     (j .judge .ensures) (rw size at (d .clear .ensures))
 
 pub fill-spec : {M : Type 1} → statement M

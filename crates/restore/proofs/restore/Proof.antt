@@ -1,9 +1,9 @@
--- `restore::restore` meets its contract. Each way out is one of Answers.antt.
+-- `restore::restore` meets its contract. Each way out is one of erasure's Answers.antt.
 use mathlib.Core.Path.{_≡_, sym, _∙_}
 use lib.ListN.{length}
 use borrow.Author.Tests.{not-true, not-false}
 use Rattle.gtb.specs.Shape.{Lawful}
-use Rattle.restore.proofs.Answers.{refuses-shape, refuses-word, refuses-scratch, restores}
+use Rattle.erasure.proofs.Answers.{refuses-shape, refuses-word, refuses-scratch, decides}
 use borrow.Author.Needs.{needs}
 use Rattle.restore.proofs.restore.Statement.{statement}
 use Rattle.restore.proofs.restore.Tie as tie
@@ -19,7 +19,7 @@ returns-2 : tie.Need-returns-2
 returns-2 c = refuses-word _ (shape-passes (c .before .before)) _ _ _ (λ e. c .if2 .taken (e ∙ sym (c .before .word-length .ensures)))
 
 returns-3 : tie.Need-returns-3
-returns-3 c = let w = c .before .before in refuses-scratch _ (shape-passes (w .before .before)) _ _ _ (w .if2 .left ∙ w .before .word-length .ensures) (λ e. c .if3 .taken (e ∙ sym (c .before .scratch-length .ensures)))
+returns-3 c = refuses-scratch _ (shape-passes (c .before .before .before .before)) _ _ _ (λ e. c .if3 .taken (e ∙ sym (c .before .scratch-length .ensures)))
 
 judge-requires : tie.Need-judge-requires
 judge-requires c κs =
@@ -34,7 +34,7 @@ returns-4 c =
     let e = j .before .before .before in
     let w = e .before .before in
     let size : length (j .judge .last .1 .1 .1 .0) ≡ length (w .before .before .before .before .before .before .before .args .scratch .now) = search needs in
-    restores _ (shape-passes (w .before .before)) _ _ _ (w .if2 .left ∙ w .before .word-length .ensures) (e .if3 .left ∙ e .before .scratch-length .ensures)
+    decides _ (shape-passes (w .before .before)) _ _ _ (w .if2 .left ∙ w .before .word-length .ensures) (e .if3 .left ∙ e .before .scratch-length .ensures)
     (j .judge .ensures) (rw size at (d .clear .ensures))
 
 pub restore-spec : {M : Type 1} → statement M

@@ -7,7 +7,7 @@ use borrow.Author.Count.{below-none, below-more}
 use borrow.Author.Needs.{needs}
 use Rattle.gtb.specs.Square.{lineOf}
 use Rattle.correction.proofs.CheckNumbers.{check-lt}
-use Rattle.double.specs.Steps.{OnRow}
+use Rattle.correction.specs.Guesses.{OnRow}
 use Rattle.double.proofs.Crossings.{crosses-here, row-passed, crosses-none}
 use Rattle.double.proofs.lines.cross.Statement.{statement}
 use Rattle.double.proofs.lines.cross.Tie as tie

@@ -7,9 +7,10 @@ use Rattle.parity.proofs.Tests.{clash}
 use Rattle.gtb.proofs.Bounds.{bounds}
 use Rattle.correction.proofs.CheckNumbers.{check-fits}
 use Rattle.correction.proofs.Rows.{in-word}
-use Rattle.majority.specs.Majority.{shows}
-use Rattle.majority.specs.Steps.{checkIn}
-use Rattle.majority.proofs.Table.{silent-first, silent-half, shows-more, shows-le}
+use Rattle.correction.specs.Error.{shows}
+use Rattle.correction.specs.Steps.{checkIn}
+use Rattle.correction.proofs.Showing.{shows-more, shows-le}
+use Rattle.majority.proofs.Table.{silent-first, silent-half}
 use Rattle.majority.proofs.locate.is_quiet.Statement.{statement}
 use Rattle.majority.proofs.locate.is_quiet.Tie as tie
 

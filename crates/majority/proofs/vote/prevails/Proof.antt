@@ -2,7 +2,8 @@
 use native.Mathlib.Omega.{arith}
 use borrow.Author.Needs.{needs}
 use Rattle.gtb.specs.Square.{at}
-use Rattle.majority.proofs.Table.{shows-le, no-zero, by-number}
+use Rattle.correction.proofs.Showing.{shows-le}
+use Rattle.majority.proofs.Table.{no-zero, by-number}
 use Rattle.majority.proofs.vote.prevails.Statement.{statement}
 use Rattle.majority.proofs.vote.prevails.Tie as tie
 

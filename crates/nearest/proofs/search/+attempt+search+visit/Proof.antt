@@ -9,7 +9,7 @@ use Rattle.gtb.proofs.Bounds.{bounds, positive}
 use Rattle.correction.proofs.CheckNumbers.{checks-fit}
 use Rattle.nearest.specs.Steps.{Room}
 use Rattle.nearest.proofs.Guessing.{guess-narrow}
-use Rattle.nearest.proofs.Searching.{no-attempt, attempt-fails, attempt-works, Missed, missed-none, missed-more, visit-met, visit-far, search-silent, search-none, search-crowded, Passed, passed-none, passed-more, search-met, search-far}
+use Rattle.nearest.proofs.Searching.{no-attempt, attempt-fails, attempt-works, Missed, missed-none, missed-more, visit-met, visit-far, search-silent, search-none, search-many, Passed, passed-none, passed-more, search-met, search-far}
 use Prim.Native.Nat.{ℕ, _<_}
 use borrow.Fn.Kinds.{In}
 use borrow.Fn.PlainCycle.{Measures, is, falls, and}
@@ -23,11 +23,11 @@ use Rattle.nearest.proofs.search.visit.Reads as visit
 use Rattle.nearest.proofs.search.visit.Kinds as visit-kinds
 use Rattle.nearest.proofs.search.+attempt+search+visit.Lts-visit as visit-lts
 use Rattle.correction.proofs.cancel.cancel_one.Reads as cancel-one-reads
-use Rattle.majority.proofs.vote.gather.Reads as gather-reads
-use Rattle.nearest.proofs.guesses.candidate.Reads as candidate-reads
-use Rattle.nearest.proofs.guesses.is_crowded.Reads as is-crowded-reads
-use Rattle.nearest.proofs.guesses.loud_check.Reads as loud-check-reads
-use Rattle.nearest.proofs.guesses.place_of.Reads as place-of-reads
+use Rattle.correction.proofs.guesses.candidate.Reads as candidate-reads
+use Rattle.correction.proofs.guesses.first_not_silent.Reads as first-not-silent-reads
+use Rattle.correction.proofs.guesses.place_of.Reads as place-of-reads
+use Rattle.correction.proofs.guesses.too_many_not_silent.Reads as too-many-not-silent-reads
+use Rattle.correction.proofs.values.gather.Reads as gather-reads
 use Rattle.nearest.proofs.search.+attempt+search+visit.{statement}
 use Rattle.nearest.proofs.search.+attempt+search+visit.Tie.{close}
 
@@ -62,7 +62,7 @@ abbrev attempt-calls : ℕ → attempt-lts.Claims
 attempt-calls t = (cancel-one-reads.Asked, cancel-one-reads.Learnt, search-below t, search′.Post)
 
 abbrev search-calls : ℕ → search-lts.Claims
-search-calls t = (loud-check-reads.Asked, loud-check-reads.Learnt, is-crowded-reads.Asked, is-crowded-reads.Learnt, place-of-reads.Asked, place-of-reads.Learnt, visit-below t, visit.Post)
+search-calls t = (first-not-silent-reads.Asked, first-not-silent-reads.Learnt, too-many-not-silent-reads.Asked, too-many-not-silent-reads.Learnt, place-of-reads.Asked, place-of-reads.Learnt, visit-below t, visit.Post)
 
 abbrev visit-calls : ℕ → visit-lts.Claims
 visit-calls t = (gather-reads.Asked, gather-reads.Learnt, candidate-reads.Asked, candidate-reads.Learnt, attempt-below t, attempt.Post)
@@ -116,18 +116,18 @@ search-returns : (t : ℕ) → search-lts.Need-returns (search-calls t) (search-
 search-returns t c =
     let k = c .before in
     let p = k .before .before .before .before .before .pre .1 in
-    search-silent (p .0) (p .2) (k .loud-check .ensures) (c .if1 .taken)
+    search-silent (p .0) (p .2) (k .first-not-silent .ensures) (c .if1 .taken)
 
 search-returns-2 : (t : ℕ) → search-lts.Need-returns-2 (search-calls t) (search-at t) search′.Post search-Inv-loop search-μ-loop
 search-returns-2 t c =
     let k = c .before .before in
     let p = k .before .before .before .before .before .pre .1 in
-    search-none (p .0) (c .before .if1 .left) (k .loud-check .ensures) (p .2) (c .if2 .taken)
+    search-none (p .0) (c .before .if1 .left) (k .first-not-silent .ensures) (p .2) (c .if2 .taken)
 
 search-returns-3 : (t : ℕ) → search-lts.Need-returns-3 (search-calls t) (search-at t) search′.Post search-Inv-loop search-μ-loop
 search-returns-3 t c =
     let p = c .before .before .before .before .before .before .before .before .before .before .pre .1 in
-    search-crowded (p .0) (p .2) (c .before .is-crowded .ensures (c .if3 .taken))
+    search-many (p .0) (p .2) (c .before .too-many-not-silent .ensures (c .if3 .taken))
 
 search-loop-holds : (t : ℕ) → search-lts.Need-loop-holds (search-calls t) (search-at t) search′.Post search-Inv-loop search-μ-loop
 search-loop-holds t c =
@@ -169,7 +169,7 @@ search-returns-5 t c =
     let l = c .before in
     let e = l .before in
     let k = e .before .before .before .before .before in
-    search-far (k .before .before .before .before .before .pre .1 .0) (e .before .before .before .before .if1 .left) (k .loud-check .ensures) (l .loop .inv .1) (l .loop .inv .2) (rw (le-antisymm (l .loop .inv .0) (c .loop-test .left)) at (l .loop .inv .3))
+    search-far (k .before .before .before .before .before .pre .1 .0) (e .before .before .before .before .if1 .left) (k .first-not-silent .ensures) (l .loop .inv .1) (l .loop .inv .2) (rw (le-antisymm (l .loop .inv .0) (c .loop-test .left)) at (l .loop .inv .3))
 
 abbrev visit-Inv-loop : visit-lts.InvT-loop
 visit-Inv-loop shape table syn₀ places₀ errors₀ k j n least values t₀ syn places errors t = (t ≤ n) × (syn ≡ syn₀) × Room syn places errors × Missed shape k j syn₀ values t

@@ -11,7 +11,7 @@ use Rattle.gtb.specs.Shape.{scratchLength}
 use Rattle.gtb.proofs.Bounds.{bounds}
 use Rattle.gtb.proofs.Sizes.{sizes}
 use Rattle.restore.proofs.Lists.{longer, appended-fits}
-use Rattle.restore.proofs.Searching.{found-sooner, leaf, visit-dull, node-more, visit-named, Passed, passed-none, passed-more, search-none, search-crowded, search-far}
+use Rattle.restore.proofs.Searching.{found-sooner, leaf, visit-dull, node-more, visit-named, Passed, passed-none, passed-more, search-none, search-many, search-far}
 use Prim.Native.Nat.{ℕ, _<_}
 use borrow.Fn.Kinds.{In}
 use borrow.Fn.PlainCycle.{Measures, is, falls, and}
@@ -21,8 +21,8 @@ use Rattle.restore.proofs.search.+search+visit.Lts-search as search-lts
 use Rattle.restore.proofs.search.visit.Reads as visit
 use Rattle.restore.proofs.search.visit.Kinds as visit-kinds
 use Rattle.restore.proofs.search.+search+visit.Lts-visit as visit-lts
-use Rattle.nearest.proofs.guesses.is_crowded.Reads as is-crowded-reads
-use Rattle.nearest.proofs.guesses.loud_check.Reads as loud-check-reads
+use Rattle.correction.proofs.guesses.first_not_silent.Reads as first-not-silent-reads
+use Rattle.correction.proofs.guesses.too_many_not_silent.Reads as too-many-not-silent-reads
 use Rattle.restore.proofs.list.append.Reads as append-reads
 use Rattle.restore.proofs.marks.hide.Reads as hide-reads
 use Rattle.restore.proofs.search.settle.Reads as settle-reads
@@ -51,7 +51,7 @@ abbrev visit-below : ℕ → In 6 visit-kinds.ps
 visit-below t = and 6 visit-kinds.ps (falls 6 visit-kinds.ps _<_ μ-visit t) visit.Pre
 
 abbrev search-calls : ℕ → search-lts.Claims
-search-calls t = (settle-reads.Asked, settle-reads.Learnt, is-crowded-reads.Asked, is-crowded-reads.Learnt, loud-check-reads.Asked, loud-check-reads.Learnt, suspect-count-reads.Asked, suspect-count-reads.Learnt, suspect-reads.Asked, suspect-reads.Learnt, visit-below t, visit.Post)
+search-calls t = (settle-reads.Asked, settle-reads.Learnt, too-many-not-silent-reads.Asked, too-many-not-silent-reads.Learnt, first-not-silent-reads.Asked, first-not-silent-reads.Learnt, suspect-count-reads.Asked, suspect-count-reads.Learnt, suspect-reads.Asked, suspect-reads.Learnt, visit-below t, visit.Post)
 
 abbrev visit-calls : ℕ → visit-lts.Claims
 visit-calls t = (is-suspect-reads.Asked, is-suspect-reads.Learnt, hide-reads.Asked, hide-reads.Learnt, append-reads.Asked, append-reads.Learnt, search-below t, search′.Post)
@@ -83,8 +83,8 @@ search-returns-2 t c =
     let d = settled (c .before) in
     search-none (start d .pre .1 .0) (d .settle .ensures) (c .before .enum-told .given .1) (c .if1 .taken)
 
-search-is-crowded-requires : (t : ℕ) → search-lts.Need-is-crowded-requires (search-calls t) (search-at t) search′.Post search-Inv-loop search-μ-loop
-search-is-crowded-requires t c κs =
+search-too-many-not-silent-requires : (t : ℕ) → search-lts.Need-too-many-not-silent-requires (search-calls t) (search-at t) search′.Post search-Inv-loop search-μ-loop
+search-too-many-not-silent-requires t c κs =
     let node = start (settled (c .before)) .pre .1 .0 in
     (node .law, omega (arith, node .few))
 
@@ -92,10 +92,10 @@ search-returns-3 : (t : ℕ) → search-lts.Need-returns-3 (search-calls t) (sea
 search-returns-3 t c =
     let told = c .before .before .before in
     let d = settled told in
-    search-crowded (start d .pre .1 .0) (d .settle .ensures) (told .enum-told .given .1) (c .before .is-crowded .ensures (c .if2 .taken))
+    search-many (start d .pre .1 .0) (d .settle .ensures) (told .enum-told .given .1) (c .before .too-many-not-silent .ensures (c .if2 .taken))
 
-search-loud-check-requires : (t : ℕ) → search-lts.Need-loud-check-requires (search-calls t) (search-at t) search′.Post search-Inv-loop search-μ-loop
-search-loud-check-requires t c κs = start (settled (c .before .before .before)) .pre .1 .0 .law
+search-first-not-silent-requires : (t : ℕ) → search-lts.Need-first-not-silent-requires (search-calls t) (search-at t) search′.Post search-Inv-loop search-μ-loop
+search-first-not-silent-requires t c κs = start (settled (c .before .before .before)) .pre .1 .0 .law
 
 search-suspect-count-requires : (t : ℕ) → search-lts.Need-suspect-count-requires (search-calls t) (search-at t) search′.Post search-Inv-loop search-μ-loop
 search-suspect-count-requires t c κs = start (settled (c .before .before .before .before)) .pre .1 .0 .law
@@ -156,7 +156,7 @@ search-returns-5 t c =
     let l = c .before in
     let n = l .before in
     let d = settled (told n) in
-    search-far (start d .pre .1 .0) (d .settle .ensures) (told n .enum-told .given .1) (l .loop .inv .1) (n .before .loud-check .ensures) (l .loop .inv .3)
+    search-far (start d .pre .1 .0) (d .settle .ensures) (told n .enum-told .given .1) (l .loop .inv .1) (n .before .first-not-silent .ensures) (l .loop .inv .3)
     (omega (arith, c .loop-test .left, n .suspect-count .ensures))
 
 search-same-length-7 : (t : ℕ) → search-lts.Need-same-length-7 (search-calls t) (search-at t) search′.Post search-Inv-loop search-μ-loop
@@ -246,5 +246,5 @@ visit-returns-2 t c =
 pub +search+visit-spec : {M : Type 1} → statement M
 +search+visit-spec =
     close μ-search μ-visit
-    (λ t. search-lts.spec (search-calls t) (search-at t) search′.Post search-Inv-loop search-μ-loop (search-settle-requires t) (λ c. search needs) (λ c. search needs) (λ c. search needs) (search-returns t) (λ c. search needs) (λ c. search needs) (λ c. search needs) (search-returns-2 t) (search-is-crowded-requires t) (λ c. search needs) (λ c. search needs) (search-returns-3 t) (search-loud-check-requires t) (search-suspect-count-requires t) (search-loop-holds t) (search-suspect-requires t) (search-visit-requires t) (λ c. search needs) (search-same-length-7 t) (search-same-length-8 t) (search-returns-4 t) (λ c. search needs) (search-add-i t) (search-loop-less t) (search-loop-again t) (search-same-length-9 t) (search-same-length-10 t) (search-returns-5 t))
+    (λ t. search-lts.spec (search-calls t) (search-at t) search′.Post search-Inv-loop search-μ-loop (search-settle-requires t) (λ c. search needs) (λ c. search needs) (λ c. search needs) (search-returns t) (λ c. search needs) (λ c. search needs) (λ c. search needs) (search-returns-2 t) (search-too-many-not-silent-requires t) (λ c. search needs) (λ c. search needs) (search-returns-3 t) (search-first-not-silent-requires t) (search-suspect-count-requires t) (search-loop-holds t) (search-suspect-requires t) (search-visit-requires t) (λ c. search needs) (search-same-length-7 t) (search-same-length-8 t) (search-returns-4 t) (λ c. search needs) (search-add-i t) (search-loop-less t) (search-loop-again t) (search-same-length-9 t) (search-same-length-10 t) (search-returns-5 t))
     λ t. visit-lts.spec (visit-calls t) (visit-at t) visit.Post (visit-is-suspect-requires t) (visit-returns t) (visit-hide-requires t) (visit-cast-append t) (visit-append-requires t) (visit-add-count t) (visit-array-share-prefix-named t) (visit-slice-aggregate-search t) (visit-sub-search t) (visit-search-requires t) (λ c. search needs) (λ c. search needs) (visit-returns-2 t)

@@ -10,7 +10,7 @@ mul-if1 : tie.Need-mul-if1
 mul-if1 c = omega (arith, checks-fit _ (c .before .before .before .before .before .before .pre .0 .node .law))
 
 returns : tie.Need-returns
-returns c = settle-loud (c .before .before .before .before .before .before .before .pre .0 .node) (c .if1 .taken) (c .before .loud-check .ensures)
+returns c = settle-loud (c .before .before .before .before .before .before .before .pre .0 .node) (c .if1 .taken) (c .before .first-not-silent .ensures)
 
 decide-requires : tie.Need-decide-requires
 decide-requires c κs =

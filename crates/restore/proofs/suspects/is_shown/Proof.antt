@@ -6,7 +6,7 @@ use borrow.Author.Count.{below-none, below-more}
 use borrow.Author.Needs.{needs}
 use Rattle.parity.proofs.Tests.{clash}
 use Rattle.gtb.specs.Square.{at}
-use Rattle.nearest.specs.Steps.{guessed}
+use Rattle.correction.specs.Guesses.{guessed}
 use Rattle.restore.proofs.Choosing.{outvoted}
 use Rattle.restore.proofs.suspects.is_shown.Statement.{statement}
 use Rattle.restore.proofs.suspects.is_shown.Tie as tie

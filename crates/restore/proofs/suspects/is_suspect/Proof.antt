@@ -5,7 +5,7 @@ use native.Mathlib.Omega.{arith}
 use borrow.Author.Needs.{needs}
 use Rattle.gtb.proofs.Bounds.{bounds}
 use Rattle.gtb.specs.Square.{at}
-use Rattle.majority.proofs.Table.{shows-le}
+use Rattle.correction.proofs.Showing.{shows-le}
 use Rattle.restore.proofs.Choosing.{suspects-listed, suspects-free, suspects-shown}
 use Rattle.restore.proofs.suspects.is_suspect.Statement.{statement}
 use Rattle.restore.proofs.suspects.is_suspect.Tie as tie

@@ -1,9 +1,9 @@
--- `majority::vote::hit` meets its contract.
+-- `correction::values::hit` meets its contract.
 use mathlib.Core.Path.{sym, ap}
 use borrow.Author.Tests.{eq-eqb, ne-eqb}
 use Rattle.parity.specs.Count.{bit}
-use Rattle.majority.proofs.vote.hit.Statement.{statement}
-use Rattle.majority.proofs.vote.hit.Tie as tie
+use Rattle.correction.proofs.values.hit.Statement.{statement}
+use Rattle.correction.proofs.values.hit.Tie as tie
 
 returns : tie.Need-returns
 unfolding bit

@@ -1,10 +1,10 @@
--- `nearest::guesses::candidate` meets its contract.
+-- `correction::guesses::candidate` meets its contract.
 use mathlib.Core.Path.{sym, _∙_}
 use native.Mathlib.Omega.{arith}
 use borrow.Author.Needs.{needs}
-use Rattle.nearest.proofs.Guessing.{silent-guess, later-guess, rare-guess, guess-is}
-use Rattle.nearest.proofs.guesses.candidate.Statement.{statement}
-use Rattle.nearest.proofs.guesses.candidate.Tie as tie
+use Rattle.correction.proofs.Guessing.{silent-guess, later-guess, rare-guess, guess-is}
+use Rattle.correction.proofs.guesses.candidate.Statement.{statement}
+use Rattle.correction.proofs.guesses.candidate.Tie as tie
 
 returns : tie.Need-returns
 returns c = silent-guess _ _ _ _ (c .if1 .taken)

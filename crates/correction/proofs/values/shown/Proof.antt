@@ -1,14 +1,14 @@
--- `majority::vote::shown` meets its contract. The loop's invariant is the contract for the first t values.
+-- `correction::values::shown` meets its contract. The loop's invariant is the contract for the first t values.
 use mathlib.Core.Path.{_≡_}
 use Prim.Native.Nat.{_+_, _-_, _<_, _≤_}
 use native.Mathlib.Nat.{le-antisymm}
 use native.Mathlib.Omega.{arith}
 use borrow.Author.Needs.{needs}
 use Rattle.gtb.specs.Square.{at}
-use Rattle.majority.specs.Majority.{shows}
-use Rattle.majority.proofs.Table.{shows-zero, shows-more, shows-le}
-use Rattle.majority.proofs.vote.shown.Statement.{statement}
-use Rattle.majority.proofs.vote.shown.Tie as tie
+use Rattle.correction.specs.Error.{shows}
+use Rattle.correction.proofs.Showing.{shows-zero, shows-more, shows-le}
+use Rattle.correction.proofs.values.shown.Statement.{statement}
+use Rattle.correction.proofs.values.shown.Tie as tie
 
 abbrev Inv-loop : tie.InvT-loop
 Inv-loop values n x count₀ t₀ count t = (t ≤ n) × (count ≡ shows t (at values) x)

@@ -1,4 +1,4 @@
--- `majority::vote::gather` meets its contract. The loop's invariant is the contract for the first t checks.
+-- `correction::values::gather` meets its contract. The loop's invariant is the contract for the first t checks.
 use mathlib.Core.Path.{refl}
 use Prim.Native.Nat.{_-_, _<_, _≤_}
 use native.Mathlib.Nat.{le-antisymm}
@@ -6,11 +6,11 @@ use native.Mathlib.Omega.{arith}
 use borrow.Author.Needs.{needs}
 use Rattle.parity.specs.Lists.{Begins}
 use Rattle.gtb.proofs.Bounds.{bounds}
 use Rattle.correction.proofs.CheckNumbers.{check-fits}
 use Rattle.parity.proofs.Writes.{begins-none, begins-more}
-use Rattle.majority.specs.Steps.{checkIn}
-use Rattle.majority.proofs.vote.gather.Statement.{statement}
-use Rattle.majority.proofs.vote.gather.Tie as tie
+use Rattle.correction.specs.Steps.{checkIn}
+use Rattle.correction.proofs.values.gather.Statement.{statement}
+use Rattle.correction.proofs.values.gather.Tie as tie
 
 abbrev Inv-loop : tie.InvT-loop
 Inv-loop shape table syn j n values₀ t₀ values t = (t ≤ n) × Begins 8 t (checkIn shape syn j) values

@@ -1,19 +1,18 @@
-// What may be wrong on a check that is not silent.
-use double::lines::on_row;
+// What a search guesses: the checks that are not silent, the positions on one of them, and the values that enough checks on a position show.
+use crate::values::hit;
+use crate::values::shown;
 use gtb::Shape;
-use majority::vote::hit;
-use majority::vote::shown;
 ghost use mathlib.Core.Path.{_≡_};
 ghost use mathlib.Core.Bool.{true};
 ghost use Prim.Native.Nat.{_<_, _≤_};
 ghost use Rattle.gtb.specs.Shape.{Lawful};
 ghost use Rattle.gtb.specs.Square.{at};
-ghost use Rattle.nearest.specs.Steps.{Loud, silentLines, Crowded, Placed, guessed};
+ghost use Rattle.correction.specs.Guesses.{NotSilent, silentLines, ManyNotSilent, OnRow, Placed, guessed};
 
 // The first check that is not silent.
-pub fn loud_check(shape: Shape, syn: &[u32; 248]) -> usize
+pub fn first_not_silent(shape: Shape, syn: &[u32; 248]) -> usize
     requires { ⌜ Lawful shape ⌝ }
-    ensures { λ r. ⌜ Loud shape (now (syn .entry)) r ⌝ }
+    ensures { λ r. ⌜ NotSilent shape (now (syn .entry)) r ⌝ }
 {
     let q = shape.q as usize;
     let n = shape.n as usize;
@@ -40,9 +39,9 @@ fn silent_lines(shape: Shape, syn: &[u32; 248], t: usize) -> usize
 }
 
 // In some direction more than k lines are not silent: more than k symbols are wrong.
-pub fn is_crowded(shape: Shape, syn: &[u32; 248], k: usize) -> bool
+pub fn too_many_not_silent(shape: Shape, syn: &[u32; 248], k: usize) -> bool
     requires { ⌜ Lawful shape × (k < shape .n) ⌝ }
-    ensures { λ r. ⌜ (r ≡ true → Crowded shape (now (syn .entry)) k) ⌝ }
+    ensures { λ r. ⌜ (r ≡ true → ManyNotSilent shape (now (syn .entry)) k) ⌝ }
 {
     let q = shape.q as usize;
     let n = shape.n as usize;
@@ -52,6 +51,15 @@ pub fn is_crowded(shape: Shape, syn: &[u32; 248], k: usize) -> bool
         }
     }
     false
+}
+
+// The position in a row on a line of direction u, from 1 on.
+pub fn on_row(shape: Shape, u: usize, row: usize, line: usize) -> usize
+    requires { ⌜ Lawful shape × (1 ≤ u) × (u < shape .n) × (row < shape .q) × (line < shape .q) ⌝ }
+    ensures { λ r. ⌜ OnRow shape u row line r ⌝ }
+{
+    let q = shape.q as usize;
+    row * q + (line + (q - gtb::slope(shape, u)) * row) % q
 }
 
 // Position i on a line of direction t.

@@ -1,12 +1,12 @@
--- `nearest::guesses::place_of` meets its contract. A row and a column are below q, so nothing wraps.
+-- `correction::guesses::place_of` meets its contract. A row and a column are below q, so nothing wraps.
 use Prim.Native.Nat.{_*_, _≤_}
 use native.Mathlib.Nat.{mul-le-mul, pos-of-ne-zero}
 use native.Mathlib.Omega.{arith}
 use borrow.Author.Needs.{needs}
 use Rattle.gtb.proofs.Bounds.{bounds}
-use Rattle.nearest.proofs.Guessing.{placed-row, placed-line}
-use Rattle.nearest.proofs.guesses.place_of.Statement.{statement}
-use Rattle.nearest.proofs.guesses.place_of.Tie as tie
+use Rattle.correction.proofs.Guessing.{placed-row, placed-line}
+use Rattle.correction.proofs.guesses.place_of.Statement.{statement}
+use Rattle.correction.proofs.guesses.place_of.Tie as tie
 
 -- line × q fits
 lines : (s : tie.Start) → s .args .line * s .args .shape .q ≤ 961

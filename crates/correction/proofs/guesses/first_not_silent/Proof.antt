@@ -1,4 +1,4 @@
--- `nearest::guesses::loud_check` meets its contract. The loop's invariant: the checks passed are silent.
+-- `correction::guesses::first_not_silent` meets its contract. The loop's invariant: the checks passed are silent.
 use mathlib.Core.Path.{_≡_}
 use Prim.Native.Nat.{ℕ, _-_, _*_, _<_, _≤_}
 use native.Mathlib.Omega.{arith}
@@ -8,9 +8,9 @@ use borrow.Author.Needs.{needs}
 use borrow.Author.Tests.{eq-eqb}
 use Rattle.parity.proofs.Tests.{all-intro}
 use Rattle.gtb.specs.Square.{at}
 use Rattle.correction.proofs.CheckNumbers.{checks-fit}
-use Rattle.nearest.proofs.guesses.loud_check.Statement.{statement}
-use Rattle.nearest.proofs.guesses.loud_check.Tie as tie
+use Rattle.correction.proofs.guesses.first_not_silent.Statement.{statement}
+use Rattle.correction.proofs.guesses.first_not_silent.Tie as tie
 
 abbrev Inv-loop : tie.InvT-loop
 Inv-loop syn q n count e₀ e = (e ≤ count) × ((i : ℕ) → i < e → at syn i ≡ 0)
@@ -29,7 +29,7 @@ element-copy-out-if1 : tie.Need-element-copy-out-if1 Inv-loop μ-loop
 element-copy-out-if1 c = omega (arith, checks (c .before .before .before .before))
 
 returns : tie.Need-returns Inv-loop μ-loop
-returns c = record { loud = λ l. c .if1 .taken; silent = λ l. absurd (omega (arith, c .before .before .loop-test .taken)) }
+returns c = record { nonzero = λ l. c .if1 .taken; silent = λ l. absurd (omega (arith, c .before .before .loop-test .taken)) }
 
 add-e : tie.Need-add-e Inv-loop μ-loop
 add-e c = omega (arith, checks (c .before .before .before .before .before .before))
@@ -41,9 +41,9 @@ returns-2 : tie.Need-returns-2 Inv-loop μ-loop
 returns-2 c =
     let l = c .before in
     record {
-      loud = λ e. absurd (omega arith);
+      nonzero = λ e. absurd (omega arith);
       silent = λ e. all-intro _ (λ i. eqb (at (l .before .before .before .args .syn .now) i) 0) (λ i li. eq-eqb _ 0 (l .loop .inv .1 i (omega (arith, c .loop-test .left))));
     }
 
-pub loud-check-spec : {M : Type 1} → statement M
-loud-check-spec = tie.close (tie.spec Inv-loop μ-loop (λ c. search needs) (λ c. search needs) (λ c. omega (arith, checks (c .before .before))) (λ c. (search needs, below-none _)) mul-if1 element-copy-out-if1 returns add-e (λ c. search needs) loop-again returns-2)
+pub first-not-silent-spec : {M : Type 1} → statement M
+first-not-silent-spec = tie.close (tie.spec Inv-loop μ-loop (λ c. search needs) (λ c. search needs) (λ c. omega (arith, checks (c .before .before))) (λ c. (search needs, below-none _)) mul-if1 element-copy-out-if1 returns add-e (λ c. search needs) loop-again returns-2)

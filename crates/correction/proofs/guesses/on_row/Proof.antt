@@ -1,13 +1,13 @@
--- `double::lines::on_row` meets its contract. A row and a step are below q, so nothing wraps.
+-- `correction::guesses::on_row` meets its contract. A row and a step are below q, so nothing wraps.
 use Prim.Native.Nat.{_+_, _-_, _*_, _≤_}
 use native.Mathlib.Nat.{mul-le-mul, mod-lt}
 use native.Mathlib.Omega.{arith}
 use borrow.Author.Needs.{needs}
 use Rattle.gtb.proofs.Bounds.{bounds, positive}
 use Rattle.gtb.proofs.Slopes.{slope-lt}
-use Rattle.double.proofs.Crossings.{row-position}
-use Rattle.double.proofs.lines.on_row.Statement.{statement}
-use Rattle.double.proofs.lines.on_row.Tie as tie
+use Rattle.correction.proofs.Guessing.{row-position}
+use Rattle.correction.proofs.guesses.on_row.Statement.{statement}
+use Rattle.correction.proofs.guesses.on_row.Tie as tie
 
 -- row × q fits
 rows : (s : tie.Start) → s .args .row * s .args .shape .q ≤ 961

@@ -1,4 +1,4 @@
--- `nearest::guesses::is_crowded` meets its contract.
+-- `correction::guesses::too_many_not_silent` meets its contract.
 use mathlib.Core.Path.{refl}
 use Prim.Native.Nat.{_+_, _-_, _*_, _≤_}
 use native.Mathlib.Omega.{arith}
@@ -6,9 +6,9 @@ use borrow.Author.Needs.{needs}
 use Rattle.parity.proofs.Tests.{clash}
 use Rattle.gtb.specs.Square.{at}
 use Rattle.gtb.proofs.Bounds.{bounds}
-use Rattle.majority.proofs.Table.{shows-le}
-use Rattle.nearest.proofs.guesses.is_crowded.Statement.{statement}
-use Rattle.nearest.proofs.guesses.is_crowded.Tie as tie
+use Rattle.correction.proofs.Showing.{shows-le}
+use Rattle.correction.proofs.guesses.too_many_not_silent.Statement.{statement}
+use Rattle.correction.proofs.guesses.too_many_not_silent.Tie as tie
 
 abbrev Inv-loop : tie.InvT-loop
 Inv-loop shape syn k q n t₀ t = t ≤ n
@@ -27,5 +27,5 @@ returns c =
     let l = c .before .before in
     λ _. record { direction = l .before .loop .t; below = l .loop-test .taken; many = rw (c .before .silent-lines .ensures) at (c .if1 .taken) }
 
-pub is-crowded-spec : {M : Type 1} → statement M
-is-crowded-spec = tie.close (tie.spec Inv-loop μ-loop (λ c. search needs) (λ c. search needs) (λ c. search needs) (λ c κs. search needs) add-if1 returns (λ c. search needs) (λ c. search needs) (λ c. search needs) (λ c. λ e. absurd (clash e refl)))
+pub too-many-not-silent-spec : {M : Type 1} → statement M
+too-many-not-silent-spec = tie.close (tie.spec Inv-loop μ-loop (λ c. search needs) (λ c. search needs) (λ c. search needs) (λ c κs. search needs) add-if1 returns (λ c. search needs) (λ c. search needs) (λ c. search needs) (λ c. λ e. absurd (clash e refl)))

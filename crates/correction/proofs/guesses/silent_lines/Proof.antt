@@ -1,4 +1,4 @@
--- `nearest::guesses::silent_lines` meets its contract. The loop's invariant is the contract for the lines passed.
+-- `correction::guesses::silent_lines` meets its contract. The loop's invariant is the contract for the lines passed.
 use mathlib.Core.Path.{_≡_}
 use Prim.Native.Nat.{_+_, _-_, _*_, _<_, _≤_}
 use native.Mathlib.Nat.{le-antisymm}
@@ -6,11 +6,11 @@ use native.Mathlib.Omega.{arith}
 use borrow.Author.Needs.{needs}
 use Rattle.gtb.specs.Square.{at}
 use Rattle.gtb.proofs.Bounds.{bounds}
 use Rattle.correction.proofs.CheckNumbers.{check-lt}
-use Rattle.majority.specs.Majority.{shows}
-use Rattle.majority.proofs.Table.{shows-zero, shows-more, shows-le}
-use Rattle.nearest.proofs.guesses.silent_lines.Statement.{statement}
-use Rattle.nearest.proofs.guesses.silent_lines.Tie as tie
+use Rattle.correction.specs.Error.{shows}
+use Rattle.correction.proofs.Showing.{shows-zero, shows-more, shows-le}
+use Rattle.correction.proofs.guesses.silent_lines.Statement.{statement}
+use Rattle.correction.proofs.guesses.silent_lines.Tie as tie
 
 abbrev Inv-loop : tie.InvT-loop
 Inv-loop syn t q silent₀ line₀ silent line = (line ≤ q) × (silent ≡ shows line (λ L. at syn (t * q + L)) 0)
