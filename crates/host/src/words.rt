@@ -1,4 +1,4 @@
-// Words over u32: writing, extraction, the ways of reading, filling in, checking.
+// Words over u32: writing, extraction, the ways of reading, filling in, restoring, checking.
 use crate::crossing::load_shape;
 ghost use Rattle.gtb.specs.Answer.{statusNumber};
 ghost use Rattle.encoder.specs.Contract.{Encoding, Extraction};
@@ -9,6 +9,7 @@ ghost use Rattle.majority.specs.Majority.{Voting};
 ghost use Rattle.double.specs.Double.{ReadingTwo};
 ghost use Rattle.nearest.specs.Nearest.{Restoring};
 ghost use Rattle.erasure.specs.Fill.{Filling};
+ghost use Rattle.restore.specs.Restore.{Recovering};
 ghost use Rattle.verify.specs.Verify.{verdictNumber, Checking};
 ghost use Rattle.host.specs.Crossing.{shapeIn};
 ghost use Rattle.host.specs.Entries.{Crosses};
@@ -75,6 +76,18 @@ pub extern "C" fn shaftglimmer_fill(
     ensures { λ r. ⌜ Crosses decodedNumber (Filling (shapeIn (now (shape .entry))) (now (word .entry)) (now (places .entry)) (now (scratch .entry)) (now (word .exit)) (now (scratch .exit))) r ⌝ }
 {
     correction::number::decoded(erasure::fill(load_shape(shape), word, places, scratch))
+}
+
+#[no_mangle]
+pub extern "C" fn shaftglimmer_restore(
+    shape: &[u32; 10],
+    places: &[u32],
+    word: &mut [u32],
+    scratch: &mut [u32],
+) -> u32
+    ensures { λ r. ⌜ Crosses decodedNumber (Recovering (shapeIn (now (shape .entry))) (now (word .entry)) (now (places .entry)) (now (scratch .entry)) (now (word .exit)) (now (scratch .exit))) r ⌝ }
+{
+    correction::number::decoded(restore::restore(load_shape(shape), word, places, scratch))
 }
 
 // A proposal checked; both words are only read.

@@ -33,6 +33,7 @@ use Rattle.majority.specs.Majority.{vote}
 use Rattle.double.specs.Double.{two}
 use Rattle.nearest.specs.Nearest.{nearest}
 use Rattle.erasure.specs.Fill.{fillStatus, FilledIn, NoWord, SeveralWords, Filling}
+use Rattle.restore.specs.Restore.{Restored, OutOfReach, SeveralReach, Recovering}
 use Rattle.page.specs.declared.PageRead.the-variants as page
 use Rattle.page.specs.Page.{pageOf}
 use Rattle.page.proofs.Pages.{page-facts, marks-few, no-page}
@@ -92,19 +93,30 @@ few reader Means {s} {w} k low h is =
 not-corrected : {r : Decoded} {e : Refusal} {k : ℕ} → r ≡ decoded.Refused e → r ≡ decoded.Corrected k → ⊥
 not-corrected {e = e} {k} h is = corrected-not e k (sym h ∙ is)
 
--- filling in changes at most all symbols
+-- a number of differences is at most that of all symbols
+all-few : (s : Shape) (w w′ : List ℕ) {r : Decoded} (k : ℕ) → Lawful s → r ≡ decoded.Corrected (differences s w′ w) → r ≡ decoded.Corrected k → k ≤ 961
+unfolding differences
+all-few s w w′ k law answer is =
+    let most : wordLength s ≤ 31 * 31 = mul-le-mul (bounds s law .q31) (bounds s law .q31) in
+    let same : k ≡ count (wordLength s) (λ j. not (eqb (at w′ j) (at w j))) = let z = sym is ∙ answer in cc in
+    omega (arith, same, most, count-bound (wordLength s) (λ j. not (eqb (at w′ j) (at w j))))
+
 fill-few : {s : Shape} {w places x w′ x′ : List ℕ} {r : Decoded} (k : ℕ) (t : Status) → fillStatus s w places x ≡ t → Filling s w places x w′ x′ r → r ≡ decoded.Corrected k → k ≤ 961
-unfolding differences fillStatus
+unfolding fillStatus
 fill-few k (status.Refused e) tests f is = absurd (not-corrected (f .tested e tests .0) is)
 fill-few {s} {w} {places} {x} {w′} {x′} {r} k status.Done tests f is =
-    let law : Lawful s = unless-done (lawful s) _ _ tests .0 in
-    let most : wordLength s ≤ 31 * 31 = mul-le-mul (bounds s law .q31) (bounds s law .q31) in
-    ⊎-elim
-    (λ (a : FilledIn s w places w′ r).
-    let same : k ≡ count (wordLength s) (λ j. not (eqb (at w′ j) (at w j))) = let z = sym is ∙ a .answer in cc in
-    omega (arith, same, most, count-bound (wordLength s) (λ j. not (eqb (at w′ j) (at w j)))))
+    ⊎-elim (λ (a : FilledIn s w places w′ r). all-few s w w′ k (unless-done (lawful s) _ _ tests .0) (a .answer) is)
     (λ (o : NoWord s w places w′ r ⊎ SeveralWords s w places w′ r).
     ⊎-elim (λ (a : NoWord s w places w′ r). absurd (not-corrected (a .answer) is)) (λ (a : SeveralWords s w places w′ r). absurd (not-corrected (a .answer) is)) o)
+    (f .decided tests .0)
+
+restore-few : {s : Shape} {w places x w′ x′ : List ℕ} {r : Decoded} (k : ℕ) (t : Status) → fillStatus s w places x ≡ t → Recovering s w places x w′ x′ r → r ≡ decoded.Corrected k → k ≤ 961
+unfolding fillStatus
+restore-few k (status.Refused e) tests f is = absurd (not-corrected (f .tested e tests .0) is)
+restore-few {s} {w} {places} {x} {w′} {x′} {r} k status.Done tests f is =
+    ⊎-elim (λ (a : Restored s w places w′ r). all-few s w w′ k (unless-done (lawful s) _ _ tests .0) (a .answer) is)
+    (λ (o : OutOfReach s w places w′ r ⊎ SeveralReach s w places w′ r).
+    ⊎-elim (λ (a : OutOfReach s w places w′ r). absurd (not-corrected (a .answer) is)) (λ (a : SeveralReach s w places w′ r). absurd (not-corrected (a .answer) is)) o)
     (f .decided tests .0)
 
 cover-number : (t : Status) (u : Bool) (n k : ℕ) → past t covered.Refused (unless u (covered.Refused Refusal.Length) (covered.Functions n)) ≡ covered.Functions k → n ≡ k
@@ -130,6 +142,7 @@ no-refusal = record {
   two = λ k. few two (λ s. Near s 2) k (λ l u. omega arith);
   nearest = λ k. few nearest (λ s. Near s (s .n - 1)) k (λ l u. omega arith);
   filled = λ {s} {w} {places} {x} k f. fill-few k (fillStatus s w places x) refl f;
+  restored = λ {s} {w} {places} {x} k f. restore-few k (fillStatus s w places x) refl f;
   page = page-few;
   wordBytes = λ s bytes k h.
       let (law, h₁) = unless-passed (lawful s) _ _ (λ e. corrected-not _ k e) h in

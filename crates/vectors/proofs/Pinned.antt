@@ -20,6 +20,7 @@ use Rattle.correction.specs.Reading.{changesBy, restoredBy, acceptedBy, readOf}
 use Rattle.decoder.specs.Looking.{lookingOf}
 use Rattle.majority.specs.Majority.{majority, votedAt}
 use Rattle.erasure.specs.Fill.{rising, fillStatus}
+use Rattle.restore.specs.Restore.{reach}
 use Rattle.page.specs.Page.{functions, zeros, pageOf, writeStatus}
 use Rattle.session.specs.Session.{pagesOf, lowestOf, consistent, freshOf, freshStatus, countOf, overflows, sessionStatus, countedOf}
 use Rattle.session.specs.Arrival.{isWay, wayOf, arrivalStatus, outcomeOf}
@@ -64,7 +65,7 @@ orders-of-tests = record {
 }
 
 pub limits : Limits
-unfolding outcomeOf overflows countOf valuesOf allValues lawful regular sloped fitsSlope isOrder orders any all pageOf narrow functions zeros countedOf sessionStatus consistent pagesOf lowestOf bit sum count lowestNot millis tabulate wholeRun readOf acceptedBy changesBy restoredBy votedAt majority shows firstValue mended silentTest syndrome xorSum when lineOf slopeOf _⊕_ statusOf scratchLength keptChecks symbolsOf bytesOf contentOf valuesIn content.small sameBytes spell decimal lineContent outputOf closing feed start judgedOf fault passed outcomeLine outcomeText outcomeName freshStatus freshOf shapeRefusal
+unfolding outcomeOf overflows countOf valuesOf allValues lawful regular sloped fitsSlope isOrder orders any all pageOf narrow functions zeros countedOf sessionStatus consistent pagesOf lowestOf bit sum count lowestNot millis tabulate wholeRun readOf acceptedBy changesBy restoredBy votedAt majority shows firstValue mended silentTest syndrome xorSum when lineOf slopeOf _⊕_ statusOf scratchLength keptChecks reach symbolsOf bytesOf contentOf valuesIn content.small sameBytes spell decimal lineContent outputOf closing feed start judgedOf fault passed outcomeLine outcomeText outcomeName freshStatus freshOf shapeRefusal
 limits = record {
   falling-slopes = refl;
   full-page = refl;
@@ -76,6 +77,7 @@ limits = record {
   words-65 = refl;
   bundle-values = refl;
   shipped-scratch = refl;
+  shipped-reach = refl;
   half-of-two = refl;
   extraction = λ e. e .answer;
   symbols = refl;

@@ -15,6 +15,7 @@ use Rattle.majority.specs.Majority.{Voting}
 use Rattle.double.specs.Double.{ReadingTwo}
 use Rattle.nearest.specs.Nearest.{Restoring}
 use Rattle.erasure.specs.Fill.{Filling}
+use Rattle.restore.specs.Restore.{Recovering}
 use Rattle.page.specs.declared.PageRead.the-variants as page
 use Rattle.page.specs.Page.{pageOf, readNumber}
 use Rattle.session.specs.declared.Session.{Session}
@@ -74,6 +75,7 @@ pub record NoRefusal : Type 0 where
   pub two : {s : Shape} {w w′ : List ℕ} {r : Decoded} (k : ℕ) → ReadingTwo s w w′ r → r ≡ decoded.Corrected k → k ≤ 7
   pub nearest : {s : Shape} {w w′ : List ℕ} {r : Decoded} (k : ℕ) → Restoring s w w′ r → r ≡ decoded.Corrected k → k ≤ 7
   pub filled : {s : Shape} {w places x w′ x′ : List ℕ} {r : Decoded} (k : ℕ) → Filling s w places x w′ x′ r → r ≡ decoded.Corrected k → k ≤ 961
+  pub restored : {s : Shape} {w places x w′ x′ : List ℕ} {r : Decoded} (k : ℕ) → Recovering s w places x w′ x′ r → r ≡ decoded.Corrected k → k ≤ 961
   -- of the exported pair
   pub wordBytes : (s : Shape) (bytes : List ℕ) (k : ℕ) → wordOf s bytes ≡ decoded.Corrected k → k ≤ 7
   pub pageBytes : (s : Shape) (bytes : List ℕ) (p c : ℕ) → pageIn s bytes ≡ page.Page p c → (p < 1024) × (c < 1024) × (1024 * p + c < 2147483648)

@@ -21,6 +21,7 @@ use Rattle.majority.specs.Majority.{vote, majorityOf}
 use Rattle.double.specs.Double.{two}
 use Rattle.nearest.specs.Nearest.{nearest}
 use Rattle.erasure.specs.Fill.{fillStatus}
+use Rattle.restore.specs.Restore.{reach}
 use Rattle.page.specs.declared.PageRead.the-variants as page
 use Rattle.page.specs.Page.{pageOf, writeStatus}
 use Rattle.session.specs.declared.Session.{Session}
@@ -110,6 +111,7 @@ pub record Limits : Type 0 where
   pub words-65 : wholeRun small (replicate 585 0) ≡ false
   pub bundle-values : valuesOf (outcome.Taken 5 1 ∷ outcome.Refused Refusal.Page ∷ []) ≡ 0 ∷ 5 ∷ 1 ∷ 2 ∷ 5 ∷ 0 ∷ replicate 186 0
   pub shipped-scratch : scratchLength (standard 17 4 32) ≡ 650
+  pub shipped-reach : map (reach (standard 17 4 32)) (0 ∷ 1 ∷ 2 ∷ 3 ∷ 4 ∷ 5 ∷ 6 ∷ 7 ∷ 289 ∷ []) ≡ 3 ∷ 3 ∷ 2 ∷ 2 ∷ 1 ∷ 1 ∷ 0 ∷ 0 ∷ 0 ∷ []
   pub half-of-two : majorityOf small (12 ∷ 2 ∷ 7 ∷ 3 ∷ 1 ∷ 2 ∷ 6 ∷ 3 ∷ 5 ∷ []) ≡ decoded.Corrected 1
   -- what was lent for the answer may hold anything
   pub extraction : {scratch′ symbols′ : List ℕ} {r : Status}
