@@ -138,7 +138,7 @@ enum shaftglimmer_refusal {
     SHAFTGLIMMER_BEYOND_TWO = 17,  /* no stored word differs in at most two digits */
     SHAFTGLIMMER_SLOPE = 18,       /* one of the first n - 1 slopes is not below q, or stands twice */
     SHAFTGLIMMER_BILL = 19,        /* the sum is above 2^64 - 1 thousandths of a picojoule */
-    SHAFTGLIMMER_FAR = 20          /* no stored word differs in at most n - 1 digits */
+    SHAFTGLIMMER_FAR = 20          /* no stored word is within reach of decode_nearest or restore */
 };
 
 /* An answer at or above these is a refusal: of most functions, of shaftglimmer_count, of shaftglimmer_bill. */
@@ -187,7 +187,7 @@ static inline const char *shaftglimmer_refusal_text(uint32_t number)
     case SHAFTGLIMMER_BEYOND_TWO: return "beyond two: no stored word differs in at most two digits";
     case SHAFTGLIMMER_SLOPE: return "slope: a slope is not below q, or stands twice";
     case SHAFTGLIMMER_BILL: return "bill: the sum is above 2^64 - 1 thousandths of a picojoule";
-    case SHAFTGLIMMER_FAR: return "far: no stored word differs in at most n - 1 digits";
+    case SHAFTGLIMMER_FAR: return "far: no stored word is within reach";
     default: return "no refusal has this number";
     }
 }
@@ -249,6 +249,22 @@ uint32_t shaftglimmer_decode_nearest(const shaftglimmer_shape *shape, uint32_t *
  */
 uint32_t shaftglimmer_fill(const shaftglimmer_shape *shape, const uint32_t *places, size_t places_length,
                            uint32_t *word, size_t word_length, uint32_t *scratch, size_t scratch_length);
+
+/*
+ * Restores a word with dead cells and other damage. The list of places is as for shaftglimmer_fill. Beside f places
+ * it undoes any damage to e other digits, as long as 2 * e + f is below 2 * n: with four directions three wrong
+ * digits beside one dead cell, two beside three, one beside five.
+ *
+ * Let reach be (2 * n - 1 - f) / 2, rounded down, and 0 from 2 * n - 1 places on. A stored word is within reach if it
+ * differs in at most so many digits at the other places. Tests 1, 18, 2 of word and scratch, 3, 12; then 20 if no
+ * stored word is within reach, 14 if more than one is, which never comes with up to 2 * n - 1 places. Answers the
+ * number of digits changed; word then holds the one stored word within reach. The list stays as it is.
+ *
+ * Where shaftglimmer_fill accepts, with up to 2 * n - 1 places, word and answer are the same. With no places they
+ * are those of shaftglimmer_decode_nearest.
+ */
+uint32_t shaftglimmer_restore(const shaftglimmer_shape *shape, const uint32_t *places, size_t places_length,
+                              uint32_t *word, size_t word_length, uint32_t *scratch, size_t scratch_length);
 
 /*
  * Checks a word that somebody else restored. Yes comes exactly for the word that shaftglimmer_decode makes of the

@@ -29,6 +29,7 @@ pub use session::Session;
 pub use shape::Shape;
 pub use words::{
     check, decode, decode_majority, decode_nearest, decode_two, encode_with, extract_with, fill_with, looked_with,
+    restore_with,
 };
 #[cfg(feature = "alloc")]
-pub use words::{encode, extract, fill, looked};
+pub use words::{encode, extract, fill, looked, restore};

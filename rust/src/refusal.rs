@@ -94,9 +94,9 @@ refusals! {
         "Sort the list and drop repeats. Check that list and shape belong together.";
     Unfillable = 13, "unfillable",
         "No codeword agrees with the symbols outside the list.",
-        "There is damage outside the list: read the word without the list, or have the page sent again.";
+        "There is damage outside the list: restore the word with the same list, which undoes it as far as it can be told. Otherwise have the page sent again.";
     Ambiguous = 14, "ambiguous",
-        "The list leaves more than one codeword.",
+        "The list leaves more than one codeword. It never comes with up to 2n - 1 places.",
         "Too many cells are gone for this word: have the page sent again over other cells.";
     NoMajority = 15, "no majority",
         "Reading by vote: no codeword differs from the word in at most n/2 symbols.",
@@ -114,8 +114,8 @@ refusals! {
         "Calls times price come to more than 2^64 - 1 thousandths of a picojoule. The pages of a recording do not have so many marks.",
         "Check the counts that were handed in.";
     Far = 20, "far",
-        "Reading the nearest codeword: no codeword differs from the word in at most n - 1 symbols.",
-        "Have the page sent again: no other reading undoes more. The word is left as it came.";
+        "No codeword is within reach. Reading the nearest codeword: none differs from the word in at most n - 1 symbols. Restoring a word with f dead cells: none differs in at most (2n - 1 - f)/2 symbols outside the list, rounded down, or in none if f is 2n - 1 or more.",
+        "If the memory test names dead cells, restore the word with the list of all of them. Otherwise have the page sent again: no other reading undoes more. The word is left as it came.";
 }
 
 impl Refusal {

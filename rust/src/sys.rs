@@ -58,6 +58,7 @@ exported! {
     decode_two = shaftglimmer_decode_two(shape: &Shape; word: *mut u32) -> u32;
     decode_nearest = shaftglimmer_decode_nearest(shape: &Shape; word: *mut u32) -> u32;
     fill = shaftglimmer_fill(shape: &Shape; places: *const u32, word: *mut u32, scratch: *mut u32) -> u32;
+    restore = shaftglimmer_restore(shape: &Shape; places: *const u32, word: *mut u32, scratch: *mut u32) -> u32;
     check = shaftglimmer_check(shape: &Shape; received: *const u32, proposed: *const u32) -> u32;
     looked = shaftglimmer_looked(shape: &Shape; word: *const u32, looked: *mut u32) -> u32;
     parse_page = shaftglimmer_parse_page(shape: &Shape; data: *const u32) -> u32;

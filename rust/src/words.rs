@@ -1,4 +1,4 @@
-//! Words: written, read, filled in, checked.
+//! Words: written, read, filled in, restored, checked.
 
 use crate::refusal::{answered, done};
 use crate::{sys, Refusal, Shape};
@@ -117,6 +117,30 @@ pub fn fill(shape: &Shape, places: &[u32], word: &mut [u32]) -> Result<u32, Refu
 /// [`fill`](crate::fill) with lent working space.
 pub fn fill_with(shape: &Shape, places: &[u32], word: &mut [u32], scratch: &mut [u32]) -> Result<u32, Refusal> {
     answered(sys::fill(shape, places, word, scratch))
+}
+
+/// Restores a word with dead cells and other damage: undoes anything at the f listed places, which rise, and any damage
+/// to e other symbols as long as 2e + f is below 2n. Gives the number of symbols changed. Refuses with 2, 3, 12, 20 or
+/// 14, and then leaves the word as it came; 14 never comes with fewer than 2n places.
+///
+/// ```
+/// use shaftglimmer::{fill, restore, Refusal, Shape};
+///
+/// // cell 0 is gone, and symbol 8 is wrong besides
+/// let (shape, mut word) = (Shape::new(3, 2, 8)?, [0, 2, 7, 3, 1, 2, 6, 3, 9]);
+/// assert_eq!(fill(&shape, &[0], &mut word), Err(Refusal::Unfillable));
+/// assert_eq!(restore(&shape, &[0], &mut word), Ok(2));
+/// assert_eq!(word, [5, 2, 7, 3, 1, 2, 6, 3, 5]);
+/// # Ok::<(), Refusal>(())
+/// ```
+#[cfg(feature = "alloc")]
+pub fn restore(shape: &Shape, places: &[u32], word: &mut [u32]) -> Result<u32, Refusal> {
+    restore_with(shape, places, word, &mut scratch(shape))
+}
+
+/// [`restore`](crate::restore) with lent working space.
+pub fn restore_with(shape: &Shape, places: &[u32], word: &mut [u32], scratch: &mut [u32]) -> Result<u32, Refusal> {
+    answered(sys::restore(shape, places, word, scratch))
 }
 
 /// How many checks of each symbol the clean way looks at, up to the first that is silent. Refuses with 2 or 3.

@@ -3,8 +3,8 @@
 use shaftglimmer::bytes::{read_page, read_word};
 use shaftglimmer::{
     check, decode, decode_majority, decode_nearest, decode_two, encode, encode_with, extract, extract_with, fill,
-    fill_with, looked, looked_with, parse_page, write_page, write_page_with, Outcome, Outcomes, Refusal, Session,
-    Shape, Way,
+    fill_with, looked, looked_with, parse_page, restore, restore_with, write_page, write_page_with, Outcome, Outcomes,
+    Refusal, Session, Shape, Way,
 };
 use std::iter::repeat;
 
@@ -71,6 +71,11 @@ fn words() {
     let mut dead = hidden;
     assert_eq!((fill(&shape, &[3, 4], &mut dead), dead), (Ok(2), stored));
     assert_eq!(fill(&shape, &[4, 3], &mut dead), Err(Refusal::Places));
+    let with = |places: &[u32], mut word: [u32; 9]| (restore(&shape, places, &mut word), word);
+    assert_eq!(with(&[3], hidden), (Ok(2), stored));
+    assert_eq!(with(&[0, 8], hidden), (Err(Refusal::Far), hidden));
+    assert_eq!(with(&[3, 3], hidden), (Err(Refusal::Places), hidden));
+    assert_eq!(with(&[0, 1, 2, 3, 4, 5, 6, 7, 8], hidden), (Err(Refusal::Ambiguous), hidden));
     assert_eq!(decode_two(&small(), &mut [0; 9]), Err(Refusal::Directions));
 }
 
@@ -203,6 +208,8 @@ fn any_words() {
             assert_eq!((looked(&shape, &list).is_ok(), extract(&shape, &list).is_ok()), (fits, fits));
             assert_eq!(looked_with(&shape, &whole, &mut list.clone()).is_ok(), right);
             assert!(fill(&shape, &list, &mut whole.clone()).is_ok() <= (list.len() <= 1));
+            assert!(restore(&shape, &list, &mut whole.clone()).is_ok() <= (list.len() <= 1));
+            assert!(restore(&shape, &[], &mut list.clone()).is_ok() <= fits);
             let mut bytes: Vec<u8> = list.iter().map(|&number| number as u8).collect();
             assert!(read_word(value, 2, 8, &mut bytes).is_err());
         });
@@ -234,6 +241,7 @@ fn any_scratch() {
         with_lists(&shape, |_, mut list| {
             let (right, whole) = (list.len() == shape.scratch_length(), list.len() % word.len() == 0);
             assert_eq!(fill_with(&shape, &[], &mut word.clone(), &mut list).is_ok(), right);
+            assert_eq!(restore_with(&shape, &[], &mut word.clone(), &mut list).is_ok(), right);
             assert_eq!(encode_with(&shape, &data, &mut list, &mut word.clone()).is_ok(), right);
             assert_eq!(extract_with(&shape, &mut data.clone(), &mut list, &word).is_ok(), right);
             let outcome = session.arrive_with(Way::Clean, &mut word.clone(), &mut list);
