@@ -1,6 +1,7 @@
 /*
  * Dead cells: a probe's memory test has named the cells of each word that are gone. The digits there are not
- * believed, and the others say what they were. Up to 2 * n - 1 dead cells of a word never leave a choice.
+ * believed, and the others say what they were. Up to 2 * n - 1 dead cells of a word never leave a choice. If others
+ * are wrong too, the word is restored as long as twice as many as these and the dead cells are fewer than 2 * n.
  *
  *     dead_cells < text
  *
@@ -9,16 +10,21 @@
  */
 #include "input.h"
 
-/* Fills word number i in and shows it. If it is refused, it stays as it came. */
+/* Fills word number i in, or restores it if other digits are wrong too, and shows it. If it is refused, it stays as it came. */
 static int fill(const shaftglimmer_shape *shape, size_t i, const uint32_t *places, size_t count, uint32_t *word, size_t digits)
 {
     static uint32_t scratch[SHAFTGLIMMER_SCRATCH_MOST];
     size_t room = shaftglimmer_scratch_length(shape);
+    const char *beside = "";
     uint32_t answer = shaftglimmer_fill(shape, places, count, word, digits, scratch, room);
+    if (shaftglimmer_refusal_of(answer) == SHAFTGLIMMER_UNFILLABLE) {
+        answer = shaftglimmer_restore(shape, places, count, word, digits, scratch, room);
+        beside = " and others damaged";
+    }
     if (shaftglimmer_refusal_of(answer) != 0) {
         return refused_word(i, shaftglimmer_refusal_of(answer));
     }
-    printf("word %zu: %zu cells gone, %" PRIu32 " digits were wrong:", i, count, answer);
+    printf("word %zu: %zu cells gone%s, %" PRIu32 " digits were wrong:", i, count, beside, answer);
     print_numbers(word, digits);
     return 0;
 }
