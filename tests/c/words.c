@@ -127,14 +127,30 @@ void words(void)
     reading_refused();
 }
 
+/* shaftglimmer_fill or shaftglimmer_restore */
+typedef uint32_t by_places(const shaftglimmer_shape *shape, const uint32_t *places, size_t places_length,
+                           uint32_t *word, size_t word_length, uint32_t *scratch, size_t scratch_length);
+
+static void listed(const char *name, by_places *call, const uint32_t *places, size_t count, const uint32_t *word,
+                   uint32_t expected, const uint32_t *left, uint32_t scratch_left, uint32_t b)
+{
+    shaftglimmer_shape shape = standard(3, 2, b);
+    uint32_t *lent_places = lend(places, count), *lent = lend(word, N), *scratch = lend_all(9, SCRATCH_2);
+    uint32_t answer = call(&shape, lent_places, count, lent, N, scratch, SCRATCH_2);
+    int same = holds(lent_places, places, count) & holds(lent, left, N) & holds_all(scratch, scratch_left, SCRATCH_2);
+    expect(name, answer == expected && same);
+}
+
 static void fill(const char *name, const uint32_t *places, size_t count, const uint32_t *word, uint32_t expected,
                  const uint32_t *left, uint32_t scratch_left, uint32_t b)
 {
-    shaftglimmer_shape shape = standard(3, 2, b);
-    uint32_t *listed = lend(places, count), *lent = lend(word, N), *scratch = lend_all(9, SCRATCH_2);
-    uint32_t answer = shaftglimmer_fill(&shape, listed, count, lent, N, scratch, SCRATCH_2);
-    int same = holds(listed, places, count) & holds(lent, left, N) & holds_all(scratch, scratch_left, SCRATCH_2);
-    expect(name, answer == expected && same);
+    listed(name, shaftglimmer_fill, places, count, word, expected, left, scratch_left, b);
+}
+
+static void restore(const char *name, const uint32_t *places, size_t count, const uint32_t *word, uint32_t expected,
+                    const uint32_t *left, uint32_t scratch_left, uint32_t b)
+{
+    listed(name, shaftglimmer_restore, places, count, word, expected, left, scratch_left, b);
 }
 
 static void filling(void)
@@ -150,6 +166,22 @@ static void filling(void)
     fill("a place beyond the word", beyond, 2, gone, refused(SHAFTGLIMMER_PLACES), gone, 0, 8);
     fill("dead cells: width", places, 3, gone, refused(SHAFTGLIMMER_WIDTH), gone, 0, 7);
     fill("dead cells: shape", places, 3, gone, refused(SHAFTGLIMMER_SHAPE), gone, 9, 0);
+}
+
+static void restoring(void)
+{
+    const uint32_t places[] = {0, 4, 8}, falling[] = {4, 0}, beyond[] = {0, 9}, all[] = {0, 1, 2, 3, 4, 5, 6, 7, 8};
+    const uint32_t gone[] = {255, 2, 7, 3, 99, 2, 6, 3, 5}, one[] = {255, 2, 7, 3, 1, 2, 6, 3, 5};
+    restore("restored: three dead cells, two of them wrong", places, 3, gone, 2, p7, 0, 8);
+    restore("restored: a dead cell and a wrong digit", places, 1, gone, 2, p7, 0, 8);
+    restore("restored: no dead cell, a wrong digit", places, 0, one, 1, p7, 0, 8);
+    restore("restored: no dead cell", places, 0, p7, 0, p7, 0, 8);
+    restore("no dead cell, two wrong digits", places, 0, gone, refused(SHAFTGLIMMER_FAR), gone, 0, 8);
+    restore("restored: every cell dead", all, 9, gone, refused(SHAFTGLIMMER_AMBIGUOUS), gone, 0, 8);
+    restore("restored: places that fall", falling, 2, gone, refused(SHAFTGLIMMER_PLACES), gone, 0, 8);
+    restore("restored: a place beyond the word", beyond, 2, gone, refused(SHAFTGLIMMER_PLACES), gone, 0, 8);
+    restore("restored: width", places, 3, gone, refused(SHAFTGLIMMER_WIDTH), gone, 0, 7);
+    restore("restored: shape", places, 3, gone, refused(SHAFTGLIMMER_SHAPE), gone, 9, 0);
 }
 
 static void check(const char *name, uint32_t b, const uint32_t *received, const uint32_t *proposed, size_t count,
@@ -176,6 +208,7 @@ void cells(void)
     const uint32_t ones[] = {1, 1, 1, 1, 1, 1, 1, 1, 1}, damaged[] = {1, 1, 1, 3, 3, 2, 1, 1, 1};
     const uint32_t wide[] = {3, 6, 5, 5, 3, 6, 6, 5, 8};
     filling();
+    restoring();
     check("a right proposal", 3, p5, p4, N, 1);
     check("a proposal that is no stored word", 3, p5, p5, N, 0);
     check("a proposal that masked damage would explain", 3, p6, p4, N, 0);

@@ -9,6 +9,7 @@ mod nearest;
 mod processor;
 mod program;
 mod proposals;
+mod restored;
 mod votes;
 mod words;
 
@@ -48,6 +49,12 @@ random, else of words with an unmasked error of weight 1 to n - 1.
 
 ";
 
+const RESTORED: &str = "\
+Dead cells and damage together against filling in, both the library's: of the same words without the damage beside
+the places, or refused too.
+
+";
+
 const PROPOSALS: &str = "Proposals: right ones checked, against reading the damaged words that they are for.\n\n";
 
 const BUNDLES: &str = "\
@@ -62,20 +69,22 @@ where the page is taken and 0.60 where it is again or refused; reading at most 0
 reader, as bytes 0.80; dead cells at most 0.50 of the straightforward way for n places and 1.50 for half of
 all; reading by vote at most 1.20 of the tuned vote; reading two wrong symbols at most 1.50 of clean reading,
 the nearest codeword at most 1.15 of it for undamaged words, 1.50 for random ones and 8.00 for stripes on
-(17, 4, 32), checking a proposal at most 1.00 of it; a bundle of 64 words at most 0.90 of 64 single arrivals,
-and on (17, 4, 32) at most 2.50 of reading them.";
+(17, 4, 32), checking a proposal at most 1.00 of it; restoring words with n dead cells and nothing else wrong at
+most 1.30 of filling them in; a bundle of 64 words at most 0.90 of 64 single arrivals, and on (17, 4, 32) at
+most 2.50 of reading them.";
 
 /// Prints a table; gives the rows that miss their target.
 type Table = fn() -> Vec<String>;
 
 /// Each with what stands above it.
-const TABLES: [(&str, Table); 9] = [
+const TABLES: [(&str, Table); 10] = [
     (WORDS, words::table),
     (BYTES, bytes::table),
     (ERASURES, erasures::table),
     (VOTES, votes::table),
     (DOUBLE, double::table),
     (NEAREST, nearest::table),
+    (RESTORED, restored::table),
     (PROPOSALS, proposals::table),
     (BUNDLES, bundles::table),
     ("", program::table),

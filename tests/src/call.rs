@@ -8,6 +8,7 @@ use crate::reference::filler::fill;
 use crate::reference::nearest::decode_nearest;
 use crate::reference::page::{read_page, write_page};
 use crate::reference::reader::{decode, looked};
+use crate::reference::restorer::restore;
 use crate::reference::session::{Outcome, Session, CALLS_AT, MARKS_AT, PAGES_AT};
 use crate::reference::shape::{Refusal, Shape};
 use crate::reference::voter::decode_majority;
@@ -23,6 +24,7 @@ pub enum Entry {
     DecodeTwo,
     DecodeNearest,
     Fill,
+    Restore,
     Check,
     ReadPage,
     Marks,
@@ -46,7 +48,7 @@ impl Entry {
             Entry::Decode | Entry::DecodeMajority | Entry::DecodeTwo => &["word"],
             Entry::DecodeNearest | Entry::HostReadWord => &["word"],
             Entry::Looked => &["word", "looked"],
-            Entry::Fill => &["places", "word", "scratch"],
+            Entry::Fill | Entry::Restore => &["places", "word", "scratch"],
             Entry::Check => &["received", "proposed"],
             Entry::ReadPage | Entry::HostReadPage => &["data"],
             Entry::Marks => &["data", "marks"],
@@ -157,6 +159,7 @@ impl Call {
             (Entry::DecodeTwo, [word]) => answer_of(decode_two(shape, word)),
             (Entry::DecodeNearest, [word]) => answer_of(decode_nearest(shape, word)),
             (Entry::Fill, [places, word, scratch]) => answer_of(fill(shape, places, word, scratch)),
+            (Entry::Restore, [places, word, scratch]) => answer_of(restore(shape, places, word, scratch)),
             (Entry::Check, [received, proposed]) => answer_of(check(shape, received, proposed)),
             (Entry::ReadPage, [data]) => answer_of(page_answer(shape, data)),
             (Entry::Marks, [data, marks]) => answer_of(marks_part(shape, data, marks)),

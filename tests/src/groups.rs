@@ -23,6 +23,7 @@ pub mod proposals;
 pub mod reference;
 #[cfg(feature = "library")]
 pub mod refusals;
+pub mod restore;
 #[cfg(feature = "library")]
 pub mod sessions;
 pub mod slopes;

@@ -11,7 +11,7 @@ use crate::reference::shape::SHAPE_LEN;
 use shaftglimmer::bytes::{read_page, read_word};
 use shaftglimmer::{
     check, decode, decode_majority, decode_nearest, decode_two, encode_with, extract_with, fill_with, looked_with,
-    parse_page, write_page_with, Page, Refusal, Session, Shape, Way,
+    parse_page, restore_with, write_page_with, Page, Refusal, Session, Shape, Way,
 };
 
 impl Call {
@@ -52,6 +52,7 @@ impl Call {
             (Entry::DecodeTwo, [word]) => number(decode_two(shape, word)),
             (Entry::DecodeNearest, [word]) => number(decode_nearest(shape, word)),
             (Entry::Fill, [places, word, scratch]) => number(fill_with(shape, places, word, scratch)),
+            (Entry::Restore, [places, word, scratch]) => number(restore_with(shape, places, word, scratch)),
             (Entry::Check, [received, proposed]) => number(check(shape, received, proposed).map(u32::from)),
             (Entry::ReadPage, [data]) => number(parse_page(shape, data).map(page_answer)),
             (Entry::Marks, [data, marks]) => marks_part(shape, data, marks),

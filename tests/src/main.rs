@@ -6,8 +6,8 @@
 
 use shaftglimmer_tests::call::{Call, Make};
 use shaftglimmer_tests::groups::{
-    batches, coverage, double, energy, erasures, figures, idle, looked, nearest, person, proposals, reference, slopes,
-    stream, text, vectors, vote, ways,
+    batches, coverage, double, energy, erasures, figures, idle, looked, nearest, person, proposals, reference, restore,
+    slopes, stream, text, vectors, vote, ways,
 };
 use shaftglimmer_tests::process::Program;
 use shaftglimmer_tests::report::{Group, Report};
@@ -39,7 +39,7 @@ fn main() -> ExitCode {
 type Grouped = fn(String, Make) -> Group;
 
 /// The groups whose calls the reference makes as well as the library.
-const OF_BOTH: [(&str, Grouped); 14] = [
+const OF_BOTH: [(&str, Grouped); 15] = [
     ("bench values", vectors::group),
     ("slopes", slopes::group),
     ("figures", figures::group),
@@ -52,6 +52,7 @@ const OF_BOTH: [(&str, Grouped); 14] = [
     ("ways", ways::group),
     ("two wrong symbols", double::group),
     ("nearest codewords", nearest::group),
+    ("dead cells and damage", restore::group),
     ("bundles", batches::group),
     ("proposals", proposals::group),
 ];

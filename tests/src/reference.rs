@@ -16,6 +16,7 @@ pub mod nearest;
 pub mod page;
 pub mod program;
 pub mod reader;
+pub mod restorer;
 pub mod session;
 pub mod shape;
 pub mod square;

@@ -56,10 +56,10 @@ pub fn table() -> Vec<String> {
 }
 
 /// A list of places, and a codeword with wrong symbols at them.
-type Cells = (Vec<u32>, Vec<u32>);
+pub(super) type Cells = (Vec<u32>, Vec<u32>);
 
 /// Places, word and scratch.
-type Fill<'a> = &'a dyn Fn(&[u32], &mut [u32], &mut [u32]) -> u32;
+pub(super) type Fill<'a> = &'a dyn Fn(&[u32], &mut [u32], &mut [u32]) -> u32;
 
 fn filling(shape: Shape, named: Named) -> Times {
     let mut random = Random::new(1, "filling");
@@ -82,7 +82,7 @@ fn filling(shape: Shape, named: Named) -> Times {
 }
 
 /// Each answer, and the words as left.
-fn fill_all(shape: Shape, fill: Fill, all: &[Cells]) -> Vec<(u32, Vec<u32>)> {
+pub(super) fn fill_all(shape: Shape, fill: Fill, all: &[Cells]) -> Vec<(u32, Vec<u32>)> {
     let mut scratch = vec![7; shape.scratch_len()];
     let filled = |(places, word): &Cells| {
         let mut word = word.clone();
@@ -92,7 +92,7 @@ fn fill_all(shape: Shape, fill: Fill, all: &[Cells]) -> Vec<(u32, Vec<u32>)> {
 }
 
 /// The work on copies of the words.
-fn batch<'a>(shape: Shape, fill: Fill<'a>, all: &'a [Cells]) -> Batch<'a> {
+pub(super) fn batch<'a>(shape: Shape, fill: Fill<'a>, all: &'a [Cells]) -> Batch<'a> {
     let mut work: Vec<Vec<u32>> = all.iter().map(|(_, word)| word.clone()).collect();
     let mut scratch = vec![0; shape.scratch_len()];
     Box::new(move || {

@@ -1,4 +1,5 @@
-//! Words that reading the nearest codeword takes longest for: `cargo run --release --bin slowest -- SEED Q N B SECONDS`.
+//! Words that reading the nearest codeword takes longest for, or restoring with so many dead cells:
+//! `cargo run --release --bin slowest -- SEED Q N B SECONDS [PLACES]`.
 
 #[cfg(feature = "library")]
 fn main() -> std::process::ExitCode {

@@ -6,11 +6,12 @@ use crate::capture::Page;
 use crate::damage::{allowed, any, damaged, list};
 use crate::random::Random;
 use crate::reference::page::FUNCTIONS;
+use crate::reference::restorer::reach;
 use crate::reference::session::{CALLS_AT, CLEAN, LOWEST_AT, OUTCOMES_LEN, PAGES_AT, SESSION_LEN, TWO, VOTE};
 use crate::reference::shape::{Refusal, Shape};
 use crate::reference::writer::codeword;
 
-pub const ENTRIES: [Entry; 20] = [
+pub const ENTRIES: [Entry; 21] = [
     Entry::Encode,
     Entry::Extract,
     Entry::Decode,
@@ -19,6 +20,7 @@ pub const ENTRIES: [Entry; 20] = [
     Entry::DecodeTwo,
     Entry::DecodeNearest,
     Entry::Fill,
+    Entry::Restore,
     Entry::Check,
     Entry::ReadPage,
     Entry::Marks,
@@ -56,7 +58,7 @@ pub fn good(entry: Entry, shape: Shape, random: &mut Random) -> Call {
         Entry::DecodeMajority => vec![received(VOTE, shape, &data, random)],
         Entry::DecodeTwo => vec![received(TWO, shape, &data, random)],
         Entry::DecodeNearest => vec![damaged(&codeword(shape, &data), &any(shape, shape.most_errors(), random))],
-        Entry::Fill => dead_cells(shape, &data, scratch, random),
+        Entry::Fill | Entry::Restore => dead_cells(entry, shape, &data, scratch, random),
         Entry::Check => vec![received(CLEAN, shape, &data, random), codeword(shape, &data)],
         Entry::ReadPage => vec![page_data],
         Entry::Marks => vec![page_data, random.numbers(data.len())],
@@ -81,11 +83,13 @@ fn received(way: u32, shape: Shape, data: &[u32], random: &mut Random) -> Vec<u3
     damaged(&codeword(shape, data), &allowed(way, shape, random))
 }
 
-/// As many places as there are directions, or fewer: only one codeword can agree off them.
-fn dead_cells(shape: Shape, data: &[u32], scratch: Vec<u32>, random: &mut Random) -> Vec<Vec<u32>> {
+/// As many places as there are directions, or fewer: only one codeword can agree off them. For restoring, so many other
+/// symbols are wrong that it still undoes them.
+fn dead_cells(entry: Entry, shape: Shape, data: &[u32], scratch: Vec<u32>, random: &mut Random) -> Vec<Vec<u32>> {
     let count = random.below(shape.n as usize + 1);
     let places = list(random.positions(count, shape.word_len()));
-    let mut word = codeword(shape, data);
+    let most = if entry == Entry::Restore { reach(shape, count) } else { 0 };
+    let mut word = damaged(&codeword(shape, data), &any(shape, most, random));
     places.iter().for_each(|&place| word[place as usize] = random.symbol(shape));
     vec![places, word, scratch]
 }

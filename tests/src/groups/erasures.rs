@@ -1,8 +1,8 @@
 //! Dead cells: words with places that are named as gone. What must come is said here where the case itself
 //! settles it, by trying every codeword where these are few, and by the reference elsewhere.
 
-mod cases;
-mod faults;
+pub(super) mod cases;
+pub(super) mod faults;
 
 use super::every::{Shapes, WIDTHS};
 use super::expect::{expect, expect_reference};
@@ -32,10 +32,11 @@ pub fn group(name: String, make: Make) -> Group {
     shapes.test("circuits, (q, n)", circuits);
     shapes.test("parity positions, (q, n)", parity_positions);
     shapes.test("any list, (q, n)", any_list);
-    shapes.test("lists that are refused, (q, n)", refused_lists);
-    shapes.test("lengths, (q, n)", lengths);
-    shapes.test("widths, (q, n)", widths);
-    shapes.test("several faults, (q, n)", several_faults);
+    shapes
+        .test("lists that are refused, (q, n)", |make, shape, random| refused_lists(Entry::Fill, make, shape, random));
+    shapes.test("lengths, (q, n)", |make, shape, random| lengths(Entry::Fill, make, shape, random));
+    shapes.test("widths, (q, n)", |make, shape, random| widths(Entry::Fill, make, shape, random));
+    shapes.test("several faults, (q, n)", |make, shape, random| several_faults(Entry::Fill, make, shape, random));
     group.test_all_words(&[2, 3], move |shape, random| every_word(make, shape, random));
     let small = [(3, 2, 2), (3, 2, 3), (3, 3, 2), (3, 3, 4), (5, 4, 1), (5, 5, 1), (5, 5, 2), (7, 6, 1), (7, 7, 2)];
     group.test_drawn("sampled words of (q, n, b)", &small, 4, move |shape, random| sampled(make, shape, random));

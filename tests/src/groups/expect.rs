@@ -51,7 +51,7 @@ impl Lent {
     fn smaller_slices(&self, i: usize) -> Box<dyn Iterator<Item = Vec<u32>> + '_> {
         let slice = &self.call.slices[i];
         match (self.call.entry, i) {
-            (Entry::Fill, 0) => Box::new(without_parts(slice)),
+            (Entry::Fill | Entry::Restore, 0) => Box::new(without_parts(slice)),
             _ => Box::new(with_zeros(slice)),
         }
     }

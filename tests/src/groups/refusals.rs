@@ -73,7 +73,7 @@ fn lengths(q: u32, n: u32, random: &mut Random) -> Verdict {
 /// touched.
 fn scratch_lengths(q: u32, n: u32, random: &mut Random) -> Verdict {
     let mut tried = 0;
-    for entry in [Entry::Encode, Entry::Extract, Entry::Fill, Entry::Arrive, Entry::Batch] {
+    for entry in [Entry::Encode, Entry::Extract, Entry::Fill, Entry::Restore, Entry::Arrive, Entry::Batch] {
         let shape = random.shape(q, n, 11);
         let right = shape.scratch_len();
         for length in [old_scratch_len(shape), right - 1, right + 1] {
@@ -120,7 +120,8 @@ fn tests_width(entry: &Entry) -> bool {
 
 /// Which slice has the symbols that test 3 is about.
 fn judged(entry: Entry) -> usize {
-    usize::from(matches!(entry, Entry::Arrive | Entry::Batch | Entry::Fill | Entry::Bill | Entry::Cover))
+    let lists_first = matches!(entry, Entry::Fill | Entry::Restore);
+    usize::from(lists_first || matches!(entry, Entry::Arrive | Entry::Batch | Entry::Bill | Entry::Cover))
 }
 
 /// Values at 2^b - 1, 2^b and 2^32 - 1 at the ends and somewhere inside each slice.
@@ -214,7 +215,7 @@ fn spoil_figure(call: &mut Call, random: &mut Random) {
 
 /// A number in a slice that the entry judges: page number, count, mark, tail, any symbol or place.
 fn spoil_symbol(call: &mut Call, random: &mut Random) {
-    let of_places = call.entry == Entry::Fill && random.one_in(2);
+    let of_places = matches!(call.entry, Entry::Fill | Entry::Restore) && random.one_in(2);
     let judged = if of_places { 0 } else { judged(call.entry) };
     let limit = if call.entry.takes_bytes() { 255 } else { u32::MAX };
     let slice = &mut call.slices[judged];

@@ -34,7 +34,7 @@ pub fn group(name: String, make: Make) -> Group {
 }
 
 fn vectors() -> Vec<Vector> {
-    let of_words = [positions(), words(), nearest(), old_scratch(), dead_cells(), pages()];
+    let of_words = [positions(), words(), nearest(), old_scratch(), dead_cells(), restored(), pages()];
     let of_sessions = [arrivals(), masked_page(), idle(), figures(), shapes(), slopes()];
     of_words.into_iter().chain(of_sessions).flatten().collect()
 }
@@ -169,6 +169,42 @@ fn dead_cells() -> Vec<Vector> {
         refused("P7, 256 and a place twice", B8, &[3, 3], &wide, Refusal::Width),
         unchanging("P7 with places, old scratch", old, Err(Refusal::Length)),
         unchanging("P7 with places, 8 symbols", short, Err(Refusal::Length)),
+    ]
+}
+
+/// P4 and P7 with places named as gone and damage elsewhere. In P4's shape two wrong symbols are in reach beside one
+/// place, one beside three; in P7's one beside one. Position 8 is on no check of 0, 1, 3 and 4.
+fn restored() -> Vec<Vector> {
+    let restore = |shape: Shape, places: &[u32], word: &[u32]| {
+        let scratch = vec![7; shape.scratch_len()];
+        Call::new(Entry::Restore, shape, &[places, word, &scratch])
+    };
+    let restored = |name, shape: Shape, places: &[u32], word: &[u32], changed, left: &[u32]| {
+        vector(name, restore(shape, places, word), Ok(changed), &[places, left, &vec![0; shape.scratch_len()]])
+    };
+    let refused = |name, shape: Shape, places: &[u32], word: &[u32], refusal| {
+        vector(name, restore(shape, places, word), Err(refusal), &[places, word, &vec![0; shape.scratch_len()]])
+    };
+    let damaged = [5, 2, 7, 3, 1, 2, 6, 3, 4];
+    let mut wide = P7_WORD;
+    wide[3] = 256;
+    let old = Call::new(Entry::Restore, B8, &[&[0], &P7_WORD, &[7; 6]]);
+    let short = Call::new(Entry::Restore, B8, &[&[0], &P7_WORD[..8], &[7; 5]]);
+    vec![
+        restored("P4 restored", B3, &[], &P4_WORD, 0, &P4_WORD),
+        restored("P6 restored, no place", B3, &[], &P6_WORD, 2, &P4_WORD),
+        restored("P6 restored, one of its places", B3, &[3], &P6_WORD, 2, &P4_WORD),
+        restored("P6 restored, another place", B3, &[0], &P6_WORD, 2, &P4_WORD),
+        restored("P6 restored, three places", B3, &[0, 3, 8], &P6_WORD, 2, &P4_WORD),
+        refused("P6 restored, two other places", B3, &[0, 8], &P6_WORD, Refusal::Far),
+        restored("P7 restored, one place", B8, &[0], &damaged, 1, &P7_WORD),
+        refused("P7 restored, two places", B8, &[0, 1], &damaged, Refusal::Far),
+        refused("P7 restored, two rows and columns", B8, &[0, 1, 3, 4], &P7_WORD, Refusal::Ambiguous),
+        refused("P7 restored, two rows and columns, damage", B8, &[0, 1, 3, 4], &damaged, Refusal::Far),
+        refused("P7 restored, a place twice", B8, &[3, 3], &P7_WORD, Refusal::Places),
+        refused("P7 restored, 256 and a place twice", B8, &[3, 3], &wide, Refusal::Width),
+        unchanging("P7 restored, old scratch", old, Err(Refusal::Length)),
+        unchanging("P7 restored, 8 symbols", short, Err(Refusal::Length)),
     ]
 }
 

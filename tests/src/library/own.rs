@@ -2,7 +2,7 @@
 
 use super::{done, number, session_in, shape_in};
 use crate::call::{After, Call, Entry};
-use shaftglimmer::{encode, extract, fill, looked, write_page, Refusal};
+use shaftglimmer::{encode, extract, fill, looked, restore, write_page, Refusal};
 
 impl Call {
     /// Whether the crate's function that makes its own memory ends as the one did that was lent it, where there is
@@ -20,9 +20,10 @@ impl Call {
                 given(after, 2, extract(shape, word))
             }
             (Entry::Looked, [lent, _], &[_, w]) if w == word => given(after, 1, looked(shape, lent)),
-            (Entry::Fill, [places, lent, _], &[_, _, s]) if s == scratch => {
+            (Entry::Fill | Entry::Restore, [places, lent, _], &[_, _, s]) if s == scratch => {
                 let mut lent = lent.clone();
-                number(fill(shape, places, &mut lent)) == after.answer && lent == after.slices[1]
+                let call = if self.entry == Entry::Fill { fill } else { restore };
+                number(call(shape, places, &mut lent)) == after.answer && lent == after.slices[1]
             }
             (Entry::WritePage, [marks, _], &[_, d]) if d == data && marks.iter().all(|&mark| mark < 256) => {
                 given(after, 1, write_page(shape, self.number, marks.iter().map(|&mark| mark as u8)))

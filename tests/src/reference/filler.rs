@@ -63,6 +63,6 @@ pub fn fill(shape: Shape, places: &[u32], word: &mut [u32], scratch: &mut [u32])
 }
 
 /// Test 12: each place is a position, and above the one before it.
-fn rising(shape: Shape, places: &[u32]) -> bool {
+pub(super) fn rising(shape: Shape, places: &[u32]) -> bool {
     places.iter().all(|&place| (place as usize) < shape.word_len()) && places.windows(2).all(|pair| pair[0] < pair[1])
 }

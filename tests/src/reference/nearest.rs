@@ -12,19 +12,35 @@ use std::collections::HashMap;
 /// The error of at most n - 1 symbols that leaves a codeword. What the bits propose is accepted by that alone.
 pub fn nearest_error(shape: Shape, received: &[u32]) -> Option<Vec<u32>> {
     let values = syndromes(shape, received);
-    let positions = positions_on_checks(shape);
-    // Places of the symbols that show the same have the same wrong bits.
-    let mut known = HashMap::new();
+    let mut reader = BitReader::new(shape);
     let mut error = vec![0; received.len()];
     for place in 0..shape.b {
-        let odd: Vec<bool> = values.iter().map(|value| value >> place & 1 == 1).collect();
-        let search = |odd: &Vec<bool>| Bits::new(shape, &positions, odd).wrong(shape.most_errors());
-        for &j in known.entry(odd).or_insert_with_key(search).as_ref()? {
-            error[j] |= 1 << place;
-        }
+        let odd = values.iter().map(|value| value >> place & 1 == 1).collect();
+        reader.wrong(odd)?.iter().for_each(|&j| error[j] |= 1 << place);
     }
     let explains = weight(&error) <= shape.most_errors() && is_codeword(shape, &xor(received, &error));
     explains.then_some(error)
+}
+
+/// Finds the wrong bits of words of width 1.
+pub struct BitReader {
+    shape: Shape,
+    /// Those on each check.
+    positions: Vec<Vec<usize>>,
+    /// What was found before: places of the symbols that show the same have the same wrong bits.
+    known: HashMap<Vec<bool>, Option<Vec<usize>>>,
+}
+
+impl BitReader {
+    pub fn new(shape: Shape) -> BitReader {
+        BitReader { shape, positions: positions_on_checks(shape), known: HashMap::new() }
+    }
+
+    /// The positions, at most n - 1 of them, whose bits make just these checks odd.
+    pub fn wrong(&mut self, odd: Vec<bool>) -> Option<&Vec<usize>> {
+        let search = |odd: &Vec<bool>| Bits::new(self.shape, &self.positions, odd).wrong(self.shape.most_errors());
+        self.known.entry(odd).or_insert_with_key(search).as_ref()
+    }
 }
 
 /// The positions on each check.

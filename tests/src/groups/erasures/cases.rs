@@ -10,22 +10,26 @@ use crate::reference::shape::{Refusal, Shape};
 use crate::reference::square::check;
 
 /// Which slice of a call is which.
-pub(super) const PLACES: usize = 0;
-pub(super) const WORD: usize = 1;
-pub(super) const SCRATCH: usize = 2;
+pub const PLACES: usize = 0;
+pub const WORD: usize = 1;
+pub const SCRATCH: usize = 2;
 
 /// With so many places 14 never comes: any two codewords differ in more, at 2n places or above.
-pub(super) fn limit(shape: Shape) -> usize {
+pub fn limit(shape: Shape) -> usize {
     2 * shape.n as usize - 1
 }
 
-/// The scratch is full of old numbers.
-pub(super) fn fill(shape: Shape, places: &[u32], word: &[u32], random: &mut Random) -> Call {
-    Call::new(Entry::Fill, shape, &[places, word, &random.numbers(shape.scratch_len())])
+/// A call of filling in or of restoring. The scratch is full of old numbers.
+pub fn with_places(entry: Entry, shape: Shape, places: &[u32], word: &[u32], random: &mut Random) -> Call {
+    Call::new(entry, shape, &[places, word, &random.numbers(shape.scratch_len())])
+}
+
+pub fn fill(shape: Shape, places: &[u32], word: &[u32], random: &mut Random) -> Call {
+    with_places(Entry::Fill, shape, places, word, random)
 }
 
 /// The word is left as this one; the answer is how many of its symbols came otherwise.
-pub(super) fn filled(call: &Call, word: &[u32]) -> After {
+pub fn filled(call: &Call, word: &[u32]) -> After {
     let mut slices = call.slices.clone();
     let changed = slices[WORD].iter().zip(word).filter(|(came, is)| came != is).count();
     slices[WORD] = word.to_vec();
@@ -34,7 +38,7 @@ pub(super) fn filled(call: &Call, word: &[u32]) -> After {
 }
 
 /// List and word are as lent, and so is the scratch after 1, 18 and 2.
-pub(super) fn refused(call: &Call, refusal: Refusal) -> After {
+pub fn refused(call: &Call, refusal: Refusal) -> After {
     let mut after = turned_down(call, refusal);
     if !matches!(refusal, Refusal::Shape | Refusal::Slope | Refusal::Length) {
         after.slices[SCRATCH].fill(0);
@@ -43,7 +47,7 @@ pub(super) fn refused(call: &Call, refusal: Refusal) -> After {
 }
 
 /// The sent word agrees, so it is filled in or 14; which of the two, the reference says.
-pub(super) fn expect_sent(make: Make, call: &Call, sent: &[u32]) -> Result<(), String> {
+pub fn expect_sent(make: Make, call: &Call, sent: &[u32]) -> Result<(), String> {
     let expected = call.on_reference();
     if expected != filled(call, sent) && expected != refused(call, Refusal::Ambiguous) {
         return Err(format!("{}: neither filled in nor 14", call.text()));
@@ -52,7 +56,7 @@ pub(super) fn expect_sent(make: Make, call: &Call, sent: &[u32]) -> Result<(), S
 }
 
 /// The word with anything at the places: what is right, one number, wrong ones, any.
-pub(super) fn lost(shape: Shape, sent: &[u32], places: &[u32], random: &mut Random) -> Vec<u32> {
+pub fn lost(shape: Shape, sent: &[u32], places: &[u32], random: &mut Random) -> Vec<u32> {
     let mut word = sent.to_vec();
     let (way, same) = (random.below(6), wrong(shape, random));
     for &place in places {
@@ -70,7 +74,7 @@ pub(super) fn lost(shape: Shape, sent: &[u32], places: &[u32], random: &mut Rand
 }
 
 /// The word with nonzero damage at these positions.
-pub(super) fn damaged(shape: Shape, mut word: Vec<u32>, at: &[usize], random: &mut Random) -> Vec<u32> {
+pub fn damaged(shape: Shape, mut word: Vec<u32>, at: &[usize], random: &mut Random) -> Vec<u32> {
     at.iter().for_each(|&j| word[j] ^= wrong(shape, random));
     word
 }
@@ -81,14 +85,14 @@ fn wrong(shape: Shape, random: &mut Random) -> u32 {
     random.pick(&[any, any, 1, 1 << (shape.b - 1)])
 }
 
-pub(super) fn shuffled(shape: Shape, random: &mut Random) -> Vec<usize> {
+pub fn shuffled(shape: Shape, random: &mut Random) -> Vec<usize> {
     let mut positions: Vec<usize> = (0..shape.word_len()).collect();
     random.shuffle(&mut positions);
     positions
 }
 
 /// The first ones, as a list.
-pub(super) fn first(mut positions: Vec<usize>, count: usize) -> Vec<u32> {
+pub fn first(mut positions: Vec<usize>, count: usize) -> Vec<u32> {
     positions.truncate(count);
     list(positions)
 }
@@ -111,7 +115,7 @@ fn crowd(shape: Shape, count: usize, random: &mut Random) -> Vec<usize> {
 }
 
 /// So many places: anywhere, crowded, or with as many as possible on one line.
-pub(super) fn some_places(shape: Shape, count: usize, random: &mut Random) -> [Vec<u32>; 3] {
+pub fn some_places(shape: Shape, count: usize, random: &mut Random) -> [Vec<u32>; 3] {
     let t = random.below(shape.n as usize);
     let line = on_lines(shape, t, &[random.below(shape.q as usize)]);
     let rest = shuffled(shape, random).into_iter().filter(|j| !line.contains(&(*j as u32)));
@@ -120,13 +124,13 @@ pub(super) fn some_places(shape: Shape, count: usize, random: &mut Random) -> [V
 }
 
 /// All places of these lines of a direction.
-pub(super) fn on_lines(shape: Shape, t: usize, lines: &[usize]) -> Vec<u32> {
+pub fn on_lines(shape: Shape, t: usize, lines: &[usize]) -> Vec<u32> {
     let on = |&j: &usize| lines.contains(&(check(shape, t, j) - t * shape.q as usize));
     list((0..shape.word_len()).filter(on).collect())
 }
 
 /// Up to so many positions that are not listed.
-pub(super) fn unlisted(shape: Shape, places: &[u32], count: usize, random: &mut Random) -> Vec<usize> {
+pub fn unlisted(shape: Shape, places: &[u32], count: usize, random: &mut Random) -> Vec<usize> {
     let mut others = shuffled(shape, random);
     others.retain(|j| !places.contains(&(*j as u32)));
     others.truncate(count);
@@ -141,7 +145,7 @@ fn circuit(shape: Shape, among: &[usize]) -> Option<Vec<u32>> {
 }
 
 /// Circuits of every size that a few draws give.
-pub(super) fn some_circuits(shape: Shape, random: &mut Random) -> Vec<Vec<u32>> {
+pub fn some_circuits(shape: Shape, random: &mut Random) -> Vec<Vec<u32>> {
     let mut circuits = vec![];
     for count in [4, 9, 9, 25, 100, 961] {
         circuits.extend(circuit(shape, &crowd(shape, count, random)));
@@ -151,7 +155,7 @@ pub(super) fn some_circuits(shape: Shape, random: &mut Random) -> Vec<Vec<u32>> 
 }
 
 /// An unlisted position whose column is no sum of listed ones: damage there contradicts the list.
-pub(super) fn outside(shape: Shape, places: &[u32], random: &mut Random) -> Option<usize> {
+pub fn outside(shape: Shape, places: &[u32], random: &mut Random) -> Option<usize> {
     let mut basis = Basis::default();
     places.iter().for_each(|&place| {
         basis.take(shape, place as usize);

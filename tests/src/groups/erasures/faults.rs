@@ -1,10 +1,10 @@
-//! Lists, lengths and widths that are turned down, and several faults at once.
+//! Lists, lengths and widths that are turned down, and several faults at once, of filling in and of restoring.
 
 use super::cases::{
-    damaged, fill, filled, first, limit, lost, outside, refused, shuffled, some_circuits, some_places, unlisted,
+    damaged, filled, first, limit, lost, outside, refused, shuffled, some_circuits, some_places, unlisted, with_places,
     PLACES, SCRATCH, WORD,
 };
-use crate::call::{Call, Make};
+use crate::call::{Call, Entry, Make};
 use crate::groups::calls::{choices, old_scratch_len, reshaped, with_length};
 use crate::groups::expect::expect;
 use crate::random::Random;
@@ -47,7 +47,7 @@ fn faulty(shape: Shape, places: &[u32], random: &mut Random) -> Vec<Vec<u32>> {
 }
 
 /// 12, whatever the word.
-pub(super) fn refused_lists(make: Make, shape: Shape, random: &mut Random) -> Verdict {
+pub fn refused_lists(entry: Entry, make: Make, shape: Shape, random: &mut Random) -> Verdict {
     let size = shape.word_len();
     let mut lists: Vec<Vec<u32>> =
         vec![vec![0, 0], vec![1, 0], vec![0; size + 1], (0..=size as u32).collect(), (0..2 * size as u32).collect()];
@@ -59,30 +59,30 @@ pub(super) fn refused_lists(make: Make, shape: Shape, random: &mut Random) -> Ve
     let sent = random.codeword(shape);
     for places in &lists {
         let word = if random.one_in(2) { sent.clone() } else { random.symbols(shape, size) };
-        let call = fill(shape, places, &word, random);
+        let call = with_places(entry, shape, places, &word, random);
         expect(make, &call, &refused(&call, Refusal::Places))?;
     }
     Ok(lists.len() as u64)
 }
 
 /// A word that could be filled in, with at most so many places as the limit says.
-fn fillable(shape: Shape, random: &mut Random) -> (Call, Vec<u32>) {
+fn fillable(entry: Entry, shape: Shape, random: &mut Random) -> (Call, Vec<u32>) {
     let count = random.below(limit(shape) + 1);
     let [places, ..] = some_places(shape, count, random);
     let sent = random.codeword(shape);
     let word = lost(shape, &sent, &places, random);
-    (fill(shape, &places, &word, random), sent)
+    (with_places(entry, shape, &places, &word, random), sent)
 }
 
 /// Word or scratch too short or too long, the scratch as long as before request N7 among them: 2.
-pub(super) fn lengths(make: Make, shape: Shape, random: &mut Random) -> Verdict {
+pub fn lengths(entry: Entry, make: Make, shape: Shape, random: &mut Random) -> Verdict {
     let mut tried = 0;
     let (size, scratch, old) = (shape.word_len(), shape.scratch_len(), old_scratch_len(shape));
     let words = [0, 1, size - 1, size + 1, 2 * size, shape.data_len()].map(|length| (WORD, length));
     let scratches = [0, 1, scratch - 1, scratch + 1, old, old - 1, old + 1, size * shape.row_len(), 2 * scratch];
     let wrong = words.into_iter().chain(scratches.map(|length| (SCRATCH, length)));
     for (slice, length) in wrong.filter(|&(slice, length)| slice == WORD || length != scratch) {
-        let (call, _) = fillable(shape, random);
+        let (call, _) = fillable(entry, shape, random);
         let call = with_length(&call, slice, length, random);
         expect(make, &call, &refused(&call, Refusal::Length))?;
         tried += 1;
@@ -91,11 +91,11 @@ pub(super) fn lengths(make: Make, shape: Shape, random: &mut Random) -> Verdict 
 }
 
 /// The largest symbol is as good as any at a listed place, a larger one is 3 there as elsewhere.
-pub(super) fn widths(make: Make, shape: Shape, random: &mut Random) -> Verdict {
+pub fn widths(entry: Entry, make: Make, shape: Shape, random: &mut Random) -> Verdict {
     let mut tried = 0;
     let size = shape.word_len();
     for _ in 0..6 {
-        let (mut call, sent) = fillable(shape, random);
+        let (mut call, sent) = fillable(entry, shape, random);
         let (places, word) = (call.slices[PLACES].clone(), call.slices[WORD].clone());
         let listed = (!places.is_empty()).then(|| random.pick(&places) as usize);
         if let Some(j) = listed {
@@ -120,30 +120,36 @@ pub(super) fn widths(make: Make, shape: Shape, random: &mut Random) -> Verdict {
     Ok(tried)
 }
 
-/// The tests in their order.
-const ORDER: [Refusal; 7] = [
-    Refusal::Shape,
-    Refusal::Slope,
-    Refusal::Length,
-    Refusal::Width,
-    Refusal::Places,
-    Refusal::Unfillable,
-    Refusal::Ambiguous,
-];
+/// The refusal where no codeword agrees, or none is within reach.
+fn none(entry: Entry) -> Refusal {
+    if entry == Entry::Restore {
+        Refusal::Far
+    } else {
+        Refusal::Unfillable
+    }
+}
 
-/// Every choice of faults: the first in order is the answer.
-pub(super) fn several_faults(make: Make, shape: Shape, random: &mut Random) -> Verdict {
+/// The tests in their order.
+fn order(entry: Entry) -> [Refusal; 7] {
+    let first = [Refusal::Shape, Refusal::Slope, Refusal::Length, Refusal::Width, Refusal::Places];
+    let [shape, slope, length, width, places] = first;
+    [shape, slope, length, width, places, none(entry), Refusal::Ambiguous]
+}
+
+/// Every choice of faults: the first in order is the answer. A circuit without one of its places has 2n - 1 or more, so
+/// restoring too may change nothing beside them.
+pub fn several_faults(entry: Entry, make: Make, shape: Shape, random: &mut Random) -> Verdict {
     let mut tried = 0;
     let circuits = some_circuits(shape, random);
     let outsides: Vec<Option<usize>> = circuits.iter().map(|circuit| outside(shape, circuit, random)).collect();
-    for faults in choices(&ORDER) {
+    for faults in choices(&order(entry)) {
         let i = random.below(circuits.len());
         let lacking = (faults.contains(&Refusal::Width) && shape.b == 32)
-            || (faults.contains(&Refusal::Unfillable) && outsides[i].is_none());
+            || (faults.contains(&none(entry)) && outsides[i].is_none());
         if lacking {
             continue;
         }
-        let (call, sent) = spoiled_call(shape, &circuits[i], outsides[i], &faults, random);
+        let (call, sent) = spoiled_call(entry, shape, &circuits[i], outsides[i], &faults, random);
         let expected = faults.first().map_or_else(|| filled(&call, &sent), |&refusal| refused(&call, refusal));
         expect(make, &call, &expected)?;
         tried += 1;
@@ -153,6 +159,7 @@ pub(super) fn several_faults(make: Make, shape: Shape, random: &mut Random) -> V
 
 /// A call with these faults, made from a circuit and a position outside of it; and the word that was sent.
 fn spoiled_call(
+    entry: Entry,
     shape: Shape,
     circuit: &[u32],
     outside: Option<usize>,
@@ -166,10 +173,10 @@ fn spoiled_call(
     }
     let sent = random.codeword(shape);
     let mut word = lost(shape, &sent, &places, random);
-    if let Some(j) = outside.filter(|_| has(Refusal::Unfillable)) {
+    if let Some(j) = outside.filter(|_| has(none(entry))) {
         word = damaged(shape, word, &[j], random);
     }
-    let mut call = fill(shape, &places, &word, random);
+    let mut call = with_places(entry, shape, &places, &word, random);
     if has(Refusal::Places) {
         let mut lists = faulty(shape, &places, random);
         call.slices[PLACES] = lists.swap_remove(random.below(lists.len()));
