@@ -1,0 +1,15 @@
+pub mod Judging
+pub mod Shapes
+pub mod Words
+pub mod Scratches
+pub mod Pages
+pub mod Readings
+pub mod Fills
+pub mod Sessions
+pub mod Writes
+pub mod Arrivals
+pub mod Rising
+pub mod Bringing
+pub mod Demands
+pub mod Products
+pub mod Contracts

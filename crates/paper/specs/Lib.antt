@@ -1,0 +1,10 @@
+pub mod Answers
+pub mod Square
+pub mod Writing
+pub mod Reading
+pub mod DeadCells
+pub mod Page
+pub mod Session
+pub mod Recording
+pub mod Requests
+pub mod Paper
