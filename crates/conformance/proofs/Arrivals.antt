@@ -298,7 +298,7 @@ module _ (σ : Session) (size : length (σ .taken) ≡ 1024) {way : ℕ} {reader
     arriving : ¬ (2 < way)
         → o ≡ unless (lawful sh) (Bad (shapeRefusal sh)) (unless (consistent σ) (Bad Refusal.Figures) (unless (reader .suits sh) (Bad Refusal.Directions)
         (unless (eqb (length word) (wordLength sh) && eqb (length scratch) (scratchLength sh)) (Bad Refusal.Length) (openWord sh v (readOf reader sh word)))))
-        → paper.Arriving (session-of σ) (record { way = way; word = word; scratch = scratch }) (session-of session′) word′ scratch′ (outcomeValues outcome)
+        → paper.Arriving (session-of σ) (record { way = way; word = word; scratch = scratch }) (record { session = session-of session′; word = word′; scratch = scratch′; answer = outcomeValues outcome })
     unfolding scratchLength keptChecks
     arriving known h =
         inr (
@@ -336,7 +336,7 @@ no-way σ word scratch way l = rw (le-ltb way 3 l)
 
 module _ (σ : Session) (size : length (σ .taken) ≡ 1024) (word scratch : List ℕ) {word′ scratch′ : List ℕ} {r : Arrived} where
   pub arrival : (way : ℕ) → Arriving theWays σ way word scratch word′ scratch′ r
-      → paper.Arriving (session-of σ) (record { way = way; word = word; scratch = scratch }) (session-of (r .session)) word′ scratch′ (outcomeValues (r .outcome))
+      → paper.Arriving (session-of σ) (record { way = way; word = word; scratch = scratch }) (record { session = session-of (r .session); word = word′; scratch = scratch′; answer = outcomeValues (r .outcome) })
   unfolding wayOf isWay presented arrivalStatus opened sessionStatus
   arrival zero x =
       arriving σ size (clean-named (σ .shape)) clean-meant word scratch (r .session) word′ scratch′ (r .outcome) (presented theWays σ 0 word scratch)

@@ -1,8 +1,8 @@
 -- A recording and what an arrival brings are the paper's.
 use mathlib.Core.Path.{_≡_, sym, ap, _∙_, subst}
-use mathlib.Core.Bool.{Bool, true, false}
+use mathlib.Core.Bool.{true}
 use mathlib.Core.List.{List, _∷_}
-use mathlib.Core.Logic.{inl, inr, ⊎-elim}
+use mathlib.Core.Logic.{inl, inr}
 use Prim.Native.Nat.{ℕ, zero, suc, _+_, _<_, _≤_}
 use native.Mathlib.Decide.{decLt}
 use native.Mathlib.Omega.{arith}
@@ -11,13 +11,12 @@ use lib.ListN.{length, getD}
 use lib.Seq.{ext-getD}
 use borrow.Author.Tests.{eq-eqb, lt-ltb, ltb-true, leb-true}
 use Rattle.parity.specs.Xor.{_⊕_}
-use Rattle.parity.proofs.Tests.{either, and-both}
 use Rattle.parity.proofs.Lists.{is-tabulate, length-tabulate}
 use Rattle.paper.specs.Paper as paper
 use Rattle.paper.specs.Reading.{nonzero}
 use Rattle.gtb.specs.declared.Shape.{Shape}
 use Rattle.gtb.specs.declared.Status.the-variants.{Done}
-use Rattle.gtb.specs.Shape.{Lawful, lawful}
+use Rattle.gtb.specs.Shape.{Lawful}
 use Rattle.gtb.specs.Square.{at}
 use Rattle.gtb.proofs.Sizes.{sizes}
 use Rattle.correction.specs.Error.{weight, damaged}
@@ -26,8 +25,8 @@ use Rattle.page.specs.Page.{most, writeStatus, pageSymbols}
 use Rattle.page.proofs.Pages.{page-length}
 use Rattle.session.specs.Arrival.{isWay, wayOf, theWays}
 use Rattle.session.specs.Recording.{Sheet, Arrival, Brings}
-use Rattle.conformance.proofs.Judging.{Decides}
-use Rattle.conformance.proofs.Shapes.{of, decides-slopes, shape-regular, decides-width}
+use Rattle.conformance.proofs.Judging.{passes}
+use Rattle.conformance.proofs.Shapes.{of, decides-width}
 use Rattle.conformance.proofs.Words.{word-digits, digits-word, codeword-stored, stored-codeword}
 use Rattle.conformance.proofs.Scratches.{scratch-length}
 use Rattle.conformance.proofs.Pages.{decides-below, decides-upto, decides-functions, page-digits}
@@ -42,14 +41,7 @@ to-sheet p = record { number = p .number; marks = p .marks }
 abbrev pub to-arrival : paper.Arrival → Arrival
 to-arrival a = record { way = a .way; word = a .word; scratch = a .scratch }
 
-passes : {t : Bool} {Condition : Type 0} → Decides t Condition → ¬ Condition → t ≡ true
-passes {t} d no-condition = ⊎-elim (λ (h : t ≡ true). h) (λ (h : t ≡ false). absurd (no-condition (d .holds h))) (either t)
-
 module _ (s : Shape) where
-  pub shape-lawful : paper.InLists (of s) → ¬ paper.WrongSlopes (of s) → Lawful s
-  unfolding lawful
-  shape-lawful shape right = and-both (shape-regular s shape) (passes (decides-slopes s) right)
-
   -- ---- a page that the writer accepts
   pub accepted-page : Lawful s → (page : ℕ) (marks : List ℕ) → paper.Judged (paper.writable (of s) page marks) (λ k. ⊥) (Unit {0})
       → writeStatus s page marks (pageSymbols s page marks) ≡ Done
@@ -70,7 +62,7 @@ module _ (s : Shape) where
       )
 
   -- ---- the digits of a page are determined
-  page-unique : {page : ℕ} {marks d e : List ℕ} → paper.Page (of s) page marks d → paper.Page (of s) page marks e → d ≡ e
+  pub page-unique : {page : ℕ} {marks d e : List ℕ} → paper.Page (of s) page marks d → paper.Page (of s) page marks e → d ≡ e
   page-unique {page} {marks} {d} {e} x y = ext-getD 0 d e (x .size ∙ sym (y .size)) place
     where
       place : (j : ℕ) → j < length d → getD d j 0 ≡ getD e j 0

@@ -61,7 +61,7 @@ use Rattle.conformance.proofs.Readings.{reading, clean-named, vote-name
 use Rattle.conformance.proofs.Writes.{writing, extraction}
 use Rattle.conformance.proofs.Products.{checking, covering}
 use Rattle.conformance.proofs.Arrivals.{arrival}
-use Rattle.conformance.proofs.Demands.{beginning}
+use Rattle.conformance.proofs.Runs.{beginning}
 use Rattle.conformance.proofs.Fills.{filling}
 use Rattle.conformance.proofs.Sessions.{session-of, counting, billing}
 use Rattle.conformance.proofs.Shapes.{of}
@@ -131,5 +131,5 @@ begins κs a r x h = beginning (a .0) r h
 
 pub arrives : (κs : Lfts 2) (a : ArgsD arrive.signature κs) (r : ResD arrive.signature κs) (x : AtExit (endedOf 2 arrive-kinds.ps arrive-kinds.r) κs)
     → length (a .0 .taken) ≡ 1024 → arrive-reads.Learnt κs a r x
-    → paper.Arriving (session-of (a .0)) (record { way = a .1 .0; word = a .1 .1 .0 .now; scratch = a .1 .1 .1 .0 .now }) (session-of (r .session)) (x .1 .1 .0 .now) (x .1 .1 .1 .0 .now) (outcomeValues (r .outcome))
+    → paper.Arriving (session-of (a .0)) (record { way = a .1 .0; word = a .1 .1 .0 .now; scratch = a .1 .1 .1 .0 .now }) (record { session = session-of (r .session); word = x .1 .1 .0 .now; scratch = x .1 .1 .1 .0 .now; answer = outcomeValues (r .outcome) })
 arrives κs a r x size h = arrival (a .0) size (a .1 .1 .0 .now) (a .1 .1 .1 .0 .now) (a .1 .0) h

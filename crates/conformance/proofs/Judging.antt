@@ -49,10 +49,33 @@ decides-both true true da db = record { holds = λ h. absurd (clash refl h); fai
 decides-both true false da db = record { holds = λ h. inr (db .holds refl); fails = λ h. absurd (clash h refl) }
 decides-both false b da db = record { holds = λ h. inl (da .holds refl); fails = λ h. absurd (clash h refl) }
 
--- ---- the paper leaves no choice: of two outcomes both are refused by the same number, or both accepted
-pub judged-once : (P Q : ℕ → Type 0) (A B : Type 0) (tests : List Test) → Judged tests P A → Judged tests Q B → ((k : ℕ) × P k × Q k) ⊎ (A × B)
-judged-once P Q A B [] a b = inr (a, b)
-judged-once P Q A B (t ∷ tests) (inl (c, p)) (inl (d, q)) = inl (t .0, p, q)
-judged-once P Q A B (t ∷ tests) (inl (c, p)) (inr (fails, y)) = absurd (fails c)
-judged-once P Q A B (t ∷ tests) (inr (fails, x)) (inl (d, q)) = absurd (fails d)
-judged-once P Q A B (t ∷ tests) (inr (fails, x)) (inr (too, y)) = judged-once P Q A B tests x y
+-- a test is passed where its condition does not hold
+pub passes : {t : Bool} {Condition : Type 0} → Decides t Condition → ¬ Condition → t ≡ true
+passes {t} d none = ⊎-elim (λ (h : t ≡ true). h) (λ (h : t ≡ false). absurd (none (d .holds h))) (either t)
+
+pub equal : {a b : ℕ} → ¬ (¬ (a ≡ b)) → a ≡ b
+equal {a} {b} h = eqb-true a b (passes (decides-eqb a b) h)
+
+-- ---- what was judged, of any list of tests
+-- no condition holds
+abbrev pub Passed : List Test → Type 0
+Passed [] = Unit {0}
+Passed (t ∷ tests) = (¬ (t .1)) × Passed tests
+
+pub judged-elim : (tests : List Test) (P : ℕ → Type 0) (A C : Type 0) → ((k : ℕ) → P k → C) → (Passed tests → A → C) → Judged tests P A → C
+judged-elim [] P A C turn pass x = pass tt x
+judged-elim (t ∷ tests) P A C turn pass (inl (c, p)) = turn (t .0) p
+judged-elim (t ∷ tests) P A C turn pass (inr (fails, x)) = judged-elim tests P A C turn (λ passed. pass (fails, passed)) x
+
+pub judged-map : (tests : List Test) (P Q : ℕ → Type 0) (A B : Type 0) → ((k : ℕ) → P k → Q k) → (A → B) → Judged tests P A → Judged tests Q B
+judged-map [] P Q A B turn pass x = pass x
+judged-map (t ∷ tests) P Q A B turn pass (inl (c, p)) = inl (c, turn (t .0) p)
+judged-map (t ∷ tests) P Q A B turn pass (inr (fails, x)) = inr (fails, judged-map tests P Q A B turn pass x)
+
+-- there is no choice: of two outcomes both are refused by the same number, or both accepted
+pub judged-once : (tests : List Test) (P Q : ℕ → Type 0) (A B C : Type 0) → ((k : ℕ) → P k → Q k → C) → (Passed tests → A → B → C) → Judged tests P A → Judged tests Q B → C
+judged-once [] P Q A B C turn pass x y = pass tt x y
+judged-once (t ∷ tests) P Q A B C turn pass (inl (c, p)) (inl (d, q)) = turn (t .0) p q
+judged-once (t ∷ tests) P Q A B C turn pass (inl (c, p)) (inr (fails, y)) = absurd (fails c)
+judged-once (t ∷ tests) P Q A B C turn pass (inr (fails, x)) (inl (d, q)) = absurd (fails d)
+judged-once (t ∷ tests) P Q A B C turn pass (inr (fails, x)) (inr (too, y)) = judged-once tests P Q A B C turn (λ passed. pass (fails, passed)) x y

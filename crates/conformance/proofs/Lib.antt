@@ -10,6 +10,9 @@ pub mod Writes
 pub mod Arrivals
 pub mod Rising
 pub mod Bringing
+pub mod Once
+pub mod Arrived
+pub mod Runs
 pub mod Demands
 pub mod Products
 pub mod Contracts

@@ -15,14 +15,17 @@ use Rattle.parity.proofs.Tests.{either, clash, and-both, and-left, and-right, a
 use Rattle.paper.specs.Paper as paper
 use Rattle.gtb.specs.declared.Shape.{Shape}
 use Rattle.gtb.specs.declared.Refusal.{Refusal}
-use Rattle.gtb.specs.Shape.{orders, isOrder, regular, fitsSlope, sloped, lawful, shapeRefusal}
+use Rattle.gtb.specs.Shape.{orders, isOrder, regular, fitsSlope, sloped, lawful, shapeRefusal, Lawful}
 use Rattle.gtb.specs.Square.{narrow, at}
 use Rattle.gtb.specs.Answer.{unless}
-use Rattle.conformance.proofs.Judging.{Decides, test, all-fails}
+use Rattle.conformance.proofs.Judging.{Decides, passes, all-fails}
 
 -- our shape as the paper's
 abbrev pub of : Shape → paper.Shape
 of s = record { q = s .q; n = s .n; b = s .b; slopes = s .slopes }
+
+abbrev pub to : paper.Shape → Shape
+to s = record { q = s .q; n = s .n; b = s .b; slopes = s .slopes }
 
 -- ---- test 1
 both : (x y : Bool) → (x && y) ≡ true → (x ≡ true) × (y ≡ true)
@@ -90,6 +93,10 @@ module _ (s : Shape) where
     holds = λ no. let (t, lt, f) = all-fails (s .n - 1) (fitsSlope (s .q) (s .slopes)) no in unfit-slope t lt f;
     fails = sloped-right;
   }
+
+  pub lawful-of : ¬ (¬ paper.InLists (of s)) → ¬ paper.WrongSlopes (of s) → Lawful s
+  unfolding lawful
+  lawful-of listed right = and-both (passes decides-shape listed) (passes decides-slopes right)
 
   -- both, as every entry begins with them
   pub shape-tests : {A Refused₁ Refused₁₈ Next : Type 0} (refuse : Refusal → A) (next : A) {r : A} → (r ≡ refuse Refusal.Shape → Refused₁) → (r ≡ refuse Refusal.Slope → Refused₁₈)

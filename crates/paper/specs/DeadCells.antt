@@ -18,16 +18,19 @@ pub record Agrees (s : Shape) (word places v : List ℕ) : Type 0 where
   pub stored : Stored s v
   pub same : (j : ℕ) → j < N s → ¬ (j ∈ places) → at v j ≡ at word j
 
-abbrev pub Filling : Shape → List ℕ → List ℕ → List ℕ → List ℕ → List ℕ → ℕ → Type 0
-Filling s word places scratch word′ scratch′ answer =
-    Judged
-    ((1, ¬ InLists s)
+abbrev pub fillTests : Shape → List ℕ → List ℕ → List ℕ → List Test
+fillTests s word places scratch =
+    (1, ¬ InLists s)
     ∷ (18, WrongSlopes s)
     ∷ (2, (length word ≢ N s) ⊎ (length scratch ≢ scratchLength s))
     ∷ (3, Wide s word)
     ∷ (12, WrongPlaces s places)
     ∷ (13, (v : List ℕ) → ¬ Agrees s word places v)
     ∷ (14, (v w : List ℕ) × Agrees s word places v × Agrees s word places w × (v ≢ w))
-    ∷ [])
+    ∷ []
+
+abbrev pub Filling : Shape → List ℕ → List ℕ → List ℕ → List ℕ → List ℕ → ℕ → Type 0
+Filling s word places scratch word′ scratch′ answer =
+    Judged (fillTests s word places scratch)
     (λ k. (answer ≡ refusal k) × (word′ ≡ word) × (scratch′ ≡ scratchLeft k scratch))
     (Agrees s word places word′ × (answer ≡ changed s word word′) × (scratch′ ≡ zeros scratch))

@@ -1,7 +1,7 @@
 -- The page in the data digits (RULES 4).
 use mathlib.Core.Path.{_≡_}
 use mathlib.Core.List.{List, [], _∷_}
-use mathlib.Core.Logic.{_⊎_, _≢_}
+use mathlib.Core.Logic.{_≢_}
 use Prim.Native.Nat.{ℕ, _+_, _-_, _*_, _<_, _≤_}
 use lib.ListN.{length, take, drop}
 use Rattle.paper.specs.Answers.{Test, Judged, refusal, at}
@@ -48,12 +48,11 @@ pub record Page (s : Shape) (page : ℕ) (marks digits : List ℕ) : Type 0 wher
 abbrev pub writable : Shape → ℕ → List ℕ → List Test
 writable s page marks = (5, 1024 ≤ page) ∷ (6, K s - 2 < length marks) ∷ (7, NoFunction marks) ∷ (3, Wide s (page ∷ length marks ∷ marks)) ∷ []
 
+abbrev pub pageWriteTests : Shape → ℕ → List ℕ → List ℕ → List Test
+pageWriteTests s page marks digits = (1, ¬ InLists s) ∷ (18, WrongSlopes s) ∷ (2, length digits ≢ K s) ∷ writable s page marks
+
 abbrev pub PageWriting : Shape → ℕ → List ℕ → List ℕ → List ℕ → ℕ → Type 0
 PageWriting s page marks digits digits′ answer =
-    Judged
-    ((1, ¬ InLists s)
-    ∷ (18, WrongSlopes s)
-    ∷ (2, length digits ≢ K s)
-    ∷ writable s page marks)
+    Judged (pageWriteTests s page marks digits)
     (λ k. (answer ≡ refusal k) × (digits′ ≡ digits))
     ((answer ≡ 0) × Page s page marks digits′)

@@ -54,16 +54,19 @@ unread (suc (suc way)) = 17
 abbrev pub TooFew : Shape → ℕ → Type 0
 TooFew s way = (way ≡ 2) × (s .n ≡ 2)
 
-abbrev pub Reading : Shape → ℕ → List ℕ → List ℕ → ℕ → Type 0
-Reading s way word word′ answer =
-    Judged
-    ((1, ¬ InLists s)
+abbrev pub readTests : Shape → ℕ → List ℕ → List Test
+readTests s way word =
+    (1, ¬ InLists s)
     ∷ (18, WrongSlopes s)
     ∷ (16, TooFew s way)
     ∷ (2, length word ≢ N s)
     ∷ (3, Wide s word)
     ∷ (unread way, (v : List ℕ) → ¬ Read s way word v)
-    ∷ [])
+    ∷ []
+
+abbrev pub Reading : Shape → ℕ → List ℕ → List ℕ → ℕ → Type 0
+Reading s way word word′ answer =
+    Judged (readTests s way word)
     (λ k. (answer ≡ refusal k) × (word′ ≡ word))
     (Read s way word word′ × (answer ≡ changed s word word′))
 
@@ -77,13 +80,16 @@ pub record Voted (s : Shape) (word word′ : List ℕ) : Type 0 where
   pub kept : (j : ℕ) → j < N s → ((x : ℕ) → x ≢ 0 → 2 * votes s word j x ≤ s .n) → at word′ j ≡ at word j
 
 -- a proposal for a received word: 1 yes, 0 no (N10)
-abbrev pub Checking : Shape → List ℕ → List ℕ → ℕ → Type 0
-Checking s word proposal answer =
-    Judged
-    ((1, ¬ InLists s)
+abbrev pub checkTests : Shape → List ℕ → List ℕ → List Test
+checkTests s word proposal =
+    (1, ¬ InLists s)
     ∷ (18, WrongSlopes s)
     ∷ (2, (length word ≢ N s) ⊎ (length proposal ≢ N s))
     ∷ (3, Wide s word ⊎ Wide s proposal)
-    ∷ [])
+    ∷ []
+
+abbrev pub Checking : Shape → List ℕ → List ℕ → ℕ → Type 0
+Checking s word proposal answer =
+    Judged (checkTests s word proposal)
     (λ k. answer ≡ refusal k)
     ((Explained s word proposal × (answer ≡ 1)) ⊎ ((¬ Explained s word proposal) × (answer ≡ 0)))

@@ -19,28 +19,31 @@ pub record RoundedUp (thousandths picojoules : ℕ) : Type 0 where
   pub enough : thousandths ≤ 1000 * picojoules
   pub least : 1000 * picojoules < thousandths + 1000
 
--- a bill is below 2^63, so a refusal stands above it
-abbrev pub Billing : Session → List ℕ → ℕ → Type 0
-Billing session prices answer =
-    Judged
-    ((1, ¬ InLists (session .shape))
+abbrev pub billTests : Session → List ℕ → List Test
+billTests session prices =
+    (1, ¬ InLists (session .shape))
     ∷ (18, WrongSlopes (session .shape))
     ∷ (11, WrongFigures session)
     ∷ (2, length prices ≢ 256)
     ∷ (19, 2 ^ 64 - 1 < cost session prices)
-    ∷ [])
-    (λ k. answer ≡ 2 ^ 63 + k)
-    (RoundedUp (cost session prices) answer)
+    ∷ []
+
+-- a bill is below 2^63, so a refusal stands above it
+abbrev pub Billing : Session → List ℕ → ℕ → Type 0
+Billing session prices answer = Judged (billTests session prices) (λ k. answer ≡ 2 ^ 63 + k) (RoundedUp (cost session prices) answer)
+
+abbrev pub coverTests : Session → List ℕ → List Test
+coverTests session bytes =
+    (1, ¬ InLists (session .shape))
+    ∷ (18, WrongSlopes (session .shape))
+    ∷ (11, WrongFigures session)
+    ∷ (2, length bytes ≢ 256)
+    ∷ []
 
 -- a byte for each function, 1 where it was called and else 0; the answer is how many are 1 (N13)
 abbrev pub Covering : Session → List ℕ → List ℕ → ℕ → Type 0
 Covering session bytes bytes′ answer =
-    Judged
-    ((1, ¬ InLists (session .shape))
-    ∷ (18, WrongSlopes (session .shape))
-    ∷ (11, WrongFigures session)
-    ∷ (2, length bytes ≢ 256)
-    ∷ [])
+    Judged (coverTests session bytes)
     (λ k. (answer ≡ refusal k) × (bytes′ ≡ bytes))
     ((length bytes′ ≡ 256)
     × ((f : ℕ) → f < 256 → ((0 < at (session .calls) f) × (at bytes′ f ≡ 1)) ⊎ ((at (session .calls) f ≡ 0) × (at bytes′ f ≡ 0)))

@@ -21,12 +21,6 @@ pub record Session : Type 0 where
   pub pages : ℕ
   pub lowest : ℕ
 
--- what is handed in beside the session
-pub record Arrival : Type 0 where
-  pub way : ℕ
-  pub word : List ℕ
-  pub scratch : List ℕ
-
 -- the page number is marked yes
 abbrev pub isYes : Session → ℕ → Bool
 isYes session page = getD (session .taken) page false
@@ -45,20 +39,23 @@ WrongFigures session = (session .pages ≢ count 1024 (isYes session)) ⊎ (¬ L
 abbrev pub fresh : Shape → Session
 fresh s = record { shape = s; taken = replicate 1024 false; calls = replicate 256 0; pages = 0; lowest = 0 }
 
-abbrev pub Beginning : Shape → Session → ℕ → Type 0
-Beginning s session answer = Judged ((1, ¬ InLists s) ∷ (18, WrongSlopes s) ∷ []) (λ k. answer ≡ refusal k) ((answer ≡ 0) × (session ≡ fresh s))
+abbrev pub freshTests : Shape → List Test
+freshTests s = (1, ¬ InLists s) ∷ (18, WrongSlopes s) ∷ []
 
--- a count may fill 32 bits, so a refusal stands above them
-abbrev pub Counting : Session → ℕ → ℕ → Type 0
-Counting session function answer =
-    Judged
-    ((1, ¬ InLists (session .shape))
+abbrev pub Beginning : Shape → Session → ℕ → Type 0
+Beginning s session answer = Judged (freshTests s) (λ k. answer ≡ refusal k) ((answer ≡ 0) × (session ≡ fresh s))
+
+abbrev pub countTests : Session → ℕ → List Test
+countTests session function =
+    (1, ¬ InLists (session .shape))
     ∷ (18, WrongSlopes (session .shape))
     ∷ (11, WrongFigures session)
     ∷ (7, 255 < function)
-    ∷ [])
-    (λ k. answer ≡ 2 ^ 32 + k)
-    (answer ≡ at (session .calls) function)
+    ∷ []
+
+-- a count may fill 32 bits, so a refusal stands above them
+abbrev pub Counting : Session → ℕ → ℕ → Type 0
+Counting session function answer = Judged (countTests session function) (λ k. answer ≡ 2 ^ 32 + k) (answer ≡ at (session .calls) function)
 
 -- how many marks add to the count of function f: mark 0 adds to none (N5)
 unfoldable pub marksFor : ℕ → List ℕ → ℕ
@@ -76,7 +73,22 @@ pub record Recorded (session : Session) (page : ℕ) (marks : List ℕ) (session
   pub size : (length (session′ .taken) ≡ 1024) × (length (session′ .calls) ≡ 256)
   pub figures : ¬ WrongFigures session′
 
--- the tests of a word that arrives: which way, which lengths, width, and whether it can be read
+-- ---- an arrival
+
+-- what the caller hands in beside the session
+pub record Arrival : Type 0 where
+  pub way : ℕ
+  pub word : List ℕ
+  pub scratch : List ℕ
+
+-- what the caller has afterwards; the answer is 0 taken, 1 again, 2 refused, then page or refusal number, then digits changed
+pub record Arrived : Type 0 where
+  pub session : Session
+  pub word : List ℕ
+  pub scratch : List ℕ
+  pub answer : List ℕ
+
+-- on the word: whether its way serves the shape, the lengths, the width, and whether it can be read
 abbrev pub wordTests : Shape → Arrival → List Test
 wordTests s a =
     (16, TooFew s (a .way))
@@ -85,15 +97,28 @@ wordTests s a =
     ∷ (unread (a .way), (v : List ℕ) → ¬ Read s (a .way) (a .word) v)
     ∷ []
 
--- three values: 0 taken, 1 again, 2 refused; page or refusal number; digits changed. A number that names no way is 1 (N4)
-abbrev pub Arriving : Session → Arrival → Session → List ℕ → List ℕ → List ℕ → Type 0
-Arriving session a session′ word′ scratch′ answer =
-    let s : Shape = session .shape in
-    let refused : ℕ → Type 0 = λ k. (answer ≡ 2 ∷ k ∷ 0 ∷ []) × (session′ ≡ session) × (word′ ≡ a .word) × (scratch′ ≡ scratchLeft k (a .scratch)) in
-    let accepted : ℕ → List ℕ → List ℕ → Type 0 = λ outcome v digits.
-    (answer ≡ outcome ∷ at digits 0 ∷ changed s (a .word) v ∷ []) × (word′ ≡ v) × (scratch′ ≡ zeros (a .scratch)) in
-    Judged ((1, 2 < a .way) ∷ (1, ¬ InLists s) ∷ (18, WrongSlopes s) ∷ (11, WrongFigures session) ∷ wordTests s a) refused
-    ((v digits : List ℕ) × Read s (a .way) (a .word) v × DataDigits s v digits × Judged (contents s digits) refused
-    (((isYes session (at digits 0) ≡ true) × (session′ ≡ session) × accepted 1 v digits)
-    ⊎ ((isYes session (at digits 0) ≡ false) × Judged ((9, Worn session (marksIn digits)) ∷ []) refused
-    (Recorded session (at digits 0) (marksIn digits) session′ × accepted 0 v digits))))
+-- a number that names no way is 1, before all else (N4)
+abbrev pub arrivalTests : Session → Arrival → List Test
+arrivalTests session a =
+    (1, 2 < a .way) ∷ (1, ¬ InLists (session .shape)) ∷ (18, WrongSlopes (session .shape)) ∷ (11, WrongFigures session) ∷ wordTests (session .shape) a
+
+-- a refusal changes nothing but the scratch
+abbrev pub Refusing : Session → Arrival → Arrived → ℕ → Type 0
+Refusing session a r k = (r .answer ≡ 2 ∷ k ∷ 0 ∷ []) × (r .session ≡ session) × (r .word ≡ a .word) × (r .scratch ≡ scratchLeft k (a .scratch))
+
+-- the word stands corrected
+abbrev pub Accepting : ℕ → Shape → Arrival → List ℕ → List ℕ → Arrived → Type 0
+Accepting outcome s a v digits r = (r .answer ≡ outcome ∷ at digits 0 ∷ changed s (a .word) v ∷ []) × (r .word ≡ v) × (r .scratch ≡ zeros (a .scratch))
+
+-- the page in the data digits of the word v that was read: again comes before 9
+abbrev pub Settling : Session → Arrival → List ℕ → List ℕ → Arrived → Type 0
+Settling session a v digits r =
+    Judged (contents (session .shape) digits) (Refusing session a r)
+    (((isYes session (at digits 0) ≡ true) × (r .session ≡ session) × Accepting 1 (session .shape) a v digits r)
+    ⊎ ((isYes session (at digits 0) ≡ false) × Judged ((9, Worn session (marksIn digits)) ∷ []) (Refusing session a r)
+    (Recorded session (at digits 0) (marksIn digits) (r .session) × Accepting 0 (session .shape) a v digits r)))
+
+abbrev pub Arriving : Session → Arrival → Arrived → Type 0
+Arriving session a r =
+    Judged (arrivalTests session a) (Refusing session a r)
+    ((v digits : List ℕ) × Read (session .shape) (a .way) (a .word) v × DataDigits (session .shape) v digits × Settling session a v digits r)

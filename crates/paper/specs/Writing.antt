@@ -41,25 +41,24 @@ scratchLength s = (s .n * s .q - s .n + 1) * ((N s + 31) / 32)
 unfoldable pub scratchLeft : ℕ → List ℕ → List ℕ
 scratchLeft k scratch = cond (eqb k 1 || eqb k 18 || eqb k 11 || eqb k 16 || eqb k 2) scratch (zeros scratch)
 
-abbrev pub Writing : Shape → List ℕ → List ℕ → List ℕ → List ℕ → List ℕ → ℕ → Type 0
-Writing s digits scratch word scratch′ word′ answer =
-    Judged
-    ((1, ¬ InLists s)
+-- the tests of both entries; 3 is about the digits that come in
+abbrev pub writeTests : Shape → List ℕ → List ℕ → List ℕ → List ℕ → List Test
+writeTests s digits scratch word incoming =
+    (1, ¬ InLists s)
     ∷ (18, WrongSlopes s)
     ∷ (2, ((length digits ≢ K s) ⊎ (length scratch ≢ scratchLength s)) ⊎ (length word ≢ N s))
-    ∷ (3, Wide s digits)
-    ∷ [])
+    ∷ (3, Wide s incoming)
+    ∷ []
+
+abbrev pub Writing : Shape → List ℕ → List ℕ → List ℕ → List ℕ → List ℕ → ℕ → Type 0
+Writing s digits scratch word scratch′ word′ answer =
+    Judged (writeTests s digits scratch word digits)
     (λ k. (answer ≡ refusal k) × (word′ ≡ word) × (scratch′ ≡ scratchLeft k scratch))
     ((answer ≡ 0) × Stored s word′ × DataDigits s word′ digits × (scratch′ ≡ zeros scratch))
 
 -- stored word or not
 abbrev pub Extraction : Shape → List ℕ → List ℕ → List ℕ → List ℕ → List ℕ → ℕ → Type 0
 Extraction s word scratch digits scratch′ digits′ answer =
-    Judged
-    ((1, ¬ InLists s)
-    ∷ (18, WrongSlopes s)
-    ∷ (2, ((length digits ≢ K s) ⊎ (length scratch ≢ scratchLength s)) ⊎ (length word ≢ N s))
-    ∷ (3, Wide s word)
-    ∷ [])
+    Judged (writeTests s digits scratch word word)
     (λ k. (answer ≡ refusal k) × (digits′ ≡ digits) × (scratch′ ≡ scratchLeft k scratch))
     ((answer ≡ 0) × DataDigits s word digits′ × (scratch′ ≡ zeros scratch))
