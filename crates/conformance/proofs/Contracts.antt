@@ -44,6 +44,15 @@ use Rattle.majority.proofs.decode_majority.Reads as by-vote-reads
 use Rattle.double.proofs.decode_two as by-two
 use Rattle.double.proofs.decode_two.Kinds as by-two-kinds
 use Rattle.double.proofs.decode_two.Reads as by-two-reads
+use Rattle.nearest.proofs.decode_nearest as by-nearest
+use Rattle.nearest.proofs.decode_nearest.Kinds as by-nearest-kinds
+use Rattle.nearest.proofs.decode_nearest.Reads as by-nearest-reads
+use Rattle.restore.proofs.restore as restore
+use Rattle.restore.proofs.restore.Kinds as restore-kinds
+use Rattle.restore.proofs.restore.Reads as restore-reads
+use Rattle.decoder.proofs.looked as looked
+use Rattle.decoder.proofs.looked.Kinds as looked-kinds
+use Rattle.decoder.proofs.looked.Reads as looked-reads
 use Rattle.verify.proofs.check as check
 use Rattle.verify.proofs.check.Kinds as check-kinds
 use Rattle.verify.proofs.check.Reads as check-reads
@@ -63,6 +72,8 @@ use Rattle.conformance.proofs.Products.{checking, covering}
 use Rattle.conformance.proofs.Arrivals.{arrival}
 use Rattle.conformance.proofs.Runs.{beginning}
 use Rattle.conformance.proofs.Fills.{filling}
+use Rattle.conformance.proofs.Beyond.{nearest-reading, restoring}
+use Rattle.conformance.proofs.Looks.{looking}
 use Rattle.conformance.proofs.Sessions.{session-of, counting, billing}
 use Rattle.conformance.proofs.Shapes.{of}
 
@@ -113,6 +124,19 @@ pub reads-two : (κs : Lfts 1) (a : ArgsD by-two.signature κs) (r : ResD by-two
     → by-two-reads.Learnt κs a r x
     → paper.Reading (of (a .0)) 2 (a .1 .0 .now) (x .1 .0 .now) (decodedNumber r)
 reads-two κs a r x h = reading (two-named (a .0)) h
+
+pub reads-nearest : (κs : Lfts 1) (a : ArgsD by-nearest.signature κs) (r : ResD by-nearest.signature κs) (x : AtExit (endedOf 1 by-nearest-kinds.ps by-nearest-kinds.r) κs)
+    → by-nearest-reads.Learnt κs a r x → paper.Nearest (of (a .0)) (a .1 .0 .now) (x .1 .0 .now) (decodedNumber r)
+reads-nearest κs a r x h = nearest-reading h
+
+pub restores : (κs : Lfts 3) (a : ArgsD restore.signature κs) (r : ResD restore.signature κs) (x : AtExit (endedOf 3 restore-kinds.ps restore-kinds.r) κs)
+    → restore-reads.Learnt κs a r x
+    → paper.Restoring (of (a .0)) (a .1 .0 .now) (a .1 .1 .0 .now) (a .1 .1 .1 .0 .now) (x .1 .0 .now) (x .1 .1 .1 .0 .now) (decodedNumber r)
+restores κs a r x h = restoring (a .0) h
+
+pub looks : (κs : Lfts 2) (a : ArgsD looked.signature κs) (r : ResD looked.signature κs) (x : AtExit (endedOf 2 looked-kinds.ps looked-kinds.r) κs)
+    → looked-reads.Learnt κs a r x → paper.Looking (of (a .0)) (a .1 .0 .now) (a .1 .1 .0 .now) (x .1 .1 .0 .now) (statusNumber r)
+looks κs a r x h = looking (a .0) (a .1 .0 .now) h
 
 pub checks : (κs : Lfts 2) (a : ArgsD check.signature κs) (r : ResD check.signature κs) (x : AtExit (endedOf 2 check-kinds.ps check-kinds.r) κs)
     → check-reads.Learnt κs a r x

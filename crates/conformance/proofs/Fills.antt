@@ -1,8 +1,8 @@
 -- Filling in dead cells does what the paper asks.
 use mathlib.Core.Path.{_≡_, refl, sym, ap, _∙_}
 use mathlib.Core.Bool.{true, false, _&&_}
-use mathlib.Core.List.{List}
-use mathlib.Core.Logic.{inl, inr, ⊎-elim}
+use mathlib.Core.List.{List, [], _∷_}
+use mathlib.Core.Logic.{_⊎_, inl, inr, ⊎-elim, _≢_}
 use Prim.Native.Nat.{ℕ, zero, suc, _+_, _^_, _<_, _≤_}
 use native.Mathlib.Nat.{not-suc-le-zero, eq-or-lt-of-le, le-of-suc-le-suc, lt-suc-self}
 use native.Mathlib.Decide.{decLt}
@@ -86,18 +86,35 @@ module _ (s : Shape) where
   paper-agrees : {word places v : List ℕ} → paper.Agrees (of s) word places v → Agrees s word places v
   paper-agrees {places = places} a = record { codeword = stored-codeword s (a .stored); same = λ j l no. a .same j l (λ yes. clash (in-listed places j yes) no) }
 
+  -- ---- tests 1, 18, 2, 3 and 12, as every entry with places begins
+  pub place-tests : (word places scratch : List ℕ) (Refused : ℕ → Type 0) (Next : Type 0) → ((e : Refusal) → fillStatus s word places scratch ≡ status.Refused e → Refused (refusalNumber e))
+      → (fillStatus s word places scratch ≡ status.Done → Next)
+      → paper.Judged
+      ((1, ¬ paper.InLists (of s))
+      ∷ (18, paper.WrongSlopes (of s))
+      ∷ (2, (length word ≢ paper.N (of s)) ⊎ (length scratch ≢ paper.scratchLength (of s)))
+      ∷ (3, paper.Wide (of s) word)
+      ∷ (12, paper.WrongPlaces (of s) places)
+      ∷ [])
+      Refused Next
+  unfolding fillStatus scratchLength keptChecks
+  place-tests word places scratch Refused Next turn pass =
+      shape-tests s status.Refused _ (turn Refusal.Shape) (turn Refusal.Slope) (λ _.
+      test (eqb (length word) (wordLength s) && eqb (length scratch) (scratchLength s)) _ _ (decides-both _ _ (decides-eqb _ _) (decides-eqb _ _)) (turn Refusal.Length) (λ _.
+      test (narrow (s .b) word) _ _ (decides-width s word) (turn Refusal.Width) (λ _.
+      test (rising (wordLength s) places) _ _ (decides-places places) (turn Refusal.Places) (λ _. pass))))
+      refl
+
   module _ {word places scratch word′ scratch′ : List ℕ} {r : Decoded} (f : Filling s word places scratch word′ scratch′ r) where
     turn : (e : Refusal) → fillStatus s word places scratch ≡ status.Refused e
         → (decodedNumber r ≡ 2 ^ 31 + refusalNumber e) × (word′ ≡ word) × (scratch′ ≡ scratchLeft (refusalNumber e) scratch)
     turn e h = let (answer, number, left, used) = f .tested e h in (number, left, used ∙ scratch-same s e scratch)
 
     pub filling : paper.Filling (of s) word places scratch word′ scratch′ (decodedNumber r)
-    unfolding fillStatus scratchLength keptChecks scratchLeft
+    unfolding scratchLeft
     filling =
-        shape-tests s status.Refused _ (turn Refusal.Shape) (turn Refusal.Slope) (λ _.
-        test (eqb (length word) (wordLength s) && eqb (length scratch) (scratchLength s)) _ _ (decides-both _ _ (decides-eqb _ _) (decides-eqb _ _)) (turn Refusal.Length) (λ _.
-        test (narrow (s .b) word) _ _ (decides-width s word) (turn Refusal.Width) (λ _.
-        test (rising (wordLength s) places) _ _ (decides-places places) (turn Refusal.Places) (λ _ h.
+        place-tests word places scratch (λ k. (decodedNumber r ≡ paper.refusal k) × (word′ ≡ word) × (scratch′ ≡ scratchLeft k scratch)) _ turn
+        (λ h.
         let (decision, used) = f .decided h in
         ⊎-elim
         (λ one. inr (
@@ -111,5 +128,4 @@ module _ (s : Shape) where
           inl
               ((several .one, several .another, agrees-paper (several .agrees), agrees-paper (several .agreesToo), several .different), (several .number, several .left, used)),
         )))
-        decision))))
-        refl
+        decision)

@@ -15,4 +15,6 @@ pub mod Arrived
 pub mod Runs
 pub mod Demands
 pub mod Products
+pub mod Beyond
+pub mod Looks
 pub mod Contracts

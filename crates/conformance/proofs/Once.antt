@@ -28,7 +28,7 @@ use Rattle.conformance.proofs.Rising.{data-digits}
 use Rattle.conformance.proofs.Bringing.{page-unique}
 
 -- ---- lists
-alike : (xs ys : List ℕ) → length xs ≡ length ys → ¬ (xs ≢ ys) → xs ≡ ys
+pub alike : (xs ys : List ℕ) → length xs ≡ length ys → ¬ (xs ≢ ys) → xs ≡ ys
 alike xs ys size h = ext-getD 0 xs ys size (λ j l. equal (λ other. h (λ same. other (ap (λ (zs : List ℕ). getD zs j 0) same))))
 
 -- ---- what is read
@@ -98,7 +98,7 @@ module _ (s : paper.Shape) where
         (digits-once (to s) (lawful-of (to s) listed right) (x .1) (y .1), x .2 ∙ sym (y .2), x .0 ∙ sym (y .0)))
 
   -- ---- reading, and checking what was restored
-  same-changed : (word : List ℕ) {w v : List ℕ} {r t : ℕ} → w ≡ v → r ≡ paper.changed s word w → t ≡ paper.changed s word v → r ≡ t
+  pub same-changed : (word : List ℕ) {w v : List ℕ} {r t : ℕ} → w ≡ v → r ≡ paper.changed s word w → t ≡ paper.changed s word v → r ≡ t
   same-changed word e x y = x ∙ ap (paper.changed s word) e ∙ sym y
 
   pub reading-once : (way : ℕ) → ¬ (2 < way) → (word : List ℕ) {w v : List ℕ} {r t : ℕ} → paper.Reading s way word w r → paper.Reading s way word v t → (w ≡ v) × (r ≡ t)

@@ -111,10 +111,10 @@ module _ (s : Shape) where
         fails = λ h two. let many = leb-true 3 (s .n) h in let few : s .n ≡ 2 = two .1 in omega arith;
       }
 
-  near-within : {l k : ℕ} {w v : List ℕ} → Near s l w v k → paper.Within (of s) l w v
+  pub near-within : {l k : ℕ} {w v : List ℕ} → Near s l w v k → paper.Within (of s) l w v
   near-within {w = w} {v = v} x = record { stored = codeword-stored s (x .codeword); few = omega (arith, changed-same s w v, x .changed, x .few) }
 
-  within-near : {l : ℕ} {w v : List ℕ} → Word s w → paper.Within (of s) l w v → (k : ℕ) × Near s l w v k
+  pub within-near : {l : ℕ} {w v : List ℕ} → Word s w → paper.Within (of s) l w v → (k : ℕ) × Near s l w v k
   within-near {w = w} {v = v} hw x = (_, record { word = hw; codeword = stored-codeword s (x .stored); changed = changed-same s w v; few = x .few })
 
   pub clean-named : Named 0 clean Explains s

@@ -7,4 +7,5 @@ pub mod Page
 pub mod Session
 pub mod Recording
 pub mod Requests
+pub mod Beyond
 pub mod Paper

@@ -1,4 +1,4 @@
--- Reading a damaged word (RULES 3, 3.2, 3.3) and checking what somebody else restored (RULES 3.4).
+-- Reading a damaged word (RULES 3, 3.2, 3.3), how many checks that looks at (N3), and checking what somebody else restored (RULES 3.4).
 use mathlib.Core.Path.{_≡_}
 use mathlib.Core.Bool.{not}
 use mathlib.Core.List.{List, [], _∷_}
@@ -78,6 +78,27 @@ votes s word j x = count (s .n) (λ t. eqb (value s word t (line s t j)) x)
 pub record Voted (s : Shape) (word word′ : List ℕ) : Type 0 where
   pub moved : (j x : ℕ) → j < N s → x ≢ 0 → s .n < 2 * votes s word j x → at word′ j ≡ at word j ⊕ x
   pub kept : (j : ℕ) → j < N s → ((x : ℕ) → x ≢ 0 → 2 * votes s word j x ≤ s .n) → at word′ j ≡ at word j
+
+-- of digit j so many checks are looked at, in rising direction: up to and with the first silent one, or all n (N3)
+pub record Looked (s : Shape) (word : List ℕ) (j number : ℕ) : Type 0 where
+  pub some : (1 ≤ number) × (number ≤ s .n)
+  pub loud : (t : ℕ) → suc t < number → value s word t (line s t j) ≢ 0
+  pub silent : number < s .n → value s word (number - 1) (line s (number - 1) j) ≡ 0
+
+abbrev pub lookTests : Shape → List ℕ → List ℕ → List Test
+lookTests s word list =
+    (1, ¬ InLists s)
+    ∷ (18, WrongSlopes s)
+    ∷ (2, (length word ≢ N s) ⊎ (length list ≢ N s))
+    ∷ (3, Wide s word)
+    ∷ []
+
+-- a number for each digit, whether or not the word can be read
+abbrev pub Looking : Shape → List ℕ → List ℕ → List ℕ → ℕ → Type 0
+Looking s word list list′ answer =
+    Judged (lookTests s word list)
+    (λ k. (answer ≡ refusal k) × (list′ ≡ list))
+    ((answer ≡ 0) × (length list′ ≡ N s) × ((j : ℕ) → j < N s → Looked s word j (at list′ j)))
 
 -- a proposal for a received word: 1 yes, 0 no (N10)
 abbrev pub checkTests : Shape → List ℕ → List ℕ → List Test
