@@ -1,78 +1,104 @@
 -- The run word by word: what holds after m words, and one word more.
-use mathlib.Core.Path.{_≡_, refl, sym, ap, ap₂, _∙_, subst}
-use mathlib.Core.Bool.{Bool}
+use mathlib.Core.Path.{_≡_, refl, sym, ap, ap₂, _∙_, subst, subst₂}
+use mathlib.Core.Bool.{Bool, true, false}
 use mathlib.Core.List.{List, [], _∷_, _++_}
 use mathlib.Core.Logic.{⊎-elim}
 use Prim.Native.Nat.{ℕ, _+_, _-_, _*_, _<_, _≤_}
 use native.Mathlib.Nat.{eq-or-lt-of-le, le-of-suc-le-suc, le-of-lt, not-suc-le-zero, suc-mul}
 use native.Mathlib.Numerals.{add-one}
 use native.Mathlib.Omega.{arith}
-use lib.ListN.{length, take, drop, replicate, length-append, length-drop, take-append-drop, List·getD-append}
+use lib.ListN.{length, getD, take, drop, replicate, length-append, length-drop, take-append-drop, List·getD-append}
 use lib.Seq.{length-take-le, take-at, drop-at, drop-drop, getD-at}
-use borrow.Rule.Slice.PartMut.{midOf, putMid, mid-len, same-len-mid}
+use borrow.Rule.Slice.PartMut.{midOf, putMid, mid-len, same-len-mid, take-put}
 use Rattle.gtb.specs.declared.Shape.{Shape}
 use Rattle.gtb.specs.declared.Refusal.{Refusal}
-use Rattle.gtb.specs.Shape.{wordLength, infoLength}
+use Rattle.gtb.specs.Shape.{wordLength, infoLength, scratchLength}
 use Rattle.session.specs.declared.Session.{Session}
+use Rattle.session.specs.declared.Opening.{Opening}
+use Rattle.session.specs.declared.Opening.the-variants as opening
 use Rattle.session.specs.declared.Outcome.{Outcome}
-use Rattle.session.specs.declared.Outcome.the-variants.{Refused}
-use Rattle.session.specs.declared.Arrived.{Arrived}
-use Rattle.session.specs.Session.{figured}
-use Rattle.session.specs.Arrival.{wayOf, theWays, outcomeValues, wordAfter, Arriving}
+use Rattle.session.specs.declared.Outcome.the-variants.{Again, Refused}
+use Rattle.session.specs.Session.{Consistent}
+use Rattle.session.specs.Arrival.{Way, wayOf, theWays, Opened, Page, outcomeValues, wordAfter, Arriving}
 use Rattle.session.specs.Claim.{Run, stop, step, answerAt}
-use Rattle.session.specs.Steps.{Admitted, Deciding, Lists, Keeping, Takes}
-use Rattle.session.proofs.Arrive.{whole-copy, step-arrives, settled-both}
-use Rattle.session.proofs.Progress.{figured-consistent}
-use Rattle.session.proofs.Lent.{figured-whole}
-use Rattle.session.proofs.Joins.{run-join, outcome-size}
+use Rattle.session.specs.Steps.{Openable, Keeps, openedBy, Deciding}
+use Rattle.session.proofs.Alikes.{shape-kept}
+use Rattle.session.proofs.Arrive.{decides-arrives}
+use Rattle.session.proofs.Opens.{decides-refused, decides-again, decides-new}
+use Rattle.session.proofs.Progress.{after-consistent}
+use Rattle.session.proofs.Joins.{run-join}
+use Rattle.batch.specs.declared.Seen.{Seen}
+use Rattle.batch.specs.declared.Seen.the-variants.{Known, New}
 use Rattle.batch.specs.Batch.{wordsIn, wordAt, arrivalOf, firstArrivals, valuesOf, Arrivals}
-use Rattle.batch.specs.Steps.{Tested, Ready, OneArrival}
+use Rattle.batch.specs.Steps.{Tested, Ready, OneArrival, Looked, Takes}
 use Rattle.batch.proofs.Runs.{Place, words-before, front-part}
 use Rattle.batch.proofs.Outcomes.{values-size, values-none, values-more}
 
 -- ---- one word
-pub one-arrival : {s : Shape} {k : ℕ} {taken : List Bool} {calls word came symbols values : List ℕ} {taken′ : List Bool} {calls′ word′ three values′ : List ℕ} (r : Outcome)
-    → Ready s k taken calls word came symbols values → Takes (wayOf k) s taken calls word taken′ calls′ word′ r → three ≡ outcomeValues r
-    → values′ ≡ three ++ drop (length three) values → OneArrival s k taken calls word taken′ calls′ word′ values′
-one-arrival {values = values} {three = three} r ready takes is copied = record {
-  answer = r;
-  takes = takes;
-  written = copied ∙ whole-copy three values (ap length is ∙ outcome-size r ∙ sym (ready .valuesSize)) ∙ is;
-}
+module _ {way : Way} {s : Shape} {word word′ came symbols : List ℕ} {found : Opening} (keeps : Keeps way s word word′ came symbols found) where
+  -- by the session's own shape
+  own : (σ : Session) → σ .shape ≡ s → Keeps way (σ .shape) word word′ came symbols found
+  own σ same = subst (λ (x : Shape). Keeps way x word word′ came symbols found) (sym same) keeps
+
+  module _ {taken : List Bool} {values : List ℕ} where
+    pub looked-refused : {e : Refusal} {restored : Bool} → found ≡ opening.Refused e restored → values ≡ outcomeValues (Refused e) → Looked way s taken word word′ came symbols values Known
+    looked-refused {e} h written = record {
+      known = λ _ σ same marks. record { answer = Refused e; decides = decides-refused σ (own σ same) h (refl, refl); written = written };
+      new = λ number c k is. let z : _≡_ {A = ℕ} 0 1 = cc in absurd (omega arith);
+    }
+
+    module _ {number c k : ℕ} (h : found ≡ opening.Page number c k) where
+      pub looked-again : getD taken number false ≡ true → values ≡ outcomeValues (Again number k) → Looked way s taken word word′ came symbols values Known
+      looked-again m written = record {
+        known = λ _ σ same marks. record { answer = Again number k; decides = decides-again σ (own σ same) h (ap (λ (xs : List Bool). getD xs number false) marks ∙ m); written = written };
+        new = λ number′ c′ k′ is. let z : _≡_ {A = ℕ} 0 1 = cc in absurd (omega arith);
+      }
+
+      pub looked-new : Looked way s taken word word′ came symbols values (New number c k)
+      looked-new = record {
+        known = λ is. let z : _≡_ {A = ℕ} 0 1 = cc in absurd (omega arith);
+        new = λ number′ c′ k′ is. let same : opening.Page number c k ≡ opening.Page number′ c′ k′ = cc in subst (λ (r : Opening). Keeps way s word word′ came symbols r) (h ∙ same) keeps;
+      }
+
+-- a page that is new, taken with the session that has these marks
+pub page-arrives : {way : Way} {s : Shape} (σ : Session) {word word′ came symbols : List ℕ} {number c k : ℕ} → σ .shape ≡ s → Keeps way s word word′ came symbols (opening.Page number c k)
+    → {word″ values : List ℕ} {σ′ : Session} → Takes σ (Page number (take (2 + c - 2) (drop 2 symbols)) k) word′ came word″ values σ′ → OneArrival way σ word σ′ word″ values
+page-arrives σ same keeps t = record { answer = t .answer; decides = decides-new σ (own keeps σ same) refl (t .settled) (t .left); written = t .written }
 
 -- ---- after m words
-pub record Delivering (σ : Session) (k : ℕ) (words scratch : List ℕ) (m : ℕ) (words′ outcomes′ : List ℕ) (taken : List Bool) (calls : List ℕ) : Type 0 where
+pub record Delivering (σ : Session) (k : ℕ) (words scratch : List ℕ) (m : ℕ) (words′ outcomes′ : List ℕ) (end : Session) : Type 0 where
   pub answers : List Outcome
-  pub run : Run theWays σ (firstArrivals (σ .shape) k words scratch m) answers (figured (σ .shape) taken calls)
+  pub run : Run theWays σ (firstArrivals (σ .shape) k words scratch m) answers end
   pub answered : length answers ≡ m
   pub size : length words′ ≡ length words
   pub word : (i : ℕ) → i < m
       → wordAt (σ .shape) words′ i ≡ wordAfter (wordAt (σ .shape) words i) (wayOf k .word (σ .shape) (wordAt (σ .shape) words i)) (answerAt answers i)
   pub rest : drop (m * wordLength (σ .shape)) words′ ≡ drop (m * wordLength (σ .shape)) words
   pub outcomesLeft : outcomes′ ≡ valuesOf answers
-  pub keeping : Keeping (σ .taken) taken calls
+  pub consistent : Consistent end
+  pub shape : end .shape ≡ σ .shape
 
-pub delivering-begins : {σ : Session} {k : ℕ} {words scratch outcomes outcomes′ : List ℕ} → Tested σ k words scratch outcomes → Lists (σ .taken) (σ .calls)
-    → outcomes′ ≡ replicate (length outcomes) 0 → Delivering σ k words scratch 0 words outcomes′ (σ .taken) (σ .calls)
+pub delivering-begins : {σ : Session} {k : ℕ} {words scratch outcomes outcomes′ : List ℕ} → Tested σ k words scratch outcomes → outcomes′ ≡ replicate (length outcomes) 0
+    → Delivering σ k words scratch 0 words outcomes′ σ
 unfolding firstArrivals
-delivering-begins {σ} {outcomes = outcomes} tested lists cleared = record {
+delivering-begins {σ} {outcomes = outcomes} tested cleared = record {
   answers = [];
-  run = subst (λ (end : Session). Run theWays σ [] [] end) (figured-whole σ (tested .admitted .consistent)) stop;
+  run = stop;
   answered = refl;
   size = refl;
   word = λ i l. absurd (not-suc-le-zero l);
   rest = refl;
   outcomesLeft = values-none outcomes (tested .outcomesSize) cleared;
-  keeping = record { lists = lists; marks = λ p h. h };
+  consistent = tested .admitted .consistent;
+  shape = refl;
 }
 
 -- after all of them
-pub delivering-ends : {σ : Session} {k : ℕ} {words scratch scratch′ : List ℕ} {m : ℕ} {words′ outcomes′ : List ℕ} {taken : List Bool} {calls : List ℕ} {end : Session} → m ≡ wordsIn (σ .shape) words
-    → scratch′ ≡ replicate (length scratch) 0 → Delivering σ k words scratch m words′ outcomes′ taken calls → end ≡ figured (σ .shape) taken calls
-    → Arrivals σ k words scratch words′ scratch′ outcomes′ end
-delivering-ends {σ} {k} {words} {scratch} {taken = taken} {calls = calls} all cleared d is = record {
+pub delivering-ends : {σ : Session} {k : ℕ} {words scratch scratch′ : List ℕ} {m : ℕ} {words′ outcomes′ : List ℕ} {end : Session} → m ≡ wordsIn (σ .shape) words
+    → scratch′ ≡ replicate (length scratch) 0 → Delivering σ k words scratch m words′ outcomes′ end → Arrivals σ k words scratch words′ scratch′ outcomes′ end
+delivering-ends {σ} {k} {words} {scratch} {end = end} all cleared d = record {
   answers = d .answers;
-  run = rw is (subst (λ (n : ℕ). Run theWays σ (firstArrivals (σ .shape) k words scratch n) (d .answers) (figured (σ .shape) taken calls)) all (d .run));
+  run = subst (λ (n : ℕ). Run theWays σ (firstArrivals (σ .shape) k words scratch n) (d .answers) end) all (d .run);
   size = d .size;
   word = λ i l. d .word i (rw all l);
   outcomesLeft = d .outcomesLeft;
@@ -80,13 +106,13 @@ delivering-ends {σ} {k} {words} {scratch} {taken = taken} {calls = calls} all c
 }
 
 -- the part of the run that is word m
-word-part : {σ : Session} {k : ℕ} {words scratch : List ℕ} {m : ℕ} {words′ outcomes′ : List ℕ} {taken : List Bool} {calls : List ℕ} → Delivering σ k words scratch m words′ outcomes′ taken calls
+word-part : {σ : Session} {k : ℕ} {words scratch : List ℕ} {m : ℕ} {words′ outcomes′ : List ℕ} {end : Session} → Delivering σ k words scratch m words′ outcomes′ end
     → m * wordLength (σ .shape) + wordLength (σ .shape) ≤ length words → length (wordAt (σ .shape) words′ m) ≡ wordLength (σ .shape)
 word-part {σ} {m = m} {words′ = words′} d room =
     length-take-le (wordLength (σ .shape)) (drop (m * wordLength (σ .shape)) words′) (omega (arith, d .size, length-drop (m * wordLength (σ .shape)) words′))
 
 -- ---- one word more
-module _ {σ : Session} {k : ℕ} {words scratch outcomes : List ℕ} (tested : Tested σ k words scratch outcomes) {m : ℕ} {words′ outcomes′ : List ℕ} {taken : List Bool} {calls : List ℕ} (d : Delivering σ k words scratch m words′ outcomes′ taken calls) (few : m < 64) (room : m * wordLength (σ .shape) + wordLength (σ .shape) ≤ length words) {taken″ : List Bool} {calls″ word″ values″ : List ℕ} (len : length word″ ≡ wordLength (σ .shape)) (one : OneArrival (σ .shape) k taken calls (wordAt (σ .shape) words′ m) taken″ calls″ word″ values″) where
+module _ {σ : Session} {k : ℕ} {words scratch outcomes : List ℕ} (tested : Tested σ k words scratch outcomes) {m : ℕ} {words′ outcomes′ : List ℕ} {end : Session} (d : Delivering σ k words scratch m words′ outcomes′ end) (few : m < 64) (room : m * wordLength (σ .shape) + wordLength (σ .shape) ≤ length words) {end′ : Session} {word″ values″ : List ℕ} (len : length word″ ≡ wordLength (σ .shape)) (one : OneArrival (wayOf k) end (wordAt (σ .shape) words′ m) end′ word″ values″) where
   -- the run with this word put back
   abbrev put : List ℕ
   put = putMid (m * wordLength (σ .shape)) (wordLength (σ .shape)) words′ word″
@@ -107,8 +133,8 @@ module _ {σ : Session} {k : ℕ} {words scratch outcomes : List ℕ} (tested : 
   -- this word, and those before it
   new-word : wordAt (σ .shape) put m ≡ wordAfter (wordAt (σ .shape) words m) (wayOf k .word (σ .shape) (wordAt (σ .shape) words m)) (one .answer)
   new-word =
-      ap (take (wordLength (σ .shape))) put-rest ∙ take-at word″ _ (wordLength (σ .shape)) len ∙ one .takes .decides .wordLeft
-      ∙ ap (λ (w : List ℕ). wordAfter w (wayOf k .word (σ .shape) w) (one .answer)) same-word
+      ap (take (wordLength (σ .shape))) put-rest ∙ take-at word″ _ (wordLength (σ .shape)) len ∙ one .decides .wordLeft
+      ∙ ap₂ (λ (s : Shape) (w : List ℕ). wordAfter w (wayOf k .word s w) (one .answer)) (d .shape) same-word
 
   old-word : (i : ℕ) → i < m → wordAt (σ .shape) put i ≡ wordAt (σ .shape) words′ i
   old-word i l =
@@ -136,24 +162,18 @@ module _ {σ : Session} {k : ℕ} {words scratch outcomes : List ℕ} (tested : 
       let after : (xs : List ℕ) → drop ((m + 1) * N) xs ≡ drop N (drop (m * N) xs) = λ xs. ap (λ (n : ℕ). drop n xs) (sym both) ∙ sym (drop-drop N (m * N) xs) in
       after put ∙ ap (drop N) put-rest ∙ drop-at word″ _ N len ∙ ap (drop N) (d .rest) ∙ sym (after words)
 
-  -- the session that it finds has passed the tests too
-  held-admitted : Admitted (figured (σ .shape) taken calls) k
-  held-admitted = record {
-    known = tested .admitted .known;
-    lawful = tested .admitted .lawful;
-    consistent = figured-consistent (σ .shape) taken calls;
-    suits = tested .admitted .suits;
-  }
+  -- what it brings to the session that it finds
+  brought : Opened
+  brought = openedBy (wayOf k) (end .shape) (wordAt (σ .shape) words′ m)
 
-  run-turn : Run theWays σ (firstArrivals (σ .shape) k words scratch (m + 1)) answered (figured (σ .shape) taken″ calls″)
+  run-turn : Run theWays σ (firstArrivals (σ .shape) k words scratch (m + 1)) answered end′
   unfolding firstArrivals
   run-turn =
-      let r : Arrived = record { session = figured (σ .shape) taken″ calls″; outcome = one .answer } in
-      let decides : Deciding (wayOf k) (figured (σ .shape) taken calls) (wordAt (σ .shape) words m) word″ r =
-      subst (λ (w : List ℕ). Deciding (wayOf k) (figured (σ .shape) taken calls) w word″ r) same-word (one .takes .decides) in
-      let here : Arriving theWays (figured (σ .shape) taken calls) k (wordAt (σ .shape) words m) scratch word″ (replicate (length scratch) 0) r =
-      step-arrives theWays (figured (σ .shape) taken calls) k (held-admitted .consistent)
-      (settled-both held-admitted (wordAt (σ .shape) words m) scratch (ap length (sym same-word) ∙ word-part d room) (tested .scratchSize) refl decides) in
+      let a = tested .admitted in
+      let fits : Openable (σ .shape) k (wordAt (σ .shape) words m) = record { known = a .known; lawful = a .lawful; suits = a .suits; size = ap length (sym same-word) ∙ word-part d room } in
+      let here : Arriving theWays end k (wordAt (σ .shape) words m) scratch word″ (replicate (length scratch) 0) (record { session = end′; outcome = one .answer }) =
+      decides-arrives end scratch (d .consistent) (subst (λ (s : Shape). Openable s k (wordAt (σ .shape) words m)) (sym (d .shape)) fits) (tested .scratchSize ∙ ap scratchLength (sym (d .shape))) refl
+      (subst (λ (w : List ℕ). Deciding (wayOf k) end w word″ (record { session = end′; outcome = one .answer })) same-word (one .decides)) in
       rw (add-one m) (run-join (d .run) (step {a = arrivalOf (σ .shape) k words scratch m} here stop))
 
   outcomes-turn : putMid (3 * m) 3 outcomes′ values″ ≡ valuesOf answered
@@ -162,7 +182,8 @@ module _ {σ : Session} {k : ℕ} {words scratch outcomes : List ℕ} (tested : 
       ∙ ap (λ (n : ℕ). putMid (3 * n) 3 (valuesOf (d .answers)) (outcomeValues (one .answer))) (sym (d .answered))
       ∙ values-more (d .answers) (one .answer) (rw (d .answered) few)
 
-  turn : Delivering σ k words scratch (m + 1) put (putMid (3 * m) 3 outcomes′ values″) taken″ calls″
+  turn : Delivering σ k words scratch (m + 1) put (putMid (3 * m) 3 outcomes′ values″) end′
+  unfolding brought
   turn = record {
     answers = answered;
     run = run-turn;
@@ -171,41 +192,101 @@ module _ {σ : Session} {k : ℕ} {words scratch outcomes : List ℕ} (tested : 
     word = word-turn;
     rest = rest-turn;
     outcomesLeft = outcomes-turn;
-    keeping = record { lists = one .takes .keeping .lists; marks = λ p h. one .takes .keeping .marks p (d .keeping .marks p h) };
+    consistent = subst Consistent (sym (one .decides .settled .session)) (after-consistent end brought (d .consistent));
+    shape = ap (λ (τ : Session). τ .shape) (one .decides .settled .session) ∙ shape-kept end brought ∙ d .shape;
   }
 
 -- with places and lengths as the code has them
-turn-at : {σ : Session} {k : ℕ} {words scratch outcomes : List ℕ} → Tested σ k words scratch outcomes → {m : ℕ} {words′ outcomes′ : List ℕ} {taken : List Bool} {calls : List ℕ} → Delivering σ k words scratch m words′ outcomes′ taken calls
-    → m < 64 → m * wordLength (σ .shape) + wordLength (σ .shape) ≤ length words → {taken″ : List Bool} {calls″ word″ values″ : List ℕ}
+turn-at : {σ : Session} {k : ℕ} {words scratch outcomes : List ℕ} → Tested σ k words scratch outcomes → {m : ℕ} {words′ outcomes′ : List ℕ} {end : Session} → Delivering σ k words scratch m words′ outcomes′ end
+    → m < 64 → m * wordLength (σ .shape) + wordLength (σ .shape) ≤ length words → {end′ : Session} {word″ values″ : List ℕ}
     → (from gap three : ℕ) → from ≡ m * wordLength (σ .shape) → gap ≡ wordLength (σ .shape) → three ≡ 3
-    → length word″ ≡ length (midOf from gap words′) → OneArrival (σ .shape) k taken calls (midOf from gap words′) taken″ calls″ word″ values″
-    → Delivering σ k words scratch (m + 1) (putMid from gap words′ word″) (putMid (3 * m) three outcomes′ values″) taken″ calls″
+    → length word″ ≡ length (midOf from gap words′) → OneArrival (wayOf k) end (midOf from gap words′) end′ word″ values″
+    → Delivering σ k words scratch (m + 1) (putMid from gap words′ word″) (putMid (3 * m) three outcomes′ values″) end′
 turn-at tested d few room from gap three f g t = rw (f, g, t) (λ len one. turn tested d few room (len ∙ word-part d room) one)
 
-module _ {σ : Session} {k : ℕ} {words scratch : List ℕ} {m : ℕ} {words′ outcomes′ : List ℕ} {taken : List Bool} {calls : List ℕ} (d : Delivering σ k words scratch m words′ outcomes′ taken calls) where
+-- a part that is lent twice
+module _ (a k : ℕ) (xs ys : List ℕ) (before : a ≤ length xs) (size : length ys ≡ k) where
+  put-front : length (take a xs) ≡ a
+  put-front = length-take-le a xs before
+
+  pub mid-put : midOf a k (putMid a k xs ys) ≡ ys
+  mid-put = ap (take k) (drop-at (take a xs) _ a put-front) ∙ take-at ys _ k size
+
+  pub put-put : (zs : List ℕ) → putMid a k (putMid a k xs ys) zs ≡ putMid a k xs zs
+  put-put zs = ap₂ (λ (u v : List ℕ). u ++ (zs ++ v)) (take-put a k xs ys before) (ap (drop k) (drop-at (take a xs) _ a put-front) ∙ drop-at ys _ k size)
+
+module _ {σ : Session} {k : ℕ} {words scratch : List ℕ} {m : ℕ} {words′ outcomes′ : List ℕ} {end : Session} (d : Delivering σ k words scratch m words′ outcomes′ end) where
   -- the list of outcomes keeps its length
   pub list-size : m ≤ 64 → length outcomes′ ≡ 192
   list-size few = ap length (d .outcomesLeft) ∙ values-size (d .answers) (rw (d .answered) few)
 
   module _ {outcomes : List ℕ} (tested : Tested σ k words scratch outcomes) {size : ℕ} (is : size ≡ wordLength (σ .shape)) (place : Place words size m) where
+    gap : m * size + size - m * size ≡ size
+    gap = omega arith
+
+    three : 3 * m + 3 - 3 * m ≡ 3
+    three = omega arith
+
+    pub word-size : length (midOf (m * size) (m * size + size - m * size) words′) ≡ m * size + size - m * size
+    word-size = mid-len (m * size) (m * size + size) words′ (omega (arith, place .room, d .size))
+
+    pub values-three : length (midOf (3 * m) (3 * m + 3 - 3 * m) outcomes′) ≡ 3 * m + 3 - 3 * m
+    values-three = mid-len (3 * m) (3 * m + 3) outcomes′ (omega (arith, list-size (le-of-lt (place .few)), place .few))
+
     pub turn-ready : {came symbols : List ℕ} → length came ≡ size → length symbols ≡ infoLength (σ .shape)
-        → Ready (σ .shape) k taken calls (midOf (m * size) (m * size + size - m * size) words′) came symbols (midOf (3 * m) (3 * m + 3 - 3 * m) outcomes′)
+        → Ready (σ .shape) k (midOf (m * size) (m * size + size - m * size) words′) came symbols (midOf (3 * m) (3 * m + 3 - 3 * m) outcomes′)
     turn-ready copy room =
-        let few = place .few in
-        let gap : m * size + size - m * size ≡ size = omega arith in
-        let three : 3 * m + 3 - 3 * m ≡ 3 = omega arith in
+        let a = tested .admitted in
         record {
-          lists = d .keeping .lists;
-          known = tested .admitted .known;
-          copySize = copy ∙ sym (mid-len (m * size) (m * size + size) words′ (omega (arith, place .room, d .size)) ∙ gap);
+          openable = record { known = a .known; lawful = a .lawful; suits = a .suits; size = word-size ∙ gap ∙ is };
+          copySize = copy ∙ sym (word-size ∙ gap);
           symbolsSize = room;
-          valuesSize = mid-len (3 * m) (3 * m + 3) outcomes′ (omega (arith, list-size (le-of-lt few))) ∙ three;
+          valuesSize = values-three ∙ three;
         }
 
-    pub turn-code : {taken″ : List Bool} {calls″ word″ values″ : List ℕ} → length word″ ≡ length (midOf (m * size) (m * size + size - m * size) words′)
-        → OneArrival (σ .shape) k taken calls (midOf (m * size) (m * size + size - m * size) words′) taken″ calls″ word″ values″
-        → Delivering σ k words scratch (m + 1) (putMid (m * size) (m * size + size - m * size) words′ word″) (putMid (3 * m) (3 * m + 3 - 3 * m) outcomes′ values″) taken″ calls″
+    pub turn-code : {end′ : Session} {word″ values″ : List ℕ} → length word″ ≡ length (midOf (m * size) (m * size + size - m * size) words′)
+        → OneArrival (wayOf k) end (midOf (m * size) (m * size + size - m * size) words′) end′ word″ values″
+        → Delivering σ k words scratch (m + 1) (putMid (m * size) (m * size + size - m * size) words′ word″) (putMid (3 * m) (3 * m + 3 - 3 * m) outcomes′ values″) end′
     turn-code =
-        let gap : m * size + size - m * size ≡ size = omega arith in
         turn-at tested d (place .few) (subst (λ (n : ℕ). m * n + n ≤ length words) is (place .room)) (m * size) (m * size + size - m * size) (3 * m + 3 - 3 * m)
-        (ap (λ (n : ℕ). m * n) is) (gap ∙ is) (omega arith)
+        (ap (λ (n : ℕ). m * n) is) (gap ∙ is) three
+
+    -- a word that a look left with a page that is new: both parts are lent again, for the last step
+    module _ {taken : List Bool} {word₁ came symbols values₁ : List ℕ} {r : Seen} (seen : Looked (wayOf k) (σ .shape) taken (midOf (m * size) (m * size + size - m * size) words′) word₁ came symbols values₁ r) (first : length word₁ ≡ length (midOf (m * size) (m * size + size - m * size) words′)) (listed : length values₁ ≡ length (midOf (3 * m) (3 * m + 3 - 3 * m) outcomes′)) where
+      abbrev looked : List ℕ
+      looked = putMid (m * size) (m * size + size - m * size) words′ word₁
+
+      abbrev noted : List ℕ
+      noted = putMid (3 * m) (3 * m + 3 - 3 * m) outcomes′ values₁
+
+      pub looked-size : length looked ≡ length words′
+      looked-size = same-len-mid (m * size) (m * size + size - m * size) words′ word₁ first
+
+      pub noted-size : length noted ≡ length outcomes′
+      noted-size = same-len-mid (3 * m) (3 * m + 3 - 3 * m) outcomes′ values₁ listed
+
+      before-word : m * size ≤ length words′
+      before-word = omega (arith, place .room, d .size)
+
+      before-values : 3 * m ≤ length outcomes′
+      before-values = omega (arith, list-size (le-of-lt (place .few)), place .few)
+
+      pub same-part : midOf (m * size) (m * size + size - m * size) looked ≡ word₁
+      same-part = mid-put (m * size) (m * size + size - m * size) words′ word₁ before-word (first ∙ word-size)
+
+      pub part-size : length (midOf (m * size) (m * size + size - m * size) looked) ≡ size
+      part-size = ap length same-part ∙ first ∙ word-size ∙ gap
+
+      pub part-three : length (midOf (3 * m) (3 * m + 3 - 3 * m) noted) ≡ 3
+      part-three = mid-len (3 * m) (3 * m + 3) noted (omega (arith, noted-size, list-size (le-of-lt (place .few)), place .few)) ∙ three
+
+      pub turn-page : {number c n : ℕ} → r ≡ New number c n → {word″ values″ : List ℕ} {end′ : Session}
+          → length word″ ≡ length (midOf (m * size) (m * size + size - m * size) looked)
+          → Takes end (Page number (take (2 + c - 2) (drop 2 symbols)) n) (midOf (m * size) (m * size + size - m * size) looked) came word″ values″ end′
+          → Delivering σ k words scratch (m + 1) (putMid (m * size) (m * size + size - m * size) looked word″) (putMid (3 * m) (3 * m + 3 - 3 * m) noted values″) end′
+      turn-page {number} {c} {n} is {word″} {values″} {end′} len takes =
+          let one = page-arrives end (d .shape) (seen .new number c n is) (subst (λ (w : List ℕ). Takes end (Page number (take (2 + c - 2) (drop 2 symbols)) n) w came word″ values″ end′) same-part takes) in
+          subst₂ (λ (xs ys : List ℕ). Delivering σ k words scratch (m + 1) xs ys end′)
+          (sym (put-put (m * size) (m * size + size - m * size) words′ word₁ before-word (first ∙ word-size) word″))
+          (sym (put-put (3 * m) (3 * m + 3 - 3 * m) outcomes′ values₁ before-values (listed ∙ values-three) values″))
+          (turn-code (len ∙ ap length same-part ∙ first) one)

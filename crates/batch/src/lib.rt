@@ -5,14 +5,21 @@ use gtb::Status;
 use gtb::size::info_length;
 use gtb::size::scratch_length;
 use gtb::size::word_length;
+use session::Opening;
+use session::Outcome;
 use session::Session;
-use session::held::take_word;
-use session::held::whole;
+use session::number::put_outcome;
+use session::open::open_kept;
+use session::put_back;
 ghost use mathlib.Core.Path.{_≡_};
+ghost use Prim.Native.Nat.{_<_};
 ghost use lib.ListN.{length};
 ghost use Rattle.gtb.specs.Shape.{Lawful, wordLength, infoLength};
+ghost use Rattle.session.specs.Session.{Consistent};
+ghost use Rattle.session.specs.Arrival.{wayOf, Opened};
+ghost use Rattle.session.specs.Steps.{Functions};
 ghost use Rattle.batch.specs.Batch.{wholeRun, allFit, batchStatus, Arrivals, Batching};
-ghost use Rattle.batch.specs.Steps.{Tested, Ready, OneArrival};
+ghost use Rattle.batch.specs.Steps.{Tested, Ready, Looked, Takes};
 
 // A run has at most so many words.
 pub const WORDS: usize = 64;
@@ -24,6 +31,12 @@ pub const OUTCOMES: usize = 192;
 pub struct Delivered {
     pub session: Session,
     pub status: Status,
+}
+
+// What is left to do for a word: nothing, where it is answered; or a page that is new, by page number, number of marks and symbols changed.
+enum Seen {
+    Known,
+    New(u32, u32, u32),
 }
 
 // A run of 1 to 64 whole words.
@@ -69,26 +82,56 @@ fn judge(session: Session, way: u32, words: &[u32], scratch: &[u32], outcomes: &
     Status::Done
 }
 
-// One word of the run, past all tests of the call.
-fn arrive_one(
-    taken: &mut [bool; Session::PAGES],
-    calls: &mut [u32; Session::FUNCTIONS],
+// One word, past all tests of the call: answered where that leaves the session as it is.
+fn look(
+    taken: &[bool; Session::PAGES],
     shape: Shape,
     way: u32,
     word: &mut [u32],
     came: &mut [u32],
     symbols: &mut [u32],
     values: &mut [u32],
-)
-    requires { ⌜ Ready shape way (now taken) (now calls) (now word) (now came) (now symbols) (now values) ⌝ }
-    ensures { λ _. ⌜ OneArrival shape way (now (taken .entry)) (now (calls .entry)) (now (word .entry)) (now (taken .exit)) (now (calls .exit)) (now (word .exit)) (now (values .exit)) ⌝ }
+) -> Seen
+    requires { ⌜ Ready shape way (now word) (now came) (now symbols) (now values) ⌝ }
+    ensures { λ r. ⌜ Looked (wayOf way) shape (now (taken .entry)) (now (word .entry)) (now (word .exit)) (now (came .exit)) (now (symbols .exit)) (now (values .exit)) r ⌝ }
 {
-    let outcome = take_word(taken, calls, shape, way, word, came, symbols);
-    let three = session::number::outcome(outcome);
-    gtb::copy(&three, values);
+    match open_kept(shape, way, word, came, symbols) {
+        Opening::Refused(e, _) => {
+            put_outcome(Outcome::Refused(e), values);
+            Seen::Known
+        }
+        Opening::Page(number, count, corrected) => {
+            let at = number as usize;
+            if taken[at] {
+                put_outcome(Outcome::Again(number, corrected), values);
+                return Seen::Known;
+            }
+            Seen::New(number, count, corrected)
+        }
+    }
 }
 
-// The run word by word, first word first. A refused word keeps its digits, and the others go on. Room for a word and for its symbols is lent, so that it is made once.
+// A page that is new: the last step, by value.
+fn take_page(
+    session: Session,
+    number: u32,
+    corrected: u32,
+    marks: &[u32],
+    word: &mut [u32],
+    came: &[u32],
+    values: &mut [u32],
+) -> Session
+    requires { ⌜ Consistent session × (number < 1024) × Functions (now marks) × (length (now came) ≡ length (now word)) × (length (now values) ≡ 3) ⌝ }
+    ensures { λ r. ⌜ Takes session (Opened.Page number (now (marks .entry)) corrected) (now (word .entry)) (now (came .entry)) (now (word .exit)) (now (values .exit)) r ⌝ }
+{
+    let arrived = session.settled(number, corrected, marks);
+    let outcome = arrived.outcome;
+    put_back(outcome, came, word);
+    put_outcome(outcome, values);
+    arrived.session
+}
+
+// The run word by word, first word first. A refused word keeps its digits, and the others go on; the session moves where a page is new. Room for a word and for its symbols is lent, so that it is made once.
 fn run(
     session: Session,
     way: u32,
@@ -105,16 +148,16 @@ fn run(
     let size = came.len();
     let count = words.len() / size;
     gtb::clear(outcomes);
-    let mut taken = session.taken;
-    let mut calls = session.calls;
-    for i in 0..count {
+    let mut after = session;
+    let mut i = 0;
+    while i < count {
         let from = i * size;
         let end = from + size;
         let at = 3 * i;
         let next = at + 3;
-        arrive_one(
-            &mut taken,
-            &mut calls,
+        i += 1;
+        let seen = look(
+            &after.taken,
             shape,
             way,
             &mut words[from..end],
@@ -122,9 +165,22 @@ fn run(
             symbols,
             &mut outcomes[at..next],
         );
+        let Seen::New(number, marks, corrected) = seen else {
+            continue;
+        };
+        let last = 2 + marks as usize;
+        after = take_page(
+            after,
+            number,
+            corrected,
+            &symbols[2..last],
+            &mut words[from..end],
+            came,
+            &mut outcomes[at..next],
+        );
     }
     gtb::clear(scratch);
-    whole(shape, taken, calls, session.lowest)
+    after
 }
 
 // The run, past all tests of the call.

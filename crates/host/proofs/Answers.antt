@@ -1,6 +1,6 @@
 -- What the entries answer and leave, by the tests passed.
 use mathlib.Core.Path.{_≡_, refl, sym, ap, _∙_, subst}
-use mathlib.Core.Bool.{true, false, not}
+use mathlib.Core.Bool.{Bool, false, not, cond}
 use mathlib.Core.List.{List, [], _∷_, _++_}
 use mathlib.Core.Logic.{⊎-elim}
 use Prim.Native.Nat.{ℕ, _+_, _-_, _^_, _<_}
@@ -16,9 +16,6 @@ use Rattle.gtb.specs.declared.Status.the-variants.{Done}
 use Rattle.gtb.specs.declared.Status.the-variants as status
 use Rattle.gtb.specs.Shape.{lawful, Lawful}
 use Rattle.gtb.specs.Answer.{refusalNumber, statusNumber}
-use Rattle.correction.specs.declared.Decoded.{Decoded}
-use Rattle.correction.specs.declared.Decoded.the-variants as decoded
-use Rattle.page.proofs.Parts.{marks-part}
 use Rattle.session.specs.declared.Session.{Session}
 use Rattle.session.specs.declared.Opening.{Opening}
 use Rattle.session.specs.declared.Opening.the-variants as opening
@@ -26,10 +23,9 @@ use Rattle.session.specs.declared.Outcome.{Outcome}
 use Rattle.session.specs.declared.Outcome.the-variants.{Taken, Again, Refused}
 use Rattle.session.specs.declared.Arrived.{Arrived}
 use Rattle.session.specs.Session.{marked, freshOf, freshStatus}
-use Rattle.session.specs.Arrival.{wayOf, theWays, Opened, Page, openWord, isAccepted, outcomeValues, Arriving}
-use Rattle.session.specs.Steps.{Reading, Settling, Tells, Deciding}
-use Rattle.session.proofs.Lent as lent
-use Rattle.session.proofs.Settle.{settle-bad, settle-again}
+use Rattle.session.specs.Arrival.{wayOf, theWays, Page, isAccepted, outcomeValues, Arriving}
+use Rattle.session.specs.Steps.{Settling, Keeps, Deciding}
+use Rattle.session.proofs.Opens.{decides-refused, decides-again, decides-new}
 use Rattle.session.proofs.Outcome.{the-type}
 use Rattle.batch.specs.declared.Delivered.{Delivered}
 use Rattle.batch.specs.Batch.{Batching}
@@ -64,11 +60,6 @@ as-it-was session σ (Taken p k) h = ⊎-elim (λ e. absurd (omega arith)) (λ e
 as-it-was session σ (Again p k) h = refl
 as-it-was session σ (Refused e) h = refl
 
-accepted : (o : Outcome) → OneOf (0 ∷ 1 ∷ []) (tagOf the-type o) → isAccepted o ≡ true
-accepted (Taken p k) h = refl
-accepted (Again p k) h = refl
-accepted (Refused e) h = ⊎-elim (λ e. absurd (omega arith)) (λ e. absurd (omega arith)) h
-
 -- ---- an arrival's steps at lent values
 module _ {values : List ℕ} {Promise : Session → Arrived → Type 0} where
   pub at-values : {values′ : List ℕ} {σ : Session} (a : Arrived) → σ ≡ sessionOf values → Promise σ a → values′ ≡ sessionIn values (a .session) (a .outcome)
@@ -94,42 +85,23 @@ mark-lent values number l =
     List·getD-map isYes (take 1024 (drop 12 values)) number 0
     ∙ ap isYes (getD-take 1024 (drop 12 values) number 0 l ∙ getD-drop 12 values number 0)
 
--- ---- the page in a word that was read
-module _ (values : List ℕ) {o : Opened} {symbols : List ℕ} {found : Opening} (opened : Tells o symbols found) where
-  pub page-refused : {e : Refusal} → found ≡ opening.Refused e → AtValues values (λ σ a. Settling σ o a) values (Refused e)
-  page-refused {e} h = at-refused (subst (λ (x : Opened). Settling (sessionOf values) x (record { session = sessionOf values; outcome = Refused e })) (lent.brings opened h) settle-bad)
+-- ---- both steps
+module _ (way : ℕ) (values : List ℕ) {s : Shape} (same : sessionOf values .shape ≡ s) {word word′ came symbols : List ℕ} {found : Opening} (keeps : Keeps (wayOf way) s word word′ came symbols found) where
+  -- by the session's own shape
+  own : Keeps (wayOf way) (sessionOf values .shape) word word′ came symbols found
+  own = subst (λ (x : Shape). Keeps (wayOf way) x word word′ came symbols found) (sym same) keeps
+
+  pub word-refused : {e : Refusal} {restored : Bool} → found ≡ opening.Refused e restored → AtValues values (λ σ a. Deciding (wayOf way) σ word word′ a) values (Refused e)
+  word-refused h = at-refused (decides-refused (sessionOf values) own h (refl, refl))
 
   module _ {number c k : ℕ} (h : found ≡ opening.Page number c k) where
-    pub page-again : (getD values (12 + number) 0 ≡ 0 → ⊥) → AtValues values (λ σ a. Settling σ o a) values (Again number k)
-    page-again marked =
-        at-again
-        (subst (λ (x : Opened). Settling (sessionOf values) x (record { session = sessionOf values; outcome = Again number k })) (lent.brings opened h)
-        (settle-again (mark-lent values number (opened .readable number c k h .low) ∙ ap not (ne-eqb _ _ marked))))
+    pub word-again : (getD values (12 + number) 0 ≡ 0 → ⊥) → AtValues values (λ σ a. Deciding (wayOf way) σ word word′ a) values (Again number k)
+    word-again marked = at-again (decides-again (sessionOf values) own h (mark-lent values number (keeps .tells .readable number c k h .low) ∙ ap not (ne-eqb _ _ marked)))
 
-    pub page-new : {values′ : List ℕ} {r : Outcome} → AtValues values (λ σ a. Settling σ (Page number (take (2 + c - 2) (drop 2 symbols)) k) a) values′ r
-        → AtValues values (λ σ a. Settling σ o a) values′ r
-    page-new new = at-other new (λ a settles _. subst (λ (x : Opened). Settling (sessionOf values) x a) (ap (λ (ms : List ℕ). Page number ms k) (marks-part c symbols) ∙ lent.brings opened h) settles)
-
--- ---- both steps, the word read where it lies
-module _ (way : ℕ) (values : List ℕ) {s : Shape} (same : sessionOf values .shape ≡ s) {word left : List ℕ} {found : Decoded} (read : Reading (wayOf way) s word left found) where
-  pub read-refused : {e : Refusal} → found ≡ decoded.Refused e → AtValues values (λ σ a. Deciding (wayOf way) σ word left a) values (Refused e)
-  read-refused h = at-refused (lent.read-refused way (sessionOf values) (rw same read) h)
-
-  module _ {k : ℕ} (h : found ≡ decoded.Corrected k) where
-    -- by the session's own shape
-    own : {a : Arrived} → Settling (sessionOf values) (openWord s left (decoded.Corrected k)) a → Settling (sessionOf values) (openWord (sessionOf values .shape) left (decoded.Corrected k)) a
-    own {a} settles = subst (λ (x : Shape). Settling (sessionOf values) (openWord x left (decoded.Corrected k)) a) (sym same) settles
-
-    -- what came is put back
-    pub read-undone : (came : List ℕ) {values′ word′ loaded : List ℕ} {r : Outcome} {e : Refusal} → AtValues values (λ σ a. Settling σ (openWord s left (decoded.Corrected k)) a) values′ r → r ≡ Refused e
-        → length came ≡ length word → loaded ≡ word ++ drop (length word) came → length left ≡ length word → word′ ≡ loaded ++ drop (length loaded) left
-        → AtValues values (λ σ a. Deciding (wayOf way) σ word word′ a) values′ r
-    read-undone came at refused size load long put =
-        at-other at (λ a settles is. lent.read-undone way (sessionOf values) (rw same read) h (own settles) (ap isAccepted (is ∙ refused)) came size load long put)
-
-    pub read-kept : {values′ : List ℕ} {r : Outcome} → AtValues values (λ σ a. Settling σ (openWord s left (decoded.Corrected k)) a) values′ r → OneOf (0 ∷ 1 ∷ []) (tagOf the-type r)
-        → AtValues values (λ σ a. Deciding (wayOf way) σ word left a) values′ r
-    read-kept {r = r} at keys = at-other at (λ a settles is. lent.read-kept way (sessionOf values) (rw same read) h (own settles) (ap isAccepted is ∙ accepted r keys))
+    pub word-new : {values′ word″ : List ℕ} {r : Outcome} → AtValues values (λ σ a. Settling σ (Page number (take (2 + c - 2) (drop 2 symbols)) k) a) values′ r → word″ ≡ cond (isAccepted r) word′ came
+        → AtValues values (λ σ a. Deciding (wayOf way) σ word word″ a) values′ r
+    word-new new put =
+        at-other new (λ a settles is. decides-new (sessionOf values) own h settles (put ∙ ap (λ (o : Outcome). cond (isAccepted o) word′ came) (sym is)))
 
 -- ---- an arrival
 pub arrives : {session session′ : List ℕ} {way : ℕ} {word scratch word′ scratch′ outcome′ : List ℕ} {r : Outcome}

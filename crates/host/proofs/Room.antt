@@ -1,11 +1,12 @@
--- Where what came is kept: a scratch that is shorter than the word is that of a small order.
+-- Where what came is kept: the scratch of a word that is long for an array is longer still.
 use mathlib.Core.Path.{_≡_}
 use mathlib.Core.Bool.{true}
 use Prim.Native.Nat.{ℕ, _+_, _-_, _*_, _/_, _<_, _≤_}
 use native.Mathlib.Nat.{le-trans, mul-le-mul, mul-le-mul-right}
+use native.Mathlib.Decide.{decLt}
 use native.Mathlib.Omega.{arith}
 use Rattle.gtb.specs.declared.Shape.{Shape}
-use Rattle.gtb.specs.Shape.{isOrder, Lawful, wordLength, keptChecks, scratchLength}
+use Rattle.gtb.specs.Shape.{isOrder, Lawful, wordLength, infoLength, keptChecks, scratchLength}
 use Rattle.gtb.proofs.Orders.{order-rule}
 use Rattle.gtb.proofs.Bounds.{bounds}
 use Rattle.gtb.proofs.Sizes.{checks-parts}
@@ -25,10 +26,17 @@ long-enough s h big =
     let rows : 32 * ((s .q * s .q + 31) / 32) ≤ keptChecks s * ((s .q * s .q + 31) / 32) = mul-le-mul-right _ (omega (arith, checks-parts s h)) in
     le-trans (omega arith) rows
 
-small-order : (s : Shape) → Lawful s → scratchLength s < wordLength s → 13 < s .q → ⊥
-small-order s h short big = omega (arith, long-enough s h (next-order (s .q) (bounds s h .listed) big))
+pub long-scratch : (s : Shape) → Lawful s → 169 < wordLength s → wordLength s ≤ scratchLength s
+long-scratch s h long = long-enough s h (next-order (s .q) (bounds s h .listed) (elim (decLt 13 (s .q)) [ yes l ↦ l | no l ↦ absurd (small (omega arith)) ]))
+  where
+    small : s .q ≤ 13 → ⊥
+    small l = omega (arith, long, mul-le-mul {n₂ = 13} {m₂ = 13} l l)
 
-pub short-scratch : (s : Shape) → Lawful s → scratchLength s < wordLength s → wordLength s ≤ 169
-short-scratch s h short =
-    let small : s .q ≤ 13 = omega (arith, small-order s h short) in
-    mul-le-mul {n₂ = 13} {m₂ = 13} small small
+-- and the data symbols of a short word are few
+pub few-data : (s : Shape) → Lawful s → wordLength s ≤ 169 → infoLength s ≤ 144
+few-data s h short =
+    let b = bounds s h in
+    elim (decLt 13 (s .q)) [
+      | yes l ↦ absurd (omega (arith, short, mul-le-mul {n₁ = 14} {m₁ = 14} l l))
+      | no l ↦ mul-le-mul {n₂ = 12} {m₂ = 12} (omega arith) (omega arith)
+    ]

@@ -4,11 +4,11 @@ use mathlib.Core.List.{List}
 use Prim.Native.Nat.{ℕ}
 use lib.ListN.{length}
 use Rattle.gtb.specs.declared.Shape.{Shape}
-use Rattle.gtb.specs.Shape.{wordLength}
 use Rattle.session.specs.declared.Session.{Session}
 use Rattle.session.specs.declared.Outcome.{Outcome}
 use Rattle.session.specs.declared.Arrived.{Arrived}
-use Rattle.session.specs.Steps.{Admitted}
+use Rattle.session.specs.Session.{Consistent}
+use Rattle.session.specs.Steps.{Openable}
 use Rattle.host.specs.Crossing.{sessionOf}
 use Rattle.host.specs.Entries.{sessionIn}
 
@@ -22,5 +22,5 @@ pub record AtValues (values : List ℕ) (Promise : Session → Arrived → Type 
 pub record Fitting (values : List ℕ) (s : Shape) (way : ℕ) (word : List ℕ) : Type 0 where
   pub size : length values ≡ 1292
   pub shape : sessionOf values .shape ≡ s
-  pub admitted : Admitted (sessionOf values) way
-  pub wordSize : length word ≡ wordLength s
+  pub consistent : Consistent (sessionOf values)
+  pub openable : Openable s way word

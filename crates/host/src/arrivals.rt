@@ -1,14 +1,15 @@
 // Arrivals over u32. The session is written only after a page was taken.
 use crate::arrival::arrive;
+use crate::crossing::SESSION;
 use crate::crossing::load;
-use crate::crossing::put_outcome;
 use crate::crossing::store;
+use session::number::put_outcome;
 ghost use Rattle.host.specs.Entries.{Arrives, Delivers};
 
 // One word; the answer is in the outcome.
 #[no_mangle]
 pub extern "C" fn shaftglimmer_arrive(
-    session: &mut [u32; 1292],
+    session: &mut [u32; SESSION],
     way: u32,
     word: &mut [u32],
     scratch: &mut [u32],
@@ -16,14 +17,14 @@ pub extern "C" fn shaftglimmer_arrive(
 ) -> u32
     ensures { λ r. ⌜ Arrives (now (session .entry)) way (now (word .entry)) (now (scratch .entry)) (now (session .exit)) (now (word .exit)) (now (scratch .exit)) (now (outcome .exit)) r ⌝ }
 {
-    put_outcome(outcome, arrive(session, way, word, scratch));
+    put_outcome(arrive(session, way, word, scratch), outcome);
     0
 }
 
 // A bundle of words; their answers are in the outcomes.
 #[no_mangle]
 pub extern "C" fn shaftglimmer_arrive_all(
-    session: &mut [u32; 1292],
+    session: &mut [u32; SESSION],
     way: u32,
     words: &mut [u32],
     scratch: &mut [u32],

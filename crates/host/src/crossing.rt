@@ -1,19 +1,25 @@
 // A shape as ten values, a session as 10 + 2 + 1024 + 256, and an outcome as three.
 use gtb::Shape;
-use session::Outcome;
 use session::Session;
 ghost use mathlib.Core.Path.{_≡_};
 ghost use mathlib.Core.List.{map};
 ghost use lib.ListN.{length};
 ghost use Rattle.parity.specs.Count.{bit};
-ghost use Rattle.session.specs.Arrival.{outcomeValues};
 ghost use Rattle.host.specs.Crossing.{shapeIn, shapeValues, isYes, sessionOf, valuesOf};
 
-// How many values a shape crosses as.
+// How many values a shape crosses as. In a session the number of pages taken and the lowest page not taken follow it, then the page marks, then the calls counts.
 pub const SHAPE: usize = 10;
 
+pub const PAGES: usize = 10;
+
+pub const LOWEST: usize = 11;
+
+pub const MARKS: usize = 12;
+
+pub const CALLS: usize = 1036;
+
 // How many values a session crosses as.
-pub const LENGTH: usize = 1292;
+pub const SESSION: usize = 1292;
 
 // The shape in the values.
 pub fn load_shape(values: &[u32]) -> Shape
@@ -43,22 +49,22 @@ fn store_shape(shape: Shape, values: &mut [u32])
 }
 
 // A page mark is no where its value is 0.
-fn load_taken(values: &[u32]) -> [bool; 1024]
+fn load_taken(values: &[u32]) -> [bool; Session::PAGES]
     requires { ⌜ length (now values) ≡ 1024 ⌝ }
     ensures { λ r. ⌜ r ≡ map isYes (now (values .entry)) ⌝ }
 {
-    let mut taken = [false; 1024];
-    for i in 0..1024 {
+    let mut taken = [false; Session::PAGES];
+    for i in 0..Session::PAGES {
         taken[i] = values[i] != 0;
     }
     taken
 }
 
-fn load_calls(values: &[u32]) -> [u32; 256]
+fn load_calls(values: &[u32]) -> [u32; Session::FUNCTIONS]
     requires { ⌜ length (now values) ≡ 256 ⌝ }
     ensures { λ r. ⌜ r ≡ now (values .entry) ⌝ }
 {
-    let mut calls = [0u32; 256];
+    let mut calls = [0u32; Session::FUNCTIONS];
     gtb::copy(values, &mut calls);
     calls
 }
@@ -69,20 +75,20 @@ pub fn load(values: &[u32]) -> Session
     ensures { λ r. ⌜ r ≡ sessionOf (now (values .entry)) ⌝ }
 {
     Session {
-        shape: load_shape(&values[..10]),
-        taken: load_taken(&values[12..1036]),
-        calls: load_calls(&values[1036..]),
-        pages: values[10],
-        lowest: values[11],
+        shape: load_shape(&values[..SHAPE]),
+        taken: load_taken(&values[MARKS..CALLS]),
+        calls: load_calls(&values[CALLS..]),
+        pages: values[PAGES],
+        lowest: values[LOWEST],
     }
 }
 
 // Yes crosses as 1, no as 0.
-fn store_taken(taken: [bool; 1024], values: &mut [u32])
+fn store_taken(taken: [bool; Session::PAGES], values: &mut [u32])
     requires { ⌜ length (now values) ≡ 1024 ⌝ }
     ensures { λ _. ⌜ now (values .exit) ≡ map bit taken ⌝ }
 {
-    for i in 0..1024 {
+    for i in 0..Session::PAGES {
         values[i] = taken[i] as u32;
     }
 }
@@ -95,18 +101,9 @@ pub fn store(session: Session, values: &mut [u32])
     let shape = session.shape;
     let taken = session.taken;
     let calls = session.calls;
-    store_shape(shape, &mut values[..10]);
-    values[10] = session.pages;
-    values[11] = session.lowest;
-    store_taken(taken, &mut values[12..1036]);
-    gtb::copy(&calls, &mut values[1036..]);
-}
-
-// The three values of an outcome.
-pub fn put_outcome(values: &mut [u32], outcome: Outcome)
-    requires { ⌜ length (now values) ≡ 3 ⌝ }
-    ensures { λ _. ⌜ now (values .exit) ≡ outcomeValues outcome ⌝ }
-{
-    let three = session::number::outcome(outcome);
-    gtb::copy(&three, values);
+    store_shape(shape, &mut values[..SHAPE]);
+    values[PAGES] = session.pages;
+    values[LOWEST] = session.lowest;
+    store_taken(taken, &mut values[MARKS..CALLS]);
+    gtb::copy(&calls, &mut values[CALLS..]);
 }

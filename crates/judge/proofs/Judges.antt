@@ -14,25 +14,23 @@ use Rattle.gtb.specs.declared.Shape.{Shape}
 use Rattle.gtb.specs.declared.Refusal.{Refusal}
 use Rattle.gtb.specs.declared.Status.{Status}
 use Rattle.gtb.specs.declared.Status.the-variants as status
-use Rattle.gtb.specs.Shape.{shapeRefusal, lawful, wordLength, scratchLength, standard}
+use Rattle.gtb.specs.Shape.{shapeRefusal, lawful, Lawful, wordLength, scratchLength, standard}
 use Rattle.gtb.proofs.Sizes.{sizes}
-use Rattle.correction.specs.Reading.{readOf}
 use Rattle.lines.specs.Text.{sameBytes, namesShape, namesWord}
 use Rattle.lines.specs.Content.{Content, Spelled, Unreadable, contentOf}
 use Rattle.lines.specs.Parse.{Stored}
 use Rattle.lines.proofs.Same.{differ-same}
 use Rattle.lines.proofs.Contents.{content-spelled}
 use Rattle.session.specs.declared.Session.{Session}
-use Rattle.session.specs.declared.Opening.{Opening}
 use Rattle.session.specs.Session.{freshOf, freshStatus}
-use Rattle.session.specs.Arrival.{isWay, wayOf, clean, theWays, Opened, Bad, opened}
-use Rattle.session.specs.Steps.{openedBy, Tells}
+use Rattle.session.specs.Arrival.{isWay, wayOf, Bad, opened}
+use Rattle.session.specs.Steps.{openedBy}
 use Rattle.judge.specs.declared.Phase.{Phase}
 use Rattle.judge.specs.declared.Phase.the-variants.{ShapeNames, ShapeValues, WordNames, Words, Ended}
 use Rattle.judge.specs.declared.Tally.{Tally}
 use Rattle.judge.specs.declared.Judged.{Judged}
 use Rattle.judge.specs.Judge.{lineContent, passed, fault, named, begun, shaped, worded, broughtBy, judgedIn, judgedOf}
-use Rattle.judge.specs.Steps.{Cut, headedIn, headed}
+use Rattle.judge.specs.Steps.{headedIn, headed}
 
 -- ---- lines by length
 pub short-content : (line : List ℕ) → length line < 16384 → lineContent line ≡ contentOf line
@@ -99,46 +97,24 @@ module _ {line stored : List ℕ} {count : ℕ} (h : Stored line stored count) w
       ext-getD 0 (take count stored) (h .values) (l ∙ sym (h .counted))
       (λ i p. let q : i < count = rw l at p in getD-take count stored i 0 q ∙ h .kept i q (omega arith))
 
--- ---- what a word line brings
--- what arrives is what the clean way reads, whatever the shape and the length
-opened-clean : (s : Shape) (word : List ℕ) → opened theWays s 0 word (replicate {A = ℕ} (scratchLength s) 0) ≡ openedBy clean s word
-unfolding opened isWay wayOf readOf
-opened-clean s word =
-    let room = eq-eqb (length (replicate {A = ℕ} (scratchLength s) 0)) (scratchLength s) (length-replicate {A = ℕ} (scratchLength s) 0) in
-    ⊎-elim
-    (λ (t : lawful s ≡ true).
-    ⊎-elim (λ (l : eqb (length word) (wordLength s) ≡ true). rw (t, room, l)) (λ (l : eqb (length word) (wordLength s) ≡ false). rw (t, room, l)) (either (eqb (length word) (wordLength s))))
-    (λ (f : lawful s ≡ false). rw f)
-    (either (lawful s))
+-- ---- what a word line brings, by the tests passed
+module _ (s : Shape) {line stored : List ℕ} {count : ℕ} (h : Stored line stored count) where
+  pub brings-shape : lawful s ≡ false → broughtBy s (contentOf line) ≡ Bad (shapeRefusal s)
+  unfolding opened isWay
+  brings-shape f = rw (says h, f)
 
--- no word is so long
-opened-long : (s : Shape) (word : List ℕ) → 961 < length word → openedBy clean s word ≡ Bad (cond (lawful s) Refusal.Length (shapeRefusal s))
-unfolding readOf
-opened-long s word l =
-    ⊎-elim (λ (t : lawful s ≡ true). rw (t, ne-eqb (length word) (wordLength s) (λ e. let z = sizes s t .word in absurd (omega arith))))
-    (λ (f : lawful s ≡ false). rw f)
-    (either (lawful s))
+  module _ (law : Lawful s) where
+    room : eqb (length (replicate {A = ℕ} (scratchLength s) 0)) (scratchLength s) ≡ true
+    room = eq-eqb _ _ (length-replicate {A = ℕ} (scratchLength s) 0)
 
--- what a line brings is what the clean way reads in its values so cut
-brought-cut : (s : Shape) {line stored : List ℕ} {count size : ℕ} → Stored line stored count → length stored ≡ 1024 → Cut count size
-    → openedBy (wayOf 0) s (take size stored) ≡ broughtBy s (contentOf line)
-unfolding wayOf
-brought-cut s {stored = stored} {size = size} h full cut =
-    let xs = h .values in
-    rw (says h, opened-clean s xs)
-    (⊎-elim
-    (λ (l : leb (length xs) 1024 ≡ true).
-    let few = rw (h .counted) at (leb-true (length xs) 1024 l) in
-    ap (openedBy clean s) (ap (λ (k : ℕ). take k stored) (cut .few few) ∙ word-stored h full few))
-    (λ (l : leb (length xs) 1024 ≡ false).
-    let many = rw (h .counted) at (leb-false (length xs) 1024 l) in
-    opened-long s (take size stored) (rw (length-take-le size stored (omega (arith, cut .most)), cut .many many) (omega arith))
-    ∙ sym (opened-long s xs (omega (arith, leb-false (length xs) 1024 l))))
-    (either (leb (length xs) 1024)))
+    pub brings-length : (count ≡ wordLength s → ⊥) → broughtBy s (contentOf line) ≡ Bad Refusal.Length
+    unfolding opened isWay wayOf
+    brings-length ne = rw (says h, law, ne-eqb (length (h .values)) (wordLength s) (λ e. ne (sym (h .counted) ∙ e)))
 
-pub line-opened : (s : Shape) {line stored symbols : List ℕ} {count size : ℕ} {r : Opening} → Stored line stored count → length stored ≡ 1024 → Cut count size
-    → Tells (openedBy (wayOf 0) s (take size stored)) symbols r → Tells (broughtBy s (contentOf line)) symbols r
-line-opened s {symbols = symbols} {r = r} h full cut = subst (λ (o : Opened). Tells o symbols r) (brought-cut s h full cut)
+    pub brings-word : count ≡ wordLength s → length stored ≡ 1024 → openedBy (wayOf 0) s (take count stored) ≡ broughtBy s (contentOf line)
+    unfolding opened isWay wayOf
+    brings-word e full =
+        rw (word-stored h full (omega (arith, e, sizes s law .word)), says h, law, eq-eqb (length (h .values)) (wordLength s) (h .counted ∙ e), room)
 
 -- ---- the phases
 -- a line that is no word line

@@ -2,7 +2,7 @@
 use mathlib.Core.Path.{_≡_}
 use mathlib.Core.Bool.{Bool}
 use mathlib.Core.List.{List}
-use Prim.Native.Nat.{ℕ, _≤_, _<_}
+use Prim.Native.Nat.{ℕ}
 use lib.ListN.{take, drop}
 use Rattle.gtb.specs.declared.Shape.{Shape}
 use Rattle.lines.specs.Content.{contentOf}
@@ -17,12 +17,6 @@ use Rattle.judge.specs.declared.Seen.{Seen}
 use Rattle.judge.specs.declared.Seen.the-variants.{Known, New, Head}
 use Rattle.judge.specs.declared.Tally.{Tally}
 use Rattle.judge.specs.Judge.{passed, arrived, worded, judgedIn, judgedOf}
-
--- how many of a line's values arrive
-pub record Cut (count size : ℕ) : Type 0 where
-  pub few : count ≤ 1024 → size ≡ count
-  pub many : 1024 < count → size ≡ 1024
-  pub most : size ≤ 1024
 
 -- a line that is no word line; of one it says nothing
 abbrev pub headedIn : Phase → Session → List ℕ → Judged

@@ -4,33 +4,41 @@ use crate::Seen;
 use crate::Tally;
 use gtb::Refusal;
 use gtb::Shape;
+use gtb::size::info_length;
+use gtb::size::word_length;
 use lines::Parsed;
 use session::Opening;
 use session::Outcome;
 use session::Session;
 use session::open::open;
 ghost use mathlib.Core.Path.{_≡_};
-ghost use Prim.Native.Nat.{_<_, _≤_};
+ghost use mathlib.Core.List.{List};
+ghost use Prim.Native.Nat.{ℕ, _<_};
 ghost use lib.ListN.{length, take};
 ghost use Rattle.lines.specs.Content.{contentOf};
-ghost use Rattle.session.specs.Arrival.{wayOf};
-ghost use Rattle.session.specs.Steps.{openedBy, Tells};
+ghost use Rattle.lines.specs.Parse.{Stored};
+ghost use Rattle.session.specs.Steps.{Tells};
 ghost use Rattle.judge.specs.Judge.{broughtBy};
-ghost use Rattle.judge.specs.Steps.{Cut, Looked, Foretold};
+ghost use Rattle.judge.specs.Steps.{Looked, Foretold};
 
-// How many of a line's values arrive. No word has 1024 values, so that of a longer line the first 1024 stand for all.
-fn cut(count: usize) -> usize
-    ensures { λ r. ⌜ Cut count r ⌝ }
+// What the values of a line bring, read the clean way: tests 1, 18 and 2, then the first step.
+fn open_values(shape: Shape, values: &mut [u32], count: usize, symbols: &mut [u32]) -> Opening
+    requires { ⌜ (length (now values) ≡ 1024) × (length (now symbols) ≡ 900) ⌝ }
+    ensures { λ r. ⌜ ((line : List ℕ) → Stored line (now (values .entry)) count → Tells (broughtBy shape (contentOf line)) (now (symbols .exit)) r) ⌝ }
 {
-    if count < 1024 { count } else { 1024 }
-}
-
-// The word in the first values of a line, read the clean way.
-fn open_values(shape: Shape, values: &mut [u32], size: usize, symbols: &mut [u32]) -> Opening
-    requires { ⌜ (size ≤ length (now values)) × (length (now symbols) ≡ 900) ⌝ }
-    ensures { λ r. ⌜ Tells (openedBy (wayOf 0) shape (take size (now (values .entry)))) (now (symbols .exit)) r ⌝ }
-{
-    open(shape, Session::CLEAN, &mut values[..size], symbols)
+    if !gtb::is_lawful(shape) {
+        return Opening::Refused(gtb::shape_refusal(shape), false);
+    }
+    if count != word_length(shape) {
+        return Opening::Refused(Refusal::Length, false);
+    }
+    let info = info_length(shape);
+    open(
+        shape,
+        Session::CLEAN,
+        &mut values[..count],
+        &mut symbols[..info],
+    )
 }
 
 // What a word line brings.
@@ -39,10 +47,9 @@ fn open_line(shape: Shape, line: &[u8], values: &mut [u32; 1024], symbols: &mut 
     ensures { λ r. ⌜ Tells (broughtBy shape (contentOf (now (line .entry)))) (now (symbols .exit)) r × (length (now (values .exit)) ≡ 1024) ⌝ }
 {
     let Parsed::Values(count) = lines::parse(line, values) else {
-        return Opening::Refused(Refusal::Syntax);
+        return Opening::Refused(Refusal::Syntax, false);
     };
-    let size = cut(count);
-    open_values(shape, values, size, symbols)
+    open_values(shape, values, count, symbols)
 }
 
 // A word line: refused, marked, or a page that is new.
@@ -57,7 +64,7 @@ fn look(
     ensures { λ r. ⌜ Looked shape (now (taken .entry)) (now (line .entry)) (now (symbols .exit)) r × (length (now (values .exit)) ≡ 1024) ⌝ }
 {
     match open_line(shape, line, values, symbols) {
-        Opening::Refused(e) => Seen::Known(Outcome::Refused(e)),
+        Opening::Refused(e, _) => Seen::Known(Outcome::Refused(e)),
         Opening::Page(number, count, corrected) => {
             let at = number as usize;
             if taken[at] {

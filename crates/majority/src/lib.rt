@@ -1,5 +1,5 @@
 // Reading a damaged word by vote.
-mod correct;
+pub mod correct;
 mod locate;
 mod vote;
 

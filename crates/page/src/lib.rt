@@ -35,8 +35,8 @@ fn are_zeros(symbols: &[u32]) -> bool
     gtb::is_narrow(symbols, 0)
 }
 
-// The page reader's tests 5 to 8.
-fn read_narrow(shape: Shape, symbols: &[u32]) -> PageRead
+// The page reader's tests 5 to 8, past the others.
+pub fn read_narrow(shape: Shape, symbols: &[u32]) -> PageRead
     requires { ⌜ (Sized shape (now symbols)) × (narrow (shape .b) (now symbols) ≡ true) ⌝ }
     ensures { λ r. ⌜ r ≡ pageOf shape (now (symbols .entry)) ⌝ }
 {

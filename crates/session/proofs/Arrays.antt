@@ -9,7 +9,7 @@ use mir.Val.{Val}
 use denote.Array.{each}
 use denote.Shadow.{shadow}
 use denote.Struct.Field.{u32-field, bool-field, array-field}
-use Rattle.session.specs.Steps.{Counts, Lists}
+use Rattle.session.specs.Steps.{Counts}
 
 below : (xs : List ℕ) (us : List Val) → shadow (each ℕ (u32-field .row .own) (map (u32-field .into) xs) us) → (i : ℕ) → getD xs i 0 < 2 ^ 32
 below [] us h i = lit< tt
@@ -22,8 +22,3 @@ counts xs vs h = record { size = sym (length-map xs (u32-field .into)) ∙ h .1 
 
 pub marks : (xs : List Bool) (vs : List Val) → shadow (array-field bool-field 1024 .row .own (array-field bool-field 1024 .into xs) vs) → length xs ≡ 1024
 marks xs vs h = sym (length-map xs (bool-field .into)) ∙ h .1 .0 .1
-
--- both lists of a session
-pub lists : (taken : List Bool) (calls : List ℕ) (us vs : List Val) → shadow (array-field bool-field 1024 .row .own (array-field bool-field 1024 .into taken) us)
-    → shadow (array-field u32-field 256 .row .own (array-field u32-field 256 .into calls) vs) → Lists taken calls
-lists taken calls us vs m c = record { marks = marks taken us m; counts = counts calls vs c }

@@ -1,11 +1,13 @@
 -- An arrival, answer by answer.
 use mathlib.Core.Path.{_≡_, refl, sym, ap, _∙_, subst}
-use mathlib.Core.Bool.{Bool, true, false, cond}
+use mathlib.Core.Bool.{Bool, true, false, cond, _&&_}
 use mathlib.Core.List.{List, _++_, append-nil}
 use Prim.Native.Nat.{ℕ}
 use native.Mathlib.Omega.{arith}
+use lib.Dec.{eqb}
 use lib.ListN.{length, getD, drop, replicate, drop-of-length-le}
-use borrow.Author.Tests.{eq-eqb, ne-eqb}
+use borrow.Author.Tests.{eq-eqb, eqb-true}
+use Rattle.parity.proofs.Tests.{and-left, and-right}
 use Rattle.parity.proofs.Lists.{length-tabulate}
 use Rattle.gtb.specs.declared.Shape.{Shape}
 use Rattle.gtb.specs.declared.Refusal.{Refusal}
@@ -15,7 +17,7 @@ use Rattle.gtb.specs.Shape.{lawful, Lawful, wordLength, infoLength, scratchLeng
 use Rattle.gtb.specs.Square.{at}
 use Rattle.gtb.specs.Positions.{infoPosition, extractOf}
 use Rattle.gtb.specs.Answer as answer
-use Rattle.gtb.proofs.Answers.{shape-scratch, unless-done, never-done}
+use Rattle.gtb.proofs.Answers.{shape-scratch, unless-done, never-done, never-refused}
 use Rattle.correction.specs.declared.Decoded.{Decoded}
 use Rattle.correction.specs.declared.Decoded.the-variants as decoded
 use Rattle.page.specs.declared.PageRead.{PageRead}
@@ -26,7 +28,7 @@ use Rattle.session.specs.declared.Outcome.the-variants.{Taken, Again, Re
 use Rattle.session.specs.declared.Arrived.{Arrived}
 use Rattle.session.specs.Session.{consistent, Consistent, sessionStatus, past, overflows}
 use Rattle.session.specs.Arrival.{Ways, isWay, wayOf, theWays, Opened, Page, Bad, openPage, openWord, opened, arrivalStatus, presented, outcomeOf, sessionAfter, outcomeScratch, Answering, Arriving, Stepping}
-use Rattle.session.specs.Steps.{Admitted, openedBy, Deciding}
+use Rattle.session.specs.Steps.{sessionTests, arrivalTests, wordTests, Admitted, Openable, openedBy, Deciding}
 use Rattle.session.proofs.Late.{late-zeros, page-zeros}
 use Rattle.session.proofs.Ways.{all-read}
 
@@ -70,6 +72,12 @@ admitted σ way h =
     let (session, h₂) = past-done (sessionStatus σ) _ h₁ in
     let (law, right) = status-passed σ session in
     record { known = known; lawful = law; consistent = right; suits = unless-done (wayOf way .suits (σ .shape)) _ _ h₂ .0 }
+
+-- past them the shape is lawful
+pub tests-lawful : (s : Shape) (way : ℕ) (agree : Bool) → arrivalTests s way agree ≡ status.Done → Lawful s
+tests-lawful s way agree h =
+    let (session, rest) = past-done (sessionTests s agree) _ (unless-done (isWay way) _ _ h .1) in
+    unless-done (lawful s) _ _ session .0
 
 -- a refusal by these tests comes before the scratch is touched
 abbrev Keeps : List ℕ → Status → Type 0
@@ -143,67 +151,93 @@ arriving-bad o x h = record {
   scratchLeft = rw (h .1) x;
 }
 
-pub arriving-refused : (ways : Ways) (σ : Session) (way : ℕ) {word scratch : List ℕ} {r : Arrived} {e : Refusal} → arrivalStatus ways σ way ≡ status.Refused e
-    → (r .session ≡ σ) × (r .outcome ≡ Refused e) → Arriving ways σ way word scratch word scratch r
-arriving-refused ways σ way {word} {scratch} h =
-    arriving-bad (presented-refused ways σ way word scratch h) (rw h at (status-keeps scratch ways σ way))
-
 -- the step is an arrival where the figures are right
 pub step-arrives : (ways : Ways) (σ : Session) (way : ℕ) {word scratch word′ scratch′ : List ℕ} {r : Arrived} → Consistent σ
     → Stepping ways σ way word scratch word′ scratch′ r → Arriving ways σ way word scratch word′ scratch′ r
 step-arrives ways σ way {word} {scratch} {word′} {scratch′} {r} right h =
     subst (λ (o : Opened). Answering ways σ way o word scratch word′ scratch′ r) (sym (presented-opened ways σ way word scratch right)) h
 
--- ---- past tests 1, 18, 11 and 16
-module _ {σ : Session} {way : ℕ} (a : Admitted σ way) (word scratch : List ℕ) where
-  pub settled-word : (length word ≡ wordLength (σ .shape) → ⊥) → opened theWays (σ .shape) way word scratch ≡ Bad Refusal.Length
+-- ---- the tests of an arrival, as the code has its shape and whether its figures agree
+module _ (σ : Session) {s : Shape} {agree : Bool} (same : σ .shape ≡ s) (agrees : agree ≡ consistent σ) (way : ℕ) (word scratch : List ℕ) where
+  fits : Bool
+  fits = eqb (length word) (wordLength (σ .shape)) && eqb (length scratch) (scratchLength (σ .shape))
+
+  -- those of the definition, then test 2
+  in-order : {r : Status} → wordTests s way agree word scratch ≡ r → past (arrivalStatus theWays σ way) status.Refused (answer.unless fits (status.Refused Refusal.Length) status.Done) ≡ r
+  unfolding arrivalStatus sessionStatus fits
+  in-order {r} h =
+      subst (λ (x : Shape). wordTests x way (consistent σ) word scratch ≡ r) (sym same) (subst (λ (b : Bool). wordTests s way b word scratch ≡ r) agrees h)
+
+  -- past them both slices have their lengths
+  passed : arrivalStatus theWays σ way ≡ status.Done → fits ≡ true → Consistent σ × Openable (σ .shape) way word × (length scratch ≡ scratchLength (σ .shape))
+  unfolding fits
+  passed h both =
+      let a = admitted σ way h in
+      (a .consistent, record { known = a .known; lawful = a .lawful; suits = a .suits; size = eqb-true _ _ (and-left (eqb (length word) (wordLength (σ .shape))) _ both) }, eqb-true _ _ (and-right (eqb (length word) (wordLength (σ .shape))) _ both))
+
+  pub tests-passed : wordTests s way agree word scratch ≡ status.Done → Consistent σ × Openable (σ .shape) way word × (length scratch ≡ scratchLength (σ .shape))
+  tests-passed h =
+      let (first, last) = past-done (arrivalStatus theWays σ way) _ (in-order h) in
+      passed first (unless-done fits _ _ last .0)
+
+  -- turned down
+  turned : {e : Refusal} (t : Status) → arrivalStatus theWays σ way ≡ t → (b : Bool) → fits ≡ b → past t status.Refused (answer.unless b (status.Refused Refusal.Length) status.Done) ≡ status.Refused e
+      → (presented theWays σ way word scratch ≡ Bad e) × (scratch ≡ answer.scratchAfter e scratch)
+  unfolding fits opened
+  turned {e} (status.Refused e′) is b f h =
+      let first = is ∙ h in
+      (presented-refused theWays σ way word scratch first, rw first at (status-keeps scratch theWays σ way))
+  turned {e} status.Done is true f h = absurd (never-refused e h)
+  turned {e} status.Done is false f h =
+      let a = admitted σ way is in
+      let length : Refusal.Length ≡ e = cc in
+      (presented-opened theWays σ way word scratch (a .consistent) ∙ rw (a .known, a .lawful, a .suits, f) (ap Bad length), rw (← length) length-scratch)
+
+  pub tests-refused : {e : Refusal} {r : Arrived} → wordTests s way agree word scratch ≡ status.Refused e → (r .session ≡ σ) × (r .outcome ≡ Refused e)
+      → Arriving theWays σ way word scratch word scratch r
+  tests-refused h = let (bad, kept) = turned (arrivalStatus theWays σ way) refl fits refl (in-order h) in arriving-bad bad kept
+
+-- ---- past all tests
+module _ (σ : Session) {way : ℕ} {word : List ℕ} (scratch : List ℕ) (right : Consistent σ) (a : Openable (σ .shape) way word) (room : length scratch ≡ scratchLength (σ .shape)) where
+  -- the word is read
+  settled-read : opened theWays (σ .shape) way word scratch ≡ openedBy (wayOf way) (σ .shape) word
   unfolding opened
-  settled-word h = rw (a .known, a .lawful, a .suits, ne-eqb (length word) (wordLength (σ .shape)) h)
+  settled-read =
+      rw (a .known, a .lawful, a .suits, eq-eqb (length word) (wordLength (σ .shape)) (a .size), eq-eqb (length scratch) (scratchLength (σ .shape)) room)
 
-  module _ (size : length word ≡ wordLength (σ .shape)) where
-    pub settled-scratch : (length scratch ≡ scratchLength (σ .shape) → ⊥) → opened theWays (σ .shape) way word scratch ≡ Bad Refusal.Length
-    unfolding opened
-    settled-scratch h =
-        rw (a .known, a .lawful, a .suits, eq-eqb (length word) (wordLength (σ .shape)) size, ne-eqb (length scratch) (scratchLength (σ .shape)) h)
+  -- and the scratch ends as zeros, whatever the answer
+  page-scratch : (number k : ℕ) (again over : Bool)
+      → outcomeScratch scratch (cond again (Again number k) (cond over (Refused Refusal.Overflow) (Taken number k))) ≡ replicate (length scratch) 0
+  unfolding answer.scratchAfter
+  page-scratch number k true over = refl
+  page-scratch number k false true = refl
+  page-scratch number k false false = refl
 
-    module _ (room : length scratch ≡ scratchLength (σ .shape)) where
-      -- past test 2 the word is read
-      settled-read : opened theWays (σ .shape) way word scratch ≡ openedBy (wayOf way) (σ .shape) word
-      unfolding opened
-      settled-read =
-          rw (a .known, a .lawful, a .suits, eq-eqb (length word) (wordLength (σ .shape)) size, eq-eqb (length scratch) (scratchLength (σ .shape)) room)
+  page-cleared : (symbols : List ℕ) → length symbols ≡ infoLength (σ .shape) → (k : ℕ) (found : PageRead) → pageOf (σ .shape) symbols ≡ found
+      → outcomeScratch scratch (outcomeOf σ (openPage (σ .shape) symbols k found)) ≡ replicate (length scratch) 0
+  unfolding outcomeOf
+  page-cleared symbols len k (page.Page number c) h = page-scratch number k (getD (σ .taken) number _) (overflows (σ .calls) (marksOf (σ .shape) symbols))
+  page-cleared symbols len k (page.Refused e) h = page-zeros (σ .shape) symbols (a .lawful) len e h scratch
 
-      -- and the scratch ends as zeros, whatever the answer
-      page-scratch : (number k : ℕ) (again over : Bool)
-          → outcomeScratch scratch (cond again (Again number k) (cond over (Refused Refusal.Overflow) (Taken number k))) ≡ replicate (length scratch) 0
-      unfolding answer.scratchAfter
-      page-scratch number k true over = refl
-      page-scratch number k false true = refl
-      page-scratch number k false false = refl
+  read-cleared : (v : List ℕ) (found : Decoded) → wayOf way .answer (σ .shape) word ≡ found
+      → outcomeScratch scratch (outcomeOf σ (openWord (σ .shape) v found)) ≡ replicate (length scratch) 0
+  unfolding outcomeOf extractOf
+  read-cleared v (decoded.Corrected k) h =
+      page-cleared (extractOf (σ .shape) v) (length-tabulate (infoLength (σ .shape)) (λ j. at v (infoPosition (σ .shape) j))) k (pageOf (σ .shape) (extractOf (σ .shape) v)) refl
+  read-cleared v (decoded.Refused e) h = late-zeros e (all-read way .late (σ .shape) word (a .lawful) (a .suits) (a .size) e h) scratch
 
-      page-cleared : (symbols : List ℕ) → length symbols ≡ infoLength (σ .shape) → (k : ℕ) (found : PageRead) → pageOf (σ .shape) symbols ≡ found
-          → outcomeScratch scratch (outcomeOf σ (openPage (σ .shape) symbols k found)) ≡ replicate (length scratch) 0
-      unfolding outcomeOf
-      page-cleared symbols len k (page.Page number c) h = page-scratch number k (getD (σ .taken) number _) (overflows (σ .calls) (marksOf (σ .shape) symbols))
-      page-cleared symbols len k (page.Refused e) h = page-zeros (σ .shape) symbols (a .lawful) len e h scratch
+  pub word-cleared : outcomeScratch scratch (outcomeOf σ (opened theWays (σ .shape) way word scratch)) ≡ replicate (length scratch) 0
+  word-cleared = rw settled-read (read-cleared (wayOf way .word (σ .shape) word) (wayOf way .answer (σ .shape) word) refl)
 
-      read-cleared : (v : List ℕ) (found : Decoded) → wayOf way .answer (σ .shape) word ≡ found
-          → outcomeScratch scratch (outcomeOf σ (openWord (σ .shape) v found)) ≡ replicate (length scratch) 0
-      unfolding outcomeOf extractOf
-      read-cleared v (decoded.Corrected k) h =
-          page-cleared (extractOf (σ .shape) v) (length-tabulate (infoLength (σ .shape)) (λ j. at v (infoPosition (σ .shape) j))) k (pageOf (σ .shape) (extractOf (σ .shape) v)) refl
-      read-cleared v (decoded.Refused e) h = late-zeros e (all-read way .late (σ .shape) word (a .lawful) (a .suits) size e h) scratch
-
-      pub word-cleared : outcomeScratch scratch (outcomeOf σ (opened theWays (σ .shape) way word scratch)) ≡ replicate (length scratch) 0
-      word-cleared = rw settled-read (read-cleared (wayOf way .word (σ .shape) word) (wayOf way .answer (σ .shape) word) refl)
-
-      pub settled-both : {word′ scratch′ : List ℕ} {r : Arrived} → scratch′ ≡ replicate (length scratch) 0 → Deciding (wayOf way) σ word word′ r
-          → Stepping theWays σ way word scratch word′ scratch′ r
-      settled-both cleared d =
-          let answer = d .settled .outcome ∙ ap (outcomeOf σ) (sym settled-read) in
-          record {
-            outcome = answer;
-            session = d .settled .session ∙ ap (sessionAfter σ) (sym settled-read);
-            wordLeft = d .wordLeft;
-            scratchLeft = cleared ∙ sym (ap (outcomeScratch scratch) answer ∙ word-cleared);
-          }
+  -- so both steps are an arrival
+  pub decides-arrives : {word′ scratch′ : List ℕ} {r : Arrived} → scratch′ ≡ replicate (length scratch) 0 → Deciding (wayOf way) σ word word′ r
+      → Arriving theWays σ way word scratch word′ scratch′ r
+  decides-arrives cleared d =
+      let answer = d .settled .outcome ∙ ap (outcomeOf σ) (sym settled-read) in
+      step-arrives theWays σ way right
+      (record {
+        outcome = answer;
+        session = d .settled .session ∙ ap (sessionAfter σ) (sym settled-read);
+        wordLeft = d .wordLeft;
+        scratchLeft = cleared ∙ sym (ap (outcomeScratch scratch) answer ∙ word-cleared);
+      })

@@ -11,7 +11,6 @@ pub mod Agreement
 pub mod Left
 pub mod Arrive
 pub mod Opens
-pub mod Lent
 pub mod Machine
 pub mod Lengths
 pub mod Fed

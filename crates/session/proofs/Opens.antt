@@ -1,23 +1,22 @@
--- The first step of an arrival, and both steps on a copy of the word.
-use mathlib.Core.Path.{_≡_, refl, sym, ap, _∙_, subst}
-use mathlib.Core.Bool.{true, false, cond}
+-- The first step of an arrival, and both steps: what a word brings, and what the session makes of it.
+use mathlib.Core.Path.{_≡_, refl, sym, ap, ap₂, _∙_, subst}
+use mathlib.Core.Bool.{Bool, true, false, cond}
 use mathlib.Core.List.{List, _++_}
-use Prim.Native.Nat.{ℕ, zero, suc, _+_, _-_, _≤_}
+use Prim.Native.Nat.{ℕ, _+_, _-_, _^_}
 use native.Mathlib.Omega.{arith}
-use lib.ListN.{length, take, drop, length-append, length-drop}
-use lib.Seq.{take-append-le, drop-append-le}
+use lib.ListN.{length, getD, take, drop}
+use lib.Dec.{ltb}
+use borrow.Author.Tests.{lt-ltb}
+use Rattle.parity.proofs.Tests.{all-intro}
+use Rattle.parity.proofs.Lists.{at-tabulate, length-tabulate}
 use Rattle.gtb.specs.declared.Shape.{Shape}
 use Rattle.gtb.specs.declared.Refusal.{Refusal}
-use Rattle.gtb.specs.Shape.{Lawful, wordLength}
-use Rattle.gtb.specs.Square.{at}
-use Rattle.gtb.specs.Positions.{extractOf}
+use Rattle.gtb.specs.Shape.{Lawful, infoLength}
+use Rattle.gtb.specs.Square.{at, narrow, Word}
+use Rattle.gtb.specs.Positions.{infoPosition, extractOf}
 use Rattle.correction.specs.declared.Decoded.{Decoded}
 use Rattle.correction.specs.declared.Decoded.the-variants as decoded
 use Rattle.correction.specs.Answer.{decodedWord}
-use Rattle.correction.proofs.Readings.{read-accepted}
-use Rattle.decoder.specs.Decode as decoder
-use Rattle.majority.specs.Majority as majority
-use Rattle.double.specs.Double as double
 use Rattle.page.specs.declared.PageRead.{PageRead}
 use Rattle.page.specs.declared.PageRead.the-variants as page
 use Rattle.page.specs.Page.{pageOf}
@@ -26,19 +25,17 @@ use Rattle.page.proofs.Parts.{marks-part}
 use Rattle.session.specs.declared.Session.{Session}
 use Rattle.session.specs.declared.Opening.{Opening}
 use Rattle.session.specs.declared.Opening.the-variants as opening
-use Rattle.session.specs.declared.Outcome.the-variants.{Refused}
+use Rattle.session.specs.declared.Outcome.the-variants.{Again, Refused}
 use Rattle.session.specs.declared.Arrived.{Arrived}
-use Rattle.session.specs.Arrival.{wayOf, Opened, Page, Bad, openPage, openWord, outcomeOf, sessionAfter, isAccepted}
-use Rattle.session.specs.Steps.{Functions, Reading, Settling, openedBy, told, Readable, Tells, Opens, Deciding}
-use Rattle.session.proofs.Ways.{all-read}
+use Rattle.session.specs.Arrival.{Way, wayOf, Opened, Page, Bad, openPage, openWord, isAccepted}
+use Rattle.session.specs.Steps.{Functions, Reading, Settling, openedBy, told, isRestored, isPage, Readable, Tells, Opens, Keeps, Deciding}
 use Rattle.session.proofs.Arrive.{whole-copy}
-
-pub no-page : (e : Refusal) (number c k : ℕ) → opening.Refused e ≡ opening.Page number c k → ⊥
-no-page e number c k h = let z : _≡_ {A = ℕ} 0 1 = cc in omega arith
+use Rattle.session.proofs.Settle.{settle-bad, settle-again}
+use Rattle.session.proofs.Ways.{all-read}
 
 -- a refusal alone
-pub tells-refused : {o : Opened} {symbols : List ℕ} {e : Refusal} → o ≡ Bad e → Tells o symbols (opening.Refused e)
-tells-refused {e = e} h = record { brought = sym h; readable = λ number c k is. absurd (no-page e number c k is) }
+pub tells-refused : {o : Opened} {symbols : List ℕ} {e : Refusal} {restored : Bool} → o ≡ Bad e → Tells o symbols (opening.Refused e restored)
+tells-refused h = record { brought = sym h; readable = λ number c k is. let z : _≡_ {A = ℕ} 0 1 = cc in absurd (omega arith) }
 
 -- ---- the page in a word that was read
 module _ (s : Shape) (word : List ℕ) (k : ℕ) {symbols : List ℕ} (gathered : symbols ≡ extractOf s word) {found : PageRead} (answer : found ≡ pageOf s symbols) where
@@ -63,80 +60,96 @@ module _ (s : Shape) (word : List ℕ) (k : ℕ) {symbols : List ℕ} (gathered 
             });
       }
 
+-- its information symbols are below 2^b as the word is
+pub gathered-narrow : (s : Shape) (word : List ℕ) {symbols : List ℕ} → Word s word → symbols ≡ extractOf s word → narrow (s .b) symbols ≡ true
+unfolding narrow extractOf
+gathered-narrow s word {symbols} h is =
+    all-intro (length symbols) (λ j. ltb (at symbols j) (2 ^ s .b)) (λ j l. lt-ltb (at symbols j) (2 ^ s .b) (rw (is, at-tabulate (infoLength s) _ j (rw (is, length-tabulate (infoLength s)) at l)) (h .width (infoPosition s j))))
+
 -- ---- a word, read by the way with this number
--- every way tests the shape first
-accepted-lawful : (way : ℕ) (s : Shape) (word : List ℕ) (k : ℕ) → wayOf way .answer s word ≡ decoded.Corrected k → Lawful s
-unfolding wayOf
-accepted-lawful zero s word k h = read-accepted decoder.clean s word k h .lawful
-accepted-lawful (suc zero) s word k h = read-accepted majority.vote s word k h .lawful
-accepted-lawful (suc (suc way)) s word k h = read-accepted double.two s word k h .lawful
-
--- the marks stand in the part of the symbols that is used
-marks-front : (c : ℕ) (part rest : List ℕ) → 2 + c ≤ length part → take c (drop 2 (part ++ rest)) ≡ take c (drop 2 part)
-marks-front c part rest l =
-    ap (take c) (drop-append-le 2 part rest (omega arith)) ∙ take-append-le c (drop 2 part) rest (rw (length-drop) (omega arith))
-
-told-front : (r : Opening) (part rest : List ℕ) → ((number c k : ℕ) → r ≡ opening.Page number c k → Readable number c part) → told r (part ++ rest) ≡ told r part
-told-front (opening.Page number c k) part rest h = ap (λ (ms : List ℕ). Page number ms k) (marks-front c part rest (h number c k refl .room))
-told-front (opening.Refused e) part rest h = refl
-
-pub tells-front : {o : Opened} {part : List ℕ} {r : Opening} → Tells o part r → (rest : List ℕ) → Tells o (part ++ rest) r
-tells-front {part = part} {r = r} h rest = record {
-  brought = told-front r part rest (h .readable) ∙ h .brought;
-  readable = λ number c k is.
-      let page = h .readable number c k is in
-      record { low = page .low; room = rw (length-append) (omega (arith, page .room)); marks = rw (marks-front c part rest (page .room)) (page .marks) };
-}
-
 module _ (way : ℕ) (s : Shape) {word word′ : List ℕ} {found : Decoded} (read : Reading (wayOf way) s word word′ found) where
-  pub opens-refused : {e : Refusal} {symbols : List ℕ} → found ≡ decoded.Refused e → Opens (wayOf way) s word word′ symbols (opening.Refused e)
-  opens-refused {e} h = record { tells = tells-refused (rw (sym (read .answer) ∙ h)); restored = λ number c k is. absurd (no-page e number c k is) }
+  pub opens-refused : {e : Refusal} {symbols : List ℕ} → found ≡ decoded.Refused e → Opens (wayOf way) s word word′ symbols (opening.Refused e false)
+  opens-refused h = record { tells = tells-refused (rw (sym (read .answer) ∙ h)); left = read .word ∙ rw h }
 
   module _ {k : ℕ} (h : found ≡ decoded.Corrected k) where
     answered : wayOf way .answer s word ≡ decoded.Corrected k
     answered = sym (read .answer) ∙ h
 
-    left : word′ ≡ wayOf way .word s word
-    left = read .word ∙ ap (decodedWord word (wayOf way .word s word)) h
+    restored : word′ ≡ wayOf way .word s word
+    restored = read .word ∙ ap (decodedWord word (wayOf way .word s word)) h
 
-    pub opens-lawful : Lawful s
-    opens-lawful = accepted-lawful way s word k answered
+    pub opens-word : Word s word′
+    opens-word = rw restored (all-read way .reached s word k answered .codeword .word)
 
-    pub opens-size : length word′ ≡ wordLength s
-    opens-size = ap length left ∙ all-read way .size s word
-
-    pub opens-page : {part : List ℕ} {r : Opening} → Tells (openWord s word′ (decoded.Corrected k)) part r → (rest : List ℕ) → Opens (wayOf way) s word word′ (part ++ rest) r
-    opens-page {part} {r} h rest = record {
-      tells = subst (λ (o : Opened). Tells o (part ++ rest) r) (rw (answered, ← left)) (tells-front h rest);
-      restored = λ number c k′ is. left;
+    pub opens-page : {symbols : List ℕ} {r : Opening} → Tells (openWord s word′ (decoded.Corrected k)) symbols r × (isRestored r ≡ true) → Opens (wayOf way) s word word′ symbols r
+    opens-page {symbols} {r} (tells, whole) = record {
+      tells = subst (λ (o : Opened). Tells o symbols r) (rw (answered, ← restored)) tells;
+      left = rw whole restored;
     }
+
+-- ---- what came is kept, and put back where there is no page
+module _ {way : Way} {s : Shape} {word word′ : List ℕ} (came : List ℕ) {loaded symbols : List ℕ} {found : Opening} (size : length came ≡ length word) (load : loaded ≡ word ++ drop (length word) came) (opens : Opens way s word word′ symbols found) where
+  kept : loaded ≡ word
+  kept = load ∙ whole-copy word came (sym size)
+
+  pub keeps-restored : {e : Refusal} {restored : Bool} → found ≡ opening.Refused e restored → {word″ : List ℕ} → length word′ ≡ length word → word″ ≡ loaded ++ drop (length loaded) word′
+      → Keeps way s word word″ loaded symbols (opening.Refused e false)
+  keeps-restored h same put = record {
+    tells = tells-refused (sym (ap (λ (r : Opening). told r symbols) (sym h) ∙ opens .tells .brought));
+    left = put ∙ whole-copy loaded word′ (ap length kept ∙ sym same) ∙ kept;
+    came = kept;
+  }
+
+  pub keeps-unread : {e : Refusal} {restored : Bool} → found ≡ opening.Refused e restored → restored ≡ false → Keeps way s word word′ loaded symbols (opening.Refused e false)
+  keeps-unread h unread = record {
+    tells = tells-refused (sym (ap (λ (r : Opening). told r symbols) (sym h) ∙ opens .tells .brought));
+    left = opens .left ∙ rw (h, unread);
+    came = kept;
+  }
+
+  pub keeps-page : {number c k : ℕ} → found ≡ opening.Page number c k → Keeps way s word word′ loaded symbols found
+  keeps-page h = record { tells = opens .tells; left = opens .left ∙ rw h; came = kept }
 
 -- the marks as the code lends them
 pub lent-marks : {number c : ℕ} {symbols : List ℕ} → Readable number c symbols → Functions (take (2 + c - 2) (drop 2 symbols))
 lent-marks {c = c} {symbols = symbols} h = rw (marks-part c symbols) (h .marks)
 
--- ---- both steps, on a copy of the word
-module _ (way : ℕ) (σ : Session) (word copied : List ℕ) {loaded left symbols : List ℕ} {found : Opening} (size : length copied ≡ length word) (load : loaded ≡ word ++ drop (length word) copied) (opens : Opens (wayOf way) (σ .shape) loaded left symbols found) where
-  same-word : loaded ≡ word
-  same-word = load ∙ whole-copy word copied (sym size)
+-- ---- what a session makes of what is told
+module _ {o : Opened} {symbols : List ℕ} {found : Opening} (tells : Tells o symbols found) (σ : Session) where
+  brings : {r : Opening} → found ≡ r → told r symbols ≡ o
+  brings h = ap (λ (r : Opening). told r symbols) (sym h) ∙ tells .brought
 
-  brings : {r : Opening} → found ≡ r → told r symbols ≡ openedBy (wayOf way) (σ .shape) word
-  brings h = ap (λ (r : Opening). told r symbols) (sym h) ∙ opens .tells .brought ∙ ap (openedBy (wayOf way) (σ .shape)) same-word
+  settles : {o′ : Opened} {r : Arrived} → o′ ≡ o → Settling σ o′ r → Settling σ o r
+  settles {r = r} is = subst (λ (x : Opened). Settling σ x r) is
 
-  pub copy-refused : {e : Refusal} {r : Arrived} → found ≡ opening.Refused e → (r .session ≡ σ) × (r .outcome ≡ Refused e) → Deciding (wayOf way) σ word word r
-  unfolding outcomeOf sessionAfter
-  copy-refused h answer = record { settled = rw (← brings h) (record { outcome = answer .1; session = answer .0 }); wordLeft = rw (answer .1) }
+  pub told-refused : {e : Refusal} {restored : Bool} → found ≡ opening.Refused e restored → Settling σ o (record { session = σ; outcome = Refused e })
+  told-refused h = settles (brings h) settle-bad
 
-  module _ {number c k : ℕ} (h : found ≡ opening.Page number c k) {r : Arrived} (settled : Settling σ (Page number (take (2 + c - 2) (drop 2 symbols)) k) r) where
-    decides : {word′ : List ℕ} → word′ ≡ cond (isAccepted (r .outcome)) left word → Deciding (wayOf way) σ word word′ r
-    decides w = record {
-      settled = rw (← brings h) (rw (marks-part c symbols) at settled);
-      wordLeft = w ∙ ap (λ (v : List ℕ). cond (isAccepted (r .outcome)) v word) (opens .restored number c k h ∙ ap (wayOf way .word (σ .shape)) same-word);
+  module _ {number c k : ℕ} (h : found ≡ opening.Page number c k) where
+    pub told-again : getD (σ .taken) number false ≡ true → Settling σ o (record { session = σ; outcome = Again number k })
+    told-again m = settles (brings h) (settle-again m)
+
+    pub told-new : {r : Arrived} → Settling σ (Page number (take (2 + c - 2) (drop 2 symbols)) k) r → Settling σ o r
+    told-new = settles (ap (λ (ms : List ℕ). Page number ms k) (marks-part c symbols) ∙ brings h)
+
+-- ---- both steps
+module _ {way : Way} (σ : Session) {word word′ came symbols : List ℕ} {found : Opening} (keeps : Keeps way (σ .shape) word word′ came symbols found) where
+  pub decides-refused : {e : Refusal} {restored : Bool} → found ≡ opening.Refused e restored → {r : Arrived} → (r .session ≡ σ) × (r .outcome ≡ Refused e) → Deciding way σ word word′ r
+  decides-refused {e} h {r} (same, is) =
+      let settled = told-refused (keeps .tells) σ h in
+      record { settled = record { outcome = is ∙ settled .outcome; session = same ∙ settled .session }; wordLeft = keeps .left ∙ rw (h, is) }
+
+  module _ {number c k : ℕ} (h : found ≡ opening.Page number c k) where
+    restored-word : word′ ≡ way .word (σ .shape) word
+    restored-word = keeps .left ∙ ap (λ (r : Opening). cond (isPage r) (way .word (σ .shape) word) word) h
+
+    pub decides-again : getD (σ .taken) number false ≡ true → Deciding way σ word word′ (record { session = σ; outcome = Again number k })
+    decides-again m = record { settled = told-again (keeps .tells) σ h m; wordLeft = restored-word }
+
+    -- what came is put back where the page is refused after all
+    pub decides-new : {r : Arrived} {word″ : List ℕ} → Settling σ (Page number (take (2 + c - 2) (drop 2 symbols)) k) r → word″ ≡ cond (isAccepted (r .outcome)) word′ came
+        → Deciding way σ word word″ r
+    decides-new {r} settled put = record {
+      settled = told-new (keeps .tells) σ h settled;
+      wordLeft = put ∙ ap₂ (λ (v w : List ℕ). cond (isAccepted (r .outcome)) v w) restored-word (keeps .came);
     }
-
-    -- the copy is put back where the outcome accepts, and the word untouched where it does not
-    pub copy-accepts : isAccepted (r .outcome) ≡ true → {word′ : List ℕ} → word′ ≡ left ++ drop (length left) word → length left ≡ length loaded → Deciding (wayOf way) σ word word′ r
-    copy-accepts a w same = decides (rw a (w ∙ whole-copy left word (same ∙ ap length same-word)))
-
-    pub copy-stays : isAccepted (r .outcome) ≡ false → Deciding (wayOf way) σ word word r
-    copy-stays a = decides (rw a)

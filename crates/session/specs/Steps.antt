@@ -1,19 +1,24 @@
 -- Contracts of the session's private steps.
 use mathlib.Core.Path.{_≡_}
-use mathlib.Core.Bool.{Bool, true, not}
+use mathlib.Core.Bool.{Bool, true, false, not, cond, _&&_}
 use mathlib.Core.List.{List}
 use Prim.Native.Nat.{ℕ, _+_, _^_, _<_, _≤_}
+use lib.Dec.{eqb}
 use lib.ListN.{length, getD, take, drop}
 use Rattle.gtb.specs.declared.Shape.{Shape}
-use Rattle.gtb.specs.Shape.{Lawful}
+use Rattle.gtb.specs.declared.Refusal.{Refusal}
+use Rattle.gtb.specs.declared.Status.{Status}
+use Rattle.gtb.specs.declared.Status.the-variants.{Done}
+use Rattle.gtb.specs.declared.Status.the-variants as status
+use Rattle.gtb.specs.Shape.{lawful, Lawful, shapeRefusal, wordLength, scratchLength}
+use Rattle.gtb.specs.Answer.{unless}
 use Rattle.correction.specs.declared.Decoded.{Decoded}
 use Rattle.correction.specs.Answer.{decodedWord}
 use Rattle.session.specs.declared.Session.{Session}
-use Rattle.session.specs.declared.Outcome.{Outcome}
 use Rattle.session.specs.declared.Arrived.{Arrived}
 use Rattle.session.specs.declared.Opening.{Opening}
 use Rattle.session.specs.declared.Opening.the-variants as opening
-use Rattle.session.specs.Session.{marked, Consistent, added, overflows, figured}
+use Rattle.session.specs.Session.{Consistent, past, added, overflows}
 use Rattle.session.specs.Arrival.{Way, isWay, wayOf, Opened, Page, Bad, openWord, outcomeOf, sessionAfter, wordAfter}
 
 -- marks are function numbers
@@ -36,12 +41,33 @@ pub record Settling (σ : Session) (o : Opened) (r : Arrived) : Type 0 where
   pub outcome : r .outcome ≡ outcomeOf σ o
   pub session : r .session ≡ sessionAfter σ o
 
+-- the tests of a session in their order, from its shape and whether its figures agree
+abbrev pub sessionTests : Shape → Bool → Status
+sessionTests s agree = unless (lawful s) (status.Refused (shapeRefusal s)) (unless agree (status.Refused Refusal.Figures) Done)
+
+-- those of an arrival that names way k, and those of its word
+abbrev pub arrivalTests : Shape → ℕ → Bool → Status
+arrivalTests s k agree =
+    unless (isWay k) (status.Refused Refusal.Shape) (past (sessionTests s agree) status.Refused (unless (wayOf k .suits s) (status.Refused Refusal.Directions) Done))
+
+abbrev pub wordTests : Shape → ℕ → Bool → List ℕ → List ℕ → Status
+wordTests s k agree word scratch =
+    past (arrivalTests s k agree) status.Refused
+    (unless (eqb (length word) (wordLength s) && eqb (length scratch) (scratchLength s)) (status.Refused Refusal.Length) Done)
+
 -- the session and the way have passed tests 1, 18, 11 and 16
 pub record Admitted (σ : Session) (k : ℕ) : Type 0 where
   pub known : isWay k ≡ true
   pub lawful : Lawful (σ .shape)
   pub consistent : Consistent σ
   pub suits : wayOf k .suits (σ .shape) ≡ true
+
+-- the shape, the way and the word have passed tests 1, 18, 16 and 2
+pub record Openable (s : Shape) (k : ℕ) (word : List ℕ) : Type 0 where
+  pub known : isWay k ≡ true
+  pub lawful : Lawful s
+  pub suits : wayOf k .suits s ≡ true
+  pub size : length word ≡ wordLength s
 
 -- a word read some way: its answer, and the word that it gives
 pub record Reading (way : Way) (s : Shape) (w w′ : List ℕ) (r : Decoded) : Type 0 where
@@ -55,7 +81,17 @@ openedBy way s word = openWord s (way .word s word) (way .answer s word)
 -- what the answer of the first step tells: the marks are the symbols from place 2 on
 abbrev pub told : Opening → List ℕ → Opened
 told (opening.Page number c k) symbols = Page number (take c (drop 2 symbols)) k
-told (opening.Refused e) symbols = Bad e
+told (opening.Refused e restored) symbols = Bad e
+
+-- the word was read, so that it stands restored
+abbrev pub isRestored : Opening → Bool
+isRestored (opening.Page number c k) = true
+isRestored (opening.Refused e restored) = restored
+
+-- it brings a page
+abbrev pub isPage : Opening → Bool
+isPage (opening.Page number c k) = true
+isPage (opening.Refused e restored) = false
 
 -- a page that the last step may be taken with: its number has a place, its marks stand among the symbols and are function numbers
 pub record Readable (number c : ℕ) (symbols : List ℕ) : Type 0 where
@@ -68,33 +104,18 @@ pub record Tells (o : Opened) (symbols : List ℕ) (r : Opening) : Type 0 where
   pub brought : told r symbols ≡ o
   pub readable : (number c k : ℕ) → r ≡ opening.Page number c k → Readable number c symbols
 
--- the first step of an arrival: where it brings a page, the word stands restored
+-- the first step of an arrival
 pub record Opens (way : Way) (s : Shape) (word word′ symbols′ : List ℕ) (r : Opening) : Type 0 where
   pub tells : Tells (openedBy way s word) symbols′ r
-  pub restored : (number c k : ℕ) → r ≡ opening.Page number c k → word′ ≡ way .word s word
+  pub left : word′ ≡ cond (isRestored r) (way .word s word) word
 
--- both steps: the word is written to where the answer is taken or again
+-- the same with what came kept, and put back where it brings no page
+pub record Keeps (way : Way) (s : Shape) (word word′ came′ symbols′ : List ℕ) (r : Opening) : Type 0 where
+  pub tells : Tells (openedBy way s word) symbols′ r
+  pub left : word′ ≡ cond (isPage r) (way .word s word) word
+  pub came : came′ ≡ word
+
+-- both steps: the word stands restored where the answer is taken or again
 pub record Deciding (way : Way) (σ : Session) (word word′ : List ℕ) (r : Arrived) : Type 0 where
   pub settled : Settling σ (openedBy way (σ .shape) word) r
   pub wordLeft : word′ ≡ wordAfter word (way .word (σ .shape) word) (r .outcome)
-
--- ---- a session whose page marks and counts are lent: with its shape and the figures of its marks it is whole
--- they have their lengths
-pub record Lists (taken : List Bool) (calls : List ℕ) : Type 0 where
-  pub marks : length taken ≡ 1024
-  pub counts : Counts calls
-
--- what the steps keep of them: marks stay
-pub record Keeping (taken taken′ : List Bool) (calls′ : List ℕ) : Type 0 where
-  pub lists : Lists taken′ calls′
-  pub marks : (p : ℕ) → marked taken p ≡ true → marked taken′ p ≡ true
-
--- the last step, whatever the shape
-pub record Settles (taken : List Bool) (calls : List ℕ) (o : Opened) (taken′ : List Bool) (calls′ : List ℕ) (r : Outcome) : Type 0 where
-  pub settled : (s : Shape) → Settling (figured s taken calls) o (record { session = figured s taken′ calls′; outcome = r })
-  pub keeping : Keeping taken taken′ calls′
-
--- both steps
-pub record Takes (way : Way) (s : Shape) (taken : List Bool) (calls word : List ℕ) (taken′ : List Bool) (calls′ word′ : List ℕ) (r : Outcome) : Type 0 where
-  pub decides : Deciding way (figured s taken calls) word word′ (record { session = figured s taken′ calls′; outcome = r })
-  pub keeping : Keeping taken taken′ calls′

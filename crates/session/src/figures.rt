@@ -20,7 +20,7 @@ fn marked_in(taken: &[bool; Session::PAGES], from: usize, to: usize) -> u8
 }
 
 // How many marks below a number are yes.
-pub fn marked_below(taken: &[bool; Session::PAGES], end: usize) -> u32
+fn marked_below(taken: &[bool; Session::PAGES], end: usize) -> u32
     requires { ⌜ end ≤ 1024 ⌝ }
     ensures { λ r. ⌜ r ≡ count end (marked (now (taken .entry))) ⌝ }
 {

@@ -1,22 +1,24 @@
 // The session: which pages have come, and how often each function was called.
 mod figures;
-pub mod held;
 pub mod number;
 pub mod open;
-pub mod way;
+pub mod status;
+mod way;
 
-use crate::open::open;
+use crate::open::open_kept;
+use crate::status::word_status;
 use gtb::Refusal;
 use gtb::Shape;
 use gtb::Status;
-use gtb::size::scratch_length;
-use gtb::size::word_length;
+use gtb::size::info_length;
 ghost use mathlib.Core.Path.{_≡_};
+ghost use mathlib.Core.Bool.{cond};
 ghost use Prim.Native.Nat.{_<_};
 ghost use lib.ListN.{length};
-ghost use Rattle.session.specs.Session.{Consistent, sessionStatus, countedOf, Beginning};
-ghost use Rattle.session.specs.Arrival.{wayOf, theWays, Opened, arrivalStatus, Arriving, Stepping, isAccepted};
-ghost use Rattle.session.specs.Steps.{Adding, Counts, Functions, Settling, Admitted, Deciding};
+ghost use Rattle.gtb.specs.Shape.{infoLength};
+ghost use Rattle.session.specs.Session.{consistent, Consistent, sessionStatus, countedOf, Beginning};
+ghost use Rattle.session.specs.Arrival.{wayOf, theWays, Opened, arrivalStatus, Arriving, isAccepted};
+ghost use Rattle.session.specs.Steps.{Adding, Counts, Functions, Settling, Openable, Deciding};
 
 // A session handed in from elsewhere may hold anything, a bad shape too.
 pub struct Session {
@@ -42,10 +44,10 @@ pub struct Arrived {
     pub outcome: Outcome,
 }
 
-// The answer of an arrival's first step: page number, number of marks and symbols changed, or a refusal.
+// The answer of an arrival's first step: page number, number of marks and symbols changed, the word restored; or a refusal, and whether the word was read, so that it stands restored too.
 pub enum Opening {
     Page(u32, u32, u32),
-    Refused(Refusal),
+    Refused(Refusal, bool),
 }
 
 // A fresh session beside the answer. An enum holds no array, so one stands beside a refusal too; it is of no use there.
@@ -90,34 +92,25 @@ impl Session {
         }
     }
 
+    // Both figures are what the marks say.
+    fn agrees(self) -> bool
+        ensures { λ r. ⌜ r ≡ consistent self ⌝ }
+    {
+        figures::agree(&self.taken, self.pages, self.lowest)
+    }
+
     // Tests 1, 18 and 11.
     pub fn status(self) -> Status
         ensures { λ r. ⌜ r ≡ sessionStatus self ⌝ }
     {
-        let shape = self.shape;
-        if !gtb::is_lawful(shape) {
-            return Status::Refused(gtb::shape_refusal(shape));
-        }
-        if !figures::agree(&self.taken, self.pages, self.lowest) {
-            return Status::Refused(Refusal::Figures);
-        }
-        Status::Done
+        status::session_status(self.shape, self.agrees())
     }
 
     // Tests 1, 18, 11 and 16, for arrivals that name this way.
     pub fn arrival_status(self, way: u32) -> Status
         ensures { λ r. ⌜ r ≡ arrivalStatus theWays self way ⌝ }
     {
-        if !way::is_way(way) {
-            return Status::Refused(Refusal::Shape);
-        }
-        if let Status::Refused(e) = self.status() {
-            return Status::Refused(e);
-        }
-        if !way::suits(self.shape, way) {
-            return Status::Refused(Refusal::Directions);
-        }
-        Status::Done
+        status::arrival_status(self.shape, way, self.agrees())
     }
 
     // How often a function was called: tests 1, 18, 11, then 7.
@@ -135,14 +128,16 @@ impl Session {
         Counted::Calls(calls[at])
     }
 
-    // An arrival, read the way that it names.
+    // An arrival, read the way that it names. Past test 2 every answer leaves the scratch cleared.
     pub fn arrive(self, way: u32, word: &mut [u32], scratch: &mut [u32]) -> Arrived
         ensures { λ r. ⌜ Arriving theWays self way (now (word .entry)) (now (scratch .entry)) (now (word .exit)) (now (scratch .exit)) r ⌝ }
     {
-        if let Status::Refused(e) = self.arrival_status(way) {
+        let agree = self.agrees();
+        if let Status::Refused(e) = word_status(self.shape, way, agree, word, scratch) {
             return self.refused(e);
         }
-        self.settle_word(way, word, scratch)
+        gtb::clear(scratch);
+        self.take_word(way, word)
     }
 
     // Turned down: the session is as it was.
@@ -155,40 +150,36 @@ impl Session {
         }
     }
 
-    // A word that arrives, past tests 1, 18, 11 and 16: test 2, then both steps. Past test 2 every answer leaves the scratch cleared.
-    fn settle_word(self, way: u32, word: &mut [u32], scratch: &mut [u32]) -> Arrived
-        requires { ⌜ Admitted self way ⌝ }
-        ensures { λ r. ⌜ Stepping theWays self way (now (word .entry)) (now (scratch .entry)) (now (word .exit)) (now (scratch .exit)) r ⌝ }
-    {
-        let shape = self.shape;
-        let size = word_length(shape);
-        if word.len() != size {
-            return self.refused(Refusal::Length);
-        }
-        if scratch.len() != scratch_length(shape) {
-            return self.refused(Refusal::Length);
-        }
-        gtb::clear(scratch);
-        let mut copied = [0u32; 961];
-        self.settle_copy(way, word, &mut copied[..size])
-    }
-
-    // Both steps, on a copy: the word is written only once the answer is known to be taken or again.
-    fn settle_copy(self, way: u32, word: &mut [u32], copied: &mut [u32]) -> Arrived
-        requires { ⌜ Admitted self way × (length (now copied) ≡ length (now word)) ⌝ }
+    // Both steps past all tests, with room for what came and for the information symbols.
+    fn take_word(self, way: u32, word: &mut [u32]) -> Arrived
+        requires { ⌜ Consistent self × Openable (self .shape) way (now word) ⌝ }
         ensures { λ r. ⌜ Deciding (wayOf way) self (now (word .entry)) (now (word .exit)) r ⌝ }
     {
+        let size = word.len();
+        let info = info_length(self.shape);
+        let mut came = [0u32; 961];
         let mut symbols = [0u32; 900];
-        gtb::copy(word, copied);
-        match open(self.shape, way, copied, &mut symbols) {
-            Opening::Refused(e) => self.refused(e),
+        self.settle_word(way, word, &mut came[..size], &mut symbols[..info])
+    }
+
+    // The same where that room is lent.
+    fn settle_word(
+        self,
+        way: u32,
+        word: &mut [u32],
+        came: &mut [u32],
+        symbols: &mut [u32],
+    ) -> Arrived
+        requires { ⌜ Consistent self × Openable (self .shape) way (now word) × (length (now came) ≡ length (now word)) × (length (now symbols) ≡ infoLength (self .shape)) ⌝ }
+        ensures { λ r. ⌜ Deciding (wayOf way) self (now (word .entry)) (now (word .exit)) r ⌝ }
+    {
+        match open_kept(self.shape, way, word, came, symbols) {
+            Opening::Refused(e, _) => self.refused(e),
             Opening::Page(number, count, corrected) => {
                 let end = 2 + count as usize;
                 let arrived = self.settled(number, corrected, &symbols[2..end]);
                 let outcome = arrived.outcome;
-                if accepts(outcome) {
-                    gtb::copy(copied, word);
-                }
+                put_back(outcome, came, word);
                 arrived
             }
         }
@@ -244,6 +235,16 @@ fn add_marks(calls: &mut [u32; Session::FUNCTIONS], marks: &[u32]) -> bool
         i += 1;
     }
     true
+}
+
+// A page that is refused after all, by 9: what came is put back.
+pub fn put_back(outcome: Outcome, came: &[u32], word: &mut [u32])
+    requires { ⌜ length (now came) ≡ length (now word) ⌝ }
+    ensures { λ _. ⌜ now (word .exit) ≡ cond (isAccepted outcome) (now (word .entry)) (now (came .entry)) ⌝ }
+{
+    if !accepts(outcome) {
+        gtb::copy(came, word);
+    }
 }
 
 // The outcome is taken or again.

@@ -2,6 +2,7 @@
 use crate::Counted;
 use crate::Outcome;
 ghost use mathlib.Core.Path.{_≡_};
+ghost use lib.ListN.{length};
 ghost use Rattle.session.specs.Session.{countedNumber};
 ghost use Rattle.session.specs.Arrival.{outcomeValues};
 
@@ -24,4 +25,13 @@ pub fn outcome(outcome: Outcome) -> [u32; 3]
         Outcome::Again(page, corrected) => [1, page, corrected],
         Outcome::Refused(e) => [2, gtb::number::refusal(e), 0],
     }
+}
+
+// They, written where they are wanted.
+pub fn put_outcome(outcome: Outcome, values: &mut [u32])
+    requires { ⌜ length (now values) ≡ 3 ⌝ }
+    ensures { λ _. ⌜ now (values .exit) ≡ outcomeValues outcome ⌝ }
+{
+    let three = crate::number::outcome(outcome);
+    gtb::copy(&three, values);
 }

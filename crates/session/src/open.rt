@@ -3,37 +3,57 @@ use crate::Opening;
 use crate::way::read_word;
 use correction::Decoded;
 use gtb::Shape;
-use gtb::size::info_length;
 use page::PageRead;
+use page::read_narrow;
 ghost use mathlib.Core.Path.{_≡_};
 ghost use mathlib.Core.Bool.{true};
 ghost use lib.ListN.{length};
-ghost use Rattle.gtb.specs.Shape.{Lawful, wordLength, infoLength};
-ghost use Rattle.session.specs.Arrival.{isWay, wayOf, openWord};
-ghost use Rattle.session.specs.Steps.{Tells, Opens};
+ghost use Rattle.gtb.specs.Shape.{Lawful, infoLength};
+ghost use Rattle.gtb.specs.Square.{Word};
+ghost use Rattle.session.specs.Arrival.{wayOf, openWord};
+ghost use Rattle.session.specs.Steps.{Tells, isRestored, Openable, Opens, Keeps};
 
 // The page in a word that was read.
-pub fn find_page(shape: Shape, word: &[u32], symbols: &mut [u32], corrected: u32) -> Opening
-    requires { ⌜ Lawful shape × (length (now word) ≡ wordLength shape) × (length (now symbols) ≡ infoLength shape) ⌝ }
-    ensures { λ r. ⌜ Tells (openWord shape (now (word .entry)) (Decoded.Corrected corrected)) (now (symbols .exit)) r ⌝ }
+fn find_page(shape: Shape, word: &[u32], symbols: &mut [u32], corrected: u32) -> Opening
+    requires { ⌜ Lawful shape × Word shape (now word) × (length (now symbols) ≡ infoLength shape) ⌝ }
+    ensures { λ r. ⌜ Tells (openWord shape (now (word .entry)) (Decoded.Corrected corrected)) (now (symbols .exit)) r × (isRestored r ≡ true) ⌝ }
 {
     gtb::gather(shape, word, symbols);
-    match page::read_page(shape, symbols) {
-        PageRead::Refused(e) => Opening::Refused(e),
+    match read_narrow(shape, symbols) {
+        PageRead::Refused(e) => Opening::Refused(e, true),
         PageRead::Page(number, count) => Opening::Page(number, count, corrected),
     }
 }
 
-// A word read the way that is named. Where it brings a page, it stands restored, and the marks are the symbols from place 2 on.
+// A word past tests 1, 18, 16 and 2, read the way that is named. Where it brings a page, the marks are the symbols from place 2 on.
 pub fn open(shape: Shape, way: u32, word: &mut [u32], symbols: &mut [u32]) -> Opening
-    requires { ⌜ (isWay way ≡ true) × (length (now symbols) ≡ 900) ⌝ }
+    requires { ⌜ Openable shape way (now word) × (length (now symbols) ≡ infoLength shape) ⌝ }
     ensures { λ r. ⌜ Opens (wayOf way) shape (now (word .entry)) (now (word .exit)) (now (symbols .exit)) r ⌝ }
 {
     match read_word(shape, way, word) {
-        Decoded::Refused(e) => Opening::Refused(e),
-        Decoded::Corrected(corrected) => {
-            let count = info_length(shape);
-            find_page(shape, word, &mut symbols[..count], corrected)
-        }
+        Decoded::Refused(e) => Opening::Refused(e, false),
+        Decoded::Corrected(corrected) => find_page(shape, word, symbols, corrected),
     }
+}
+
+// The same for a word that is to stay as it came where it brings no page: what came is kept beside it, and put back.
+pub fn open_kept(
+    shape: Shape,
+    way: u32,
+    word: &mut [u32],
+    came: &mut [u32],
+    symbols: &mut [u32],
+) -> Opening
+    requires { ⌜ Openable shape way (now word) × (length (now came) ≡ length (now word)) × (length (now symbols) ≡ infoLength shape) ⌝ }
+    ensures { λ r. ⌜ Keeps (wayOf way) shape (now (word .entry)) (now (word .exit)) (now (came .exit)) (now (symbols .exit)) r ⌝ }
+{
+    gtb::copy(word, came);
+    let opening = open(shape, way, word, symbols);
+    if let Opening::Refused(e, restored) = opening {
+        if restored {
+            gtb::copy(came, word);
+        }
+        return Opening::Refused(e, false);
+    }
+    opening
 }

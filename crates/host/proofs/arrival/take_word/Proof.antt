@@ -1,53 +1,41 @@
--- `host::arrival::take_word` meets its contract: what came is put back where the page is refused.
+-- `host::arrival::take_word` meets its contract: a short word fits the arrays, and a long one's scratch takes what came.
+use mathlib.Core.Path.{sym, _∙_}
+use Prim.Native.Nat.{_≤_}
 use native.Mathlib.Omega.{arith}
+use lib.ListN.{length}
+use lib.Seq.{length-take-le}
 use borrow.Author.Needs.{needs}
-use Rattle.session.proofs.Opens.{opens-size}
-use Rattle.host.proofs.Answers.{read-refused, read-undone, read-kept}
+use Rattle.gtb.proofs.Sizes.{sizes}
+use Rattle.host.proofs.Room.{long-scratch, few-data}
 use Rattle.host.proofs.arrival.take_word.Statement.{statement}
 use Rattle.host.proofs.arrival.take_word.Tie as tie
 
-abbrev copied : tie.After-read-word → tie.After-copy
-copied c = c .before .before .before .before
+abbrev start : tie.After-info-length → tie.Start
+start c = c .before .before .before .before
 
-abbrev start : tie.After-read-word → tie.Start
-start c = copied c .before .before .before .before .before .before
+few-room : (c : tie.Then1) → c .before .info-length .result ≤ 144
+few-room c =
+    let o = start (c .before) .pre .0 .openable in
+    omega (arith, c .before .info-length .ensures, few-data _ (o .lawful) (omega (arith, c .if1 .taken, o .size)))
 
-abbrev read : tie.After-corrected → tie.After-read-word
-read c = c .before .before .before .before
+settle-word-requires : tie.Need-settle-word-requires
+settle-word-requires c κs =
+    let short = c .before .before .before .before in
+    (start (short .before) .pre .0, length-take-le _ _ (short .if1 .taken), length-take-le _ _ (few-room short) ∙ short .before .info-length .ensures)
 
-settle-page-requires : tie.Need-settle-page-requires
-settle-page-requires c κs =
-    let accepted = c .before .before .before in
-    let fit = start (read accepted) .pre .0 in
-    (fit .size, fit .admitted .consistent, rw (fit .shape) at (fit .admitted .lawful), opens-size _ _ (read accepted .read-word .ensures) (accepted .corrected .given .1))
+scratch-room : (c : tie.Else1) → length (start (c .before) .args .word .now) ≤ length (start (c .before) .args .scratch .now)
+scratch-room c =
+    let s = start (c .before) in
+    let o = s .pre .0 .openable in
+    omega (arith, long-scratch _ (o .lawful) (omega (arith, c .if1 .left, o .size)), o .size, s .pre .1)
 
-copy-requires-2 : tie.Need-copy-requires-2
-copy-requires-2 c κs =
-    let accepted = c .before .before .before .before .before .before .before .before .before .before in
-    let at = read accepted in
-    omega (arith, copied at .copy .kept .1 .0, at .read-word .kept .1 .1 .0, start at .pre .1)
+info-room : (c : tie.After-info-length) → c .info-length .result ≤ 900
+info-room c = omega (arith, c .info-length .ensures, sizes _ (start c .pre .0 .openable .lawful) .info)
 
-returns : tie.Need-returns
-returns c =
-    let refused = c .before in
-    let at = refused .before .before .before .before in
-    read-refused _ _ (start at .pre .0 .shape) (at .read-word .ensures) (refused .e .given .1)
-
-returns-2 : tie.Need-returns-2
-returns-2 c =
-    let put = c .before .before in
-    let told = put .before .before .before in
-    let settled = told .before .before .before .before in
-    let accepted = settled .before .before .before .before in
-    let at = read accepted in
-    read-undone _ _ (start at .pre .0 .shape) (at .read-word .ensures) (accepted .corrected .given .1) _ (settled .settle-page .ensures) (told .enum-told .given .1) (start at .pre .1) (copied at .copy .ensures) (at .read-word .kept .1 .1 .0) (put .copy2 .ensures)
-
-returns-3 : tie.Need-returns-3
-returns-3 c =
-    let settled = c .before .before .before in
-    let accepted = settled .before .before .before .before in
-    let at = read accepted in
-    read-kept _ _ (start at .pre .0 .shape) (at .read-word .ensures) (accepted .corrected .given .1) (settled .settle-page .ensures) (c .match2 .keys2)
+settle-word-requires-2 : tie.Need-settle-word-requires-2
+settle-word-requires-2 c κs =
+    let long = c .before .before .before .before in
+    (start (long .before) .pre .0, length-take-le _ _ (scratch-room long), length-take-le _ _ (info-room (long .before)) ∙ long .before .info-length .ensures)
 
 pub take-word-spec : {M : Type 1} → statement M
-take-word-spec = tie.close (tie.spec (λ c κs. search needs) (λ c κs. search needs) (λ c. search needs) (λ c. search needs) settle-page-requires (λ c. search needs) copy-requires-2 (λ c. search needs) (λ c. search needs) returns (λ c. search needs) (λ c. search needs) (λ c. search needs) returns-2 (λ c. search needs) (λ c. search needs) (λ c. search needs) returns-3)
+take-word-spec = tie.close (tie.spec (λ c κs. c .before .before .before .pre .0 .openable .lawful) (λ c. c .before .before .if1 .taken) (λ c. sym (length-take-le _ _ (c .before .before .before .if1 .taken))) (λ c. few-room (c .before .before .before)) (λ c. sym (length-take-le _ _ (few-room (c .before .before .before .before)))) settle-word-requires (λ c. search needs) (λ c. search needs) (λ c. search needs) (λ c. scratch-room (c .before .before)) (λ c. sym (length-take-le _ _ (scratch-room (c .before .before .before)))) (λ c. info-room (c .before .before .before .before)) (λ c. sym (length-take-le _ _ (info-room (c .before .before .before .before .before)))) settle-word-requires-2 (λ c. search needs) (λ c. search needs) (λ c. search needs) (λ c. search needs))

@@ -4,7 +4,6 @@ use borrow.Author.Needs.{needs}
 use Rattle.lines.proofs.Contents.{content-none}
 use Rattle.session.proofs.Opens.{tells-refused}
 use Rattle.judge.specs.Judge.{broughtBy}
-use Rattle.judge.proofs.Judges.{line-opened}
 use Rattle.judge.proofs.glance.open_line.Statement.{statement}
 use Rattle.judge.proofs.glance.open_line.Tie as tie
 
@@ -15,9 +14,9 @@ returns c =
 
 returns-2 : tie.Need-returns-2
 returns-2 c =
-    let parsed = c .before .before .before .before .before .before .before .before .before .parse .ensures in
+    let parsed = c .before .before .before .before .before .before .before .before .parse .ensures in
     let opened = c .before .before .open-values in
-    (line-opened _ (parsed .accepted _ (c .before .before .before .before .before .before .before .count .given .1)) (parsed .size) (c .before .before .before .before .before .cut .ensures) (opened .ensures), opened .kept .1 .0 ∙ parsed .size)
+    (opened .ensures _ (parsed .accepted _ (c .before .before .before .before .before .before .count .given .1)), opened .kept .1 .0 ∙ parsed .size)
 
 pub open-line-spec : {M : Type 1} → statement M
-open-line-spec = tie.close (tie.spec (λ c κs. search needs) (λ c. search needs) (λ c. search needs) returns (λ c κs. search needs) (λ c κs. search needs) (λ c. search needs) returns-2)
+open-line-spec = tie.close (tie.spec (λ c κs. search needs) (λ c. search needs) (λ c. search needs) returns (λ c κs. (c .before .before .before .before .before .parse .ensures .size, c .before .before .before .before .before .before .before .before .before .pre .1)) (λ c. search needs) returns-2)

@@ -1,30 +1,16 @@
--- `session::Session::arrival_status` meets its contract: the tests turn down in the order of `arrivalStatus`.
-use mathlib.Core.Path.{_≡_, sym, _∙_}
-use mathlib.Core.Bool.{true}
-use borrow.Author.Tests.{not-true, not-false}
+-- `session::Session::arrival_status` meets its contract.
+use mathlib.Core.Path.{ap, _∙_}
+use mathlib.Core.Bool.{Bool}
 use borrow.Author.Needs.{needs}
-use Rattle.session.specs.Arrival.{isWay, arrivalStatus}
+use Rattle.session.specs.Session.{sessionStatus}
+use Rattle.session.specs.Arrival.{arrivalStatus}
+use Rattle.session.specs.Steps.{arrivalTests}
 use Rattle.session.proofs.Session.arrival_status.Statement.{statement}
 use Rattle.session.proofs.Session.arrival_status.Tie as tie
 
-known : (c : tie.Else1) → isWay (c .before .before .args .way) ≡ true
-known c = sym (c .before .is-way .ensures) ∙ not-false _ (c .if1 .left)
-
 returns : tie.Need-returns
-unfolding arrivalStatus
-returns c = rw (sym (c .before .is-way .ensures) ∙ not-true _ (c .if1 .taken))
-
-returns-2 : tie.Need-returns-2
-unfolding arrivalStatus
-returns-2 c = rw (known (c .before .before .before .before), sym (c .before .before .before .status .ensures) ∙ c .before .e .given .1)
-
-returns-3 : tie.Need-returns-3
-unfolding arrivalStatus
-returns-3 c = rw (known (c .before .before .before .before .before), sym (c .before .before .before .before .status .ensures) ∙ c .before .before .enum-told .given .1, sym (c .before .suits .ensures) ∙ not-true _ (c .if2 .taken))
-
-returns-4 : tie.Need-returns-4
-unfolding arrivalStatus
-returns-4 c = rw (known (c .before .before .before .before .before), sym (c .before .before .before .before .status .ensures) ∙ c .before .before .enum-told .given .1, sym (c .before .suits .ensures) ∙ not-false _ (c .if2 .left))
+unfolding arrivalStatus sessionStatus
+returns c = c .arrival-status .ensures ∙ ap (λ (agree : Bool). arrivalTests (c .before .before .args .self .shape) (c .before .before .args .way) agree) (c .before .agrees .ensures)
 
 pub arrival-status-spec : {M : Type 1} → statement M
-arrival-status-spec = tie.close (tie.spec (λ c κs. search needs) returns (λ c κs. search needs) (λ c. search needs) returns-2 (λ c. search needs) (λ c κs. search needs) returns-3 returns-4)
+arrival-status-spec = tie.close (tie.spec (λ c κs. search needs) (λ c κs. search needs) returns)

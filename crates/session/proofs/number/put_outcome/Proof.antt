@@ -1,11 +1,11 @@
--- `host::crossing::put_outcome` meets its contract: the copy fills the slice.
+-- `session::number::put_outcome` meets its contract: the copy fills the slice.
 use mathlib.Core.Path.{sym, ap, _∙_}
 use lib.ListN.{length}
 use borrow.Author.Needs.{needs}
 use Rattle.session.proofs.Arrive.{whole-copy}
 use Rattle.session.proofs.Joins.{outcome-size}
-use Rattle.host.proofs.crossing.put_outcome.Statement.{statement}
-use Rattle.host.proofs.crossing.put_outcome.Tie as tie
+use Rattle.session.proofs.number.put_outcome.Statement.{statement}
+use Rattle.session.proofs.number.put_outcome.Tie as tie
 
 returns : tie.Need-returns
 returns c =
