@@ -16,43 +16,51 @@ use syndrome::syndromes;
 use system::ask;
 use system::mark_places;
 ghost use mathlib.Core.Path.{_≡_};
+ghost use mathlib.Core.List.{List};
+ghost use Prim.Native.Nat.{ℕ};
 ghost use lib.ListN.{length};
 ghost use Rattle.gtb.specs.Shape.{Lawful, wordLength, scratchLength};
-ghost use Rattle.gtb.specs.Square.{Word};
+ghost use Rattle.gtb.specs.Square.{Word, Syndromes};
 ghost use Rattle.erasure.specs.Fill.{Decision, Filling};
 ghost use Rattle.erasure.specs.Steps.{Places, Solution, PlacesTested};
 
-// The changes at the places that make the word a codeword: how many such lists of changes there are, and the one.
+// The changes at the places that make a word with these syndromes a codeword: how many such lists of changes there are, and the one.
 // Unknown k is the change at place k, so that a row needs as many bits as there are places.
 fn solve(
     shape: Shape,
-    word: &[u32],
+    syn: &[u32; 248],
     places: &[u32],
     scratch: &mut [u32],
     changes: &mut [u32; 248],
 ) -> Outcome
-    requires { ⌜ Lawful shape × Word shape (now word) × Places (wordLength shape) (now places)
+    requires { ⌜ Lawful shape × Places (wordLength shape) (now places)
         × (length (now scratch) ≡ scratchLength shape) × (length (now changes) ≡ 248) ⌝ }
-    ensures { λ r. ⌜ Solution shape (now (word .entry)) (now (places .entry)) r (now (changes .exit)) ⌝ }
+    ensures { λ r.
+        ⌜ ((word : List ℕ) → Word shape word → Syndromes shape word (now (syn .entry)) → Solution shape word (now (places .entry)) r (now (changes .exit))) ⌝ }
 {
     let rows = kept_checks(shape);
     let count = places.len();
     let width = (count + 31) / 32;
     gtb::clear(scratch);
     mark_places(shape, width, scratch, places);
-    let syn = syndromes(shape, word);
-    ask(shape, &syn, changes);
+    ask(shape, syn, changes);
     eliminate(rows, width, count, scratch, changes)
 }
 
-// Tests 13 and 14: the word is written only if there is no choice.
-pub fn decide(shape: Shape, word: &mut [u32], places: &[u32], scratch: &mut [u32]) -> Decoded
+// Tests 13 and 14, by the word's syndromes: the word is written only if there is no choice.
+pub fn decide(
+    shape: Shape,
+    word: &mut [u32],
+    syn: &[u32; 248],
+    places: &[u32],
+    scratch: &mut [u32],
+) -> Decoded
     requires { ⌜ Lawful shape × Word shape (now word) × Places (wordLength shape) (now places)
-        × (length (now scratch) ≡ scratchLength shape) ⌝ }
+        × (length (now scratch) ≡ scratchLength shape) × Syndromes shape (now word) (now syn) ⌝ }
     ensures { λ r. ⌜ Decision shape (now (word .entry)) (now (places .entry)) (now (word .exit)) r ⌝ }
 {
     let mut changes = [0u32; 248];
-    let outcome = solve(shape, word, places, scratch, &mut changes);
+    let outcome = solve(shape, syn, places, scratch, &mut changes);
     match outcome {
         Outcome::Unsolvable => Decoded::Refused(Refusal::Unfillable),
         Outcome::Ambiguous => Decoded::Refused(Refusal::Ambiguous),
@@ -74,7 +82,8 @@ fn judge(shape: Shape, word: &mut [u32], places: &[u32], scratch: &mut [u32]) ->
     if !is_rising(places, word_length(shape)) {
         return Decoded::Refused(Refusal::Places);
     }
-    decide(shape, word, places, scratch)
+    let syn = syndromes(shape, word);
+    decide(shape, word, &syn, places, scratch)
 }
 
 // Filling in: tests 1, 18, 2, then the others. From test 3 on the scratch ends as zeros.

@@ -58,24 +58,25 @@ pub sought-as : {s : Shape} {k : ℕ} {word now places word′ : List ℕ} {r : 
 sought-as {s} {k} {places = places} {word′} {r} same h = subst (λ (w : List ℕ). Sought s k w places word′ r (λ v. ⊥)) same h
 
 -- ---- where it begins
-pub node-first : {s : Shape} {word places seen₀ touched₀ seen touched : List ℕ} {k : ℕ} → Lawful s → Word s word → Places (wordLength s) places → length places < 2 * s .n
-    → Syndromes s word seen₀ → length touched₀ ≡ 248 → HidesAll s places seen₀ touched₀ seen touched → k ≤ (2 * s .n - 1 - length places) / 2 → Node s word places seen touched k
+pub node-first : {s : Shape} {word places syn touched₀ seen touched : List ℕ} {k : ℕ} → Lawful s → Word s word → Places (wordLength s) places → length places < 2 * s .n
+    → Syndromes s word syn → length touched₀ ≡ 248 → HidesAll s places syn touched₀ seen touched → k ≤ (2 * s .n - 1 - length places) / 2 → Node s word syn places seen touched k
 node-first {word = word} {touched₀ = touched₀} law hw list less y size h l = record {
   law = law;
   came = hw;
+  computed = y;
   listed = list;
   hidden = h .all word (hidden-none touched₀ y size);
   few = omega arith;
 }
 
 -- ---- no more is named
-pub leaf : {s : Shape} {word places seen touched : List ℕ} {k : ℕ} → Node s word places seen touched k → Leaf s word places seen
+pub leaf : {s : Shape} {word syn places seen touched : List ℕ} {k : ℕ} → Node s word syn places seen touched k → Leaf s word syn places seen
 leaf {touched = touched} node = record {
   touched = touched;
-  node = record { law = node .law; came = node .came; listed = node .listed; hidden = node .hidden; few = omega (arith, node .few) };
+  node = record { law = node .law; came = node .came; computed = node .computed; listed = node .listed; hidden = node .hidden; few = omega (arith, node .few) };
 }
 
-module _ {s : Shape} {word places seen touched : List ℕ} {k : ℕ} (node : Node s word places seen touched k) where
+module _ {s : Shape} {word syn places seen touched : List ℕ} {k : ℕ} (node : Node s word syn places seen touched k) where
   pub settle-loud : {check : ℕ} → check < s .n * s .q → NotSilent s seen check → Sought s 0 word places word (Refused Refusal.Far) (λ v. ⊥)
   settle-loud lc loud =
       lost refl (λ v c. loud-wrong s word places v (node .law) (node .came) (node .hidden) c lc (loud .nonzero lc) (λ p lp e. close-right c p lp))
@@ -106,10 +107,11 @@ module _ {s : Shape} {word places seen touched : List ℕ} {k : ℕ} (node : Nod
         omega (arith, votes s word places v (node .law) (node .came) (node .hidden) c j lj wr, h .no dull un _ (patched-wrong s word places v j lj wr))))
 
     module _ (pos : 0 < k) where
-      pub node-more : {seen′ touched′ : List ℕ} → isListed places j ≡ false → Hides s j seen touched seen′ touched′ → Node s word (places ++ (j ∷ [])) seen′ touched′ (k - 1)
+      pub node-more : {seen′ touched′ : List ℕ} → isListed places j ≡ false → Hides s j seen touched seen′ touched′ → Node s word syn (places ++ (j ∷ [])) seen′ touched′ (k - 1)
       node-more un h = record {
         law = node .law;
         came = node .came;
+        computed = node .computed;
         listed = places-more places j (node .listed) lj un;
         hidden = h .next word places (node .hidden);
         few = omega (arith, longer places j, node .few);
@@ -152,7 +154,7 @@ passed-more {s} {k} {check} {i} {j} {word} {now} {places} {e = e} same m here h 
 }
 
 -- ---- all of them
-module _ {s : Shape} {k : ℕ} {word places seen touched now : List ℕ} {r : Decoded} {e : Refusal} (node : Node s word places seen touched k)
+module _ {s : Shape} {k : ℕ} {word syn places seen touched now : List ℕ} {r : Decoded} {e : Refusal} (node : Node s word syn places seen touched k)
     (settled : Sought s 0 word places now r (λ v. ⊥)) (is : r ≡ Refused e) where
   pub search-none : k ≡ 0 → Sought s k word places now (Refused Refusal.Far) (λ v. ⊥)
   search-none z = lost (settled .left e is) (λ v c. settled .like e is v (close-within c (omega arith)))

@@ -10,7 +10,7 @@ use lib.ListN.{length}
 use Rattle.gtb.specs.declared.Shape.{Shape}
 use Rattle.gtb.specs.declared.Refusal.{Refusal}
 use Rattle.gtb.specs.Shape.{Lawful, wordLength}
-use Rattle.gtb.specs.Square.{lineOf, at, syndrome, Word}
+use Rattle.gtb.specs.Square.{lineOf, at, syndrome, Word, Syndromes}
 use Rattle.distance.specs.Distance.{differences}
 use Rattle.correction.specs.declared.Decoded.{Decoded}
 use Rattle.correction.specs.declared.Decoded.the-variants.{Corrected, Refused}
@@ -78,17 +78,18 @@ pub record Suspected (s : Shape) (places seen touched : List ℕ) (k j : ℕ) (r
 
 -- ---- the search
 -- what it starts from: 2 k + f < 2 n
-pub record Node (s : Shape) (word places seen touched : List ℕ) (k : ℕ) : Type 0 where
+pub record Node (s : Shape) (word syn places seen touched : List ℕ) (k : ℕ) : Type 0 where
   pub law : Lawful s
   pub came : Word s word
+  pub computed : Syndromes s word syn
   pub listed : Places (wordLength s) places
   pub hidden : Hidden s word places seen touched
   pub few : length places + 2 * k < 2 * s .n
 
 -- no more is to be named
-pub record Leaf (s : Shape) (word places seen : List ℕ) : Type 0 where
+pub record Leaf (s : Shape) (word syn places seen : List ℕ) : Type 0 where
   pub touched : List ℕ
-  pub node : Node s word places seen touched 0
+  pub node : Node s word syn places seen touched 0
 
 -- r is a number: the word is a close codeword, and differs in so many symbols; else it is as it came, and every close codeword is like this
 pub record Sought (s : Shape) (k : ℕ) (word places word′ : List ℕ) (r : Decoded) (Like : List ℕ → Type 0) : Type 0 where

@@ -13,6 +13,7 @@ use gtb::Shape;
 use gtb::size::scratch_length;
 use gtb::size::word_length;
 use search::find;
+use syndrome::syndromes;
 ghost use mathlib.Core.Path.{_≡_};
 ghost use Prim.Native.Nat.{_*_, _<_, _≤_};
 ghost use lib.ListN.{length};
@@ -28,7 +29,8 @@ fn fill_in(shape: Shape, word: &mut [u32], places: &[u32], scratch: &mut [u32]) 
         × (length (now scratch) ≡ scratchLength shape) × (2 * shape .n ≤ length (now places)) ⌝ }
     ensures { λ r. ⌜ Judgement shape (now (word .entry)) (now (places .entry)) (now (word .exit)) r ⌝ }
 {
-    let answer = erasure::decide(shape, word, places, scratch);
+    let syn = syndromes(shape, word);
+    let answer = erasure::decide(shape, word, &syn, places, scratch);
     match answer {
         Decoded::Corrected(changed) => Decoded::Corrected(changed),
         Decoded::Refused(e) => match e {

@@ -30,10 +30,11 @@ fn settle(
     shape: Shape,
     word: &mut [u32],
     scratch: &mut [u32],
+    syn: &[u32; 248],
     seen: &[u32; 248],
     places: &[u32],
 ) -> Decoded
-    requires { ⌜ Leaf shape (now word) (now places) (now seen) × (length (now scratch) ≡ scratchLength shape) ⌝ }
+    requires { ⌜ Leaf shape (now word) (now syn) (now places) (now seen) × (length (now scratch) ≡ scratchLength shape) ⌝ }
     ensures { λ r. ⌜ Sought shape 0 (now (word .entry)) (now (places .entry)) (now (word .exit)) r (λ v. ⊥) ⌝ }
 {
     let q = shape.q as usize;
@@ -41,7 +42,7 @@ fn settle(
     if first_not_silent(shape, seen) < n * q {
         return Decoded::Refused(Refusal::Far);
     }
-    let answer = decide(shape, word, places, scratch);
+    let answer = decide(shape, word, syn, places, scratch);
     match answer {
         Decoded::Refused(_) => Decoded::Refused(Refusal::Far),
         Decoded::Corrected(changed) => Decoded::Corrected(changed),
@@ -54,13 +55,14 @@ fn visit(
     table: &[u8],
     word: &mut [u32],
     scratch: &mut [u32],
+    syn: &[u32; 248],
     seen: &[u32; 248],
     touched: &[u32; 248],
     places: &[u32],
     k: usize,
     j: usize,
 ) -> Decoded
-    requires { ⌜ Node shape (now word) (now places) (now seen) (now touched) k × Tabled shape (now table) × (length (now scratch) ≡ scratchLength shape) × (0 < k) × (j < wordLength shape) ⌝ }
+    requires { ⌜ Node shape (now word) (now syn) (now places) (now seen) (now touched) k × Tabled shape (now table) × (length (now scratch) ≡ scratchLength shape) × (0 < k) × (j < wordLength shape) ⌝ }
     ensures { λ r.
         ⌜ Sought shape k (now (word .entry)) (now (places .entry)) (now (word .exit)) r
         (λ v. isListed (now (places .entry)) j ≡ false → at v j ≡ at (now (word .entry)) j) ⌝ }
@@ -78,6 +80,7 @@ fn visit(
         table,
         word,
         scratch,
+        syn,
         &hidden,
         &marked,
         &named[..count],
@@ -91,15 +94,16 @@ fn search(
     table: &[u8],
     word: &mut [u32],
     scratch: &mut [u32],
+    syn: &[u32; 248],
     seen: &[u32; 248],
-    touched: &[u32; 248],
+    marked: &[u32; 248],
     places: &[u32],
     k: usize,
 ) -> Decoded
-    requires { ⌜ Node shape (now word) (now places) (now seen) (now touched) k × Tabled shape (now table) × (length (now scratch) ≡ scratchLength shape) ⌝ }
+    requires { ⌜ Node shape (now word) (now syn) (now places) (now seen) (now marked) k × Tabled shape (now table) × (length (now scratch) ≡ scratchLength shape) ⌝ }
     ensures { λ r. ⌜ Sought shape k (now (word .entry)) (now (places .entry)) (now (word .exit)) r (λ v. ⊥) ⌝ }
 {
-    let settled = settle(shape, word, scratch, seen, places);
+    let settled = settle(shape, word, scratch, syn, seen, places);
     if let Decoded::Corrected(changed) = settled {
         return Decoded::Corrected(changed);
     }
@@ -113,7 +117,7 @@ fn search(
     let count = suspect_count(shape, check);
     for i in 0..count {
         let j = suspect(shape, check, i);
-        let found = visit(shape, table, word, scratch, seen, touched, places, k, j);
+        let found = visit(shape, table, word, scratch, syn, seen, marked, places, k, j);
         if let Decoded::Corrected(number) = found {
             return Decoded::Corrected(number);
         }
@@ -135,14 +139,25 @@ pub fn find(
 {
     let n = shape.n as usize;
     let most = (2 * n - 1 - places.len()) / 2;
-    let mut seen = syndromes(shape, word);
-    let mut touched = [0u32; 248];
-    hide_all(shape, table, &mut seen, &mut touched, places);
+    let syn = syndromes(shape, word);
+    let mut seen = syn;
+    let mut marked = [0u32; 248];
+    hide_all(shape, table, &mut seen, &mut marked, places);
     for k in 0..most {
-        let found = search(shape, table, word, scratch, &seen, &touched, places, k);
+        let found = search(shape, table, word, scratch, &syn, &seen, &marked, places, k);
         if let Decoded::Corrected(number) = found {
             return Decoded::Corrected(number);
         }
     }
-    search(shape, table, word, scratch, &seen, &touched, places, most)
+    search(
+        shape,
+        table,
+        word,
+        scratch,
+        &syn,
+        &seen,
+        &marked,
+        places,
+        most,
+    )
 }

@@ -36,18 +36,22 @@ returns-2 c =
 rising-passes : (c : tie.Else2) → let a = c .before .before .before .before .before .before .before .before .before .args in rising (wordLength (a .shape)) (a .places .now) ≡ true
 rising-passes c = rw (c .before .before .word-length .ensures) at (sym (c .before .is-rising .ensures) ∙ not-false _ (c .if2 .left))
 
+syndromes-requires : tie.Need-syndromes-requires
+syndromes-requires c κs = let p = c .before .before .before .before .before .before .before .before .before .before .pre in (p .0, p .1)
+
 decide-requires : tie.Need-decide-requires
 decide-requires c κs =
-    let e = c .before .before in
+    let y = c .before .before .before in
+    let e = y .before .before in
     let n = e .before .before .before in
     let s = n .before .before .before .before .before .before in
-    (s .pre .0, narrow-word _ _ (s .pre .1) (narrow-passes n), rising-places (rising-passes e), s .pre .2)
+    (s .pre .0, narrow-word _ _ (s .pre .1) (narrow-passes n), rising-places (rising-passes e), s .pre .2, y .syndromes .ensures)
 
 returns-3 : tie.Need-returns-3
 returns-3 c =
     let d = c .before .before .before .before in
-    let e = d .before .before .before in
+    let e = d .before .before .before .before .before .before in
     answers-decided (narrow-passes (e .before .before .before)) (rising-passes e) (d .decide .ensures)
 
 pub judge-spec : {M : Type 1} → statement M
-judge-spec = tie.close (tie.spec is-narrow-requires (λ c. search needs) returns (λ c κs. search needs) is-rising-requires (λ c. search needs) returns-2 decide-requires (λ c. search needs) (λ c. search needs) returns-3)
+judge-spec = tie.close (tie.spec is-narrow-requires (λ c. search needs) returns (λ c κs. search needs) is-rising-requires (λ c. search needs) returns-2 syndromes-requires decide-requires (λ c. search needs) (λ c. search needs) returns-3)

@@ -32,23 +32,23 @@ use Rattle.restore.proofs.suspects.suspect_count.Reads as suspect-count
 use Rattle.restore.proofs.search.+search+visit.{statement}
 use Rattle.restore.proofs.search.+search+visit.Tie.{close}
 
-abbrev μ-search : Measures 6 search-kinds.ps ℕ
-μ-search κs a = a .1 .1 .1 .1 .1 .1 .1 .0 + a .1 .1 .1 .1 .1 .1 .1 .0
+abbrev μ-search : Measures 7 search-kinds.ps ℕ
+μ-search κs a = a .1 .1 .1 .1 .1 .1 .1 .1 .0 + a .1 .1 .1 .1 .1 .1 .1 .1 .0
 
-abbrev μ-visit : Measures 6 visit-kinds.ps ℕ
-μ-visit κs a = a .1 .1 .1 .1 .1 .1 .1 .0 + a .1 .1 .1 .1 .1 .1 .1 .0 - 1
+abbrev μ-visit : Measures 7 visit-kinds.ps ℕ
+μ-visit κs a = a .1 .1 .1 .1 .1 .1 .1 .1 .0 + a .1 .1 .1 .1 .1 .1 .1 .1 .0 - 1
 
-abbrev search-at : ℕ → In 6 search-kinds.ps
-search-at t = and 6 search-kinds.ps (is 6 search-kinds.ps μ-search t) search′.Pre
+abbrev search-at : ℕ → In 7 search-kinds.ps
+search-at t = and 7 search-kinds.ps (is 7 search-kinds.ps μ-search t) search′.Pre
 
-abbrev search-below : ℕ → In 6 search-kinds.ps
-search-below t = and 6 search-kinds.ps (falls 6 search-kinds.ps _<_ μ-search t) search′.Pre
+abbrev search-below : ℕ → In 7 search-kinds.ps
+search-below t = and 7 search-kinds.ps (falls 7 search-kinds.ps _<_ μ-search t) search′.Pre
 
-abbrev visit-at : ℕ → In 6 visit-kinds.ps
-visit-at t = and 6 visit-kinds.ps (is 6 visit-kinds.ps μ-visit t) visit.Pre
+abbrev visit-at : ℕ → In 7 visit-kinds.ps
+visit-at t = and 7 visit-kinds.ps (is 7 visit-kinds.ps μ-visit t) visit.Pre
 
-abbrev visit-below : ℕ → In 6 visit-kinds.ps
-visit-below t = and 6 visit-kinds.ps (falls 6 visit-kinds.ps _<_ μ-visit t) visit.Pre
+abbrev visit-below : ℕ → In 7 visit-kinds.ps
+visit-below t = and 7 visit-kinds.ps (falls 7 visit-kinds.ps _<_ μ-visit t) visit.Pre
 
 abbrev search-calls : ℕ → search-lts.Claims
 search-calls t = (settle-reads.Asked, settle-reads.Learnt, too-many-not-silent-reads.Asked, too-many-not-silent-reads.Learnt, first-not-silent-reads.Asked, first-not-silent-reads.Learnt, suspect-count-reads.Asked, suspect-count-reads.Learnt, suspect-reads.Asked, suspect-reads.Learnt, visit-below t, visit.Post)
@@ -57,11 +57,11 @@ abbrev visit-calls : ℕ → visit-lts.Claims
 visit-calls t = (is-suspect-reads.Asked, is-suspect-reads.Learnt, hide-reads.Asked, hide-reads.Learnt, append-reads.Asked, append-reads.Learnt, search-below t, search′.Post)
 
 abbrev search-Inv-loop : search-lts.InvT-loop
-search-Inv-loop shape table word₀ scratch₀ seen touched places k check count i₀ word scratch i =
+search-Inv-loop shape table word₀ scratch₀ syn seen marked places k check count i₀ word scratch i =
     (i ≤ count) × (word ≡ word₀) × (length scratch ≡ scratchLength shape) × Passed shape k word₀ places check i
 
 abbrev search-μ-loop : search-lts.MeasureT-loop
-search-μ-loop shape table word₀ scratch₀ seen touched places k check count i₀ word scratch i = count - i
+search-μ-loop shape table word₀ scratch₀ syn seen marked places k check count i₀ word scratch i = count - i
 
 -- the step before the search, and what the search came from
 abbrev settled : {t : ℕ} → search-lts.After-enum-told (search-calls t) (search-at t) search′.Post search-Inv-loop search-μ-loop → search-lts.After-settle (search-calls t) (search-at t) search′.Post search-Inv-loop search-μ-loop

@@ -15,7 +15,7 @@ returns c = settle-loud (c .before .before .before .before .before .before .befo
 decide-requires : tie.Need-decide-requires
 decide-requires c κs =
     let p = c .before .before .before .before .before .before .before .before .before .pre in
-    (p .0 .node .law, p .0 .node .came, p .0 .node .listed, p .1)
+    (p .0 .node .law, p .0 .node .came, p .0 .node .listed, p .1, p .0 .node .computed)
 
 returns-2 : tie.Need-returns-2
 returns-2 c =
