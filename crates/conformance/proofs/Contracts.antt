@@ -44,6 +44,9 @@ use Rattle.majority.proofs.decode_majority.Reads as by-vote-reads
 use Rattle.double.proofs.decode_two as by-two
 use Rattle.double.proofs.decode_two.Kinds as by-two-kinds
 use Rattle.double.proofs.decode_two.Reads as by-two-reads
+use Rattle.batch.proofs.arrive_all as bundle
+use Rattle.batch.proofs.arrive_all.Kinds as bundle-kinds
+use Rattle.batch.proofs.arrive_all.Reads as bundle-reads
 use Rattle.nearest.proofs.decode_nearest as by-nearest
 use Rattle.nearest.proofs.decode_nearest.Kinds as by-nearest-kinds
 use Rattle.nearest.proofs.decode_nearest.Reads as by-nearest-reads
@@ -74,6 +77,7 @@ use Rattle.conformance.proofs.Runs.{beginning}
 use Rattle.conformance.proofs.Fills.{filling}
 use Rattle.conformance.proofs.Beyond.{nearest-reading, restoring}
 use Rattle.conformance.proofs.Looks.{looking}
+use Rattle.conformance.proofs.Bundles.{bundling}
 use Rattle.conformance.proofs.Sessions.{session-of, counting, billing}
 use Rattle.conformance.proofs.Shapes.{of}
 
@@ -157,3 +161,8 @@ pub arrives : (κs : Lfts 2) (a : ArgsD arrive.signature κs) (r : ResD arrive.s
     → length (a .0 .taken) ≡ 1024 → arrive-reads.Learnt κs a r x
     → paper.Arriving (session-of (a .0)) (record { way = a .1 .0; word = a .1 .1 .0 .now; scratch = a .1 .1 .1 .0 .now }) (record { session = session-of (r .session); word = x .1 .1 .0 .now; scratch = x .1 .1 .1 .0 .now; answer = outcomeValues (r .outcome) })
 arrives κs a r x size h = arrival (a .0) size (a .1 .1 .0 .now) (a .1 .1 .1 .0 .now) (a .1 .0) h
+
+pub bundles : (κs : Lfts 3) (a : ArgsD bundle.signature κs) (r : ResD bundle.signature κs) (x : AtExit (endedOf 3 bundle-kinds.ps bundle-kinds.r) κs)
+    → length (a .0 .taken) ≡ 1024 → bundle-reads.Learnt κs a r x
+    → paper.Bundling (session-of (a .0)) (a .1 .0) (a .1 .1 .0 .now) (a .1 .1 .1 .0 .now) (a .1 .1 .1 .1 .0 .now) (session-of (r .session)) (x .1 .1 .0 .now) (x .1 .1 .1 .0 .now) (x .1 .1 .1 .1 .0 .now) (statusNumber (r .status))
+bundles κs a r x size h = bundling (a .0) size (a .1 .0) (a .1 .1 .0 .now) (a .1 .1 .1 .0 .now) h

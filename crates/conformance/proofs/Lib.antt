@@ -15,6 +15,7 @@ pub mod Arrived
 pub mod Runs
 pub mod Demands
 pub mod Products
+pub mod Bundles
 pub mod Beyond
 pub mod Looks
 pub mod Contracts

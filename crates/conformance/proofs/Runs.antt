@@ -69,11 +69,11 @@ listed-length zero f = refl
 listed-length (suc n) f = ap suc (listed-length n (λ j. f (suc j)))
 
 -- each arrival takes the session that the one before it left
-record Steps (arrivals : List Arrival) (σ : ℕ → Session) (out : ℕ → Outcome) : Type 0 where
+pub record Steps (arrivals : List Arrival) (σ : ℕ → Session) (out : ℕ → Outcome) : Type 0 where
   pub each : (j : ℕ) → j < length arrivals → (word′ scratch′ : List ℕ)
       × Arriving theWays (σ j) (arrivalAt arrivals j .way) (arrivalAt arrivals j .word) (arrivalAt arrivals j .scratch) word′ scratch′ (record { session = σ (suc j); outcome = out j })
 
-steps-run : (arrivals : List Arrival) (σ : ℕ → Session) (out : ℕ → Outcome) → Steps arrivals σ out → Run theWays (σ 0) arrivals (listed (length arrivals) out) (σ (length arrivals))
+pub steps-run : (arrivals : List Arrival) (σ : ℕ → Session) (out : ℕ → Outcome) → Steps arrivals σ out → Run theWays (σ 0) arrivals (listed (length arrivals) out) (σ (length arrivals))
 steps-run [] σ out x = stop
 steps-run (a ∷ rest) σ out x =
     let (word′, scratch′, first) = x .each 0 (omega arith) in

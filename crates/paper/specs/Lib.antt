@@ -7,5 +7,6 @@ pub mod Page
 pub mod Session
 pub mod Recording
 pub mod Requests
+pub mod Bundle
 pub mod Beyond
 pub mod Paper
