@@ -16,6 +16,7 @@ pub mod Runs
 pub mod Demands
 pub mod Products
 pub mod Bundles
+pub mod Delivery
 pub mod Beyond
 pub mod Looks
 pub mod Contracts
