@@ -5,7 +5,7 @@ use Prim.Native.Nat.{ℕ, zero, suc, _+_, _*_, _/_, _%_, _<_, _≤_}
 use native.Mathlib.Nat.{le-of-lt, le-refl, mod-lt, div-add-mod', div-lt-iff-lt-mul, div-eq-of-eq-mul-left}
 use native.Mathlib.Decide.{decLt}
 use native.Mathlib.Omega.{arith}
-use lib.ListN.{length, getD, drop}
+use lib.ListN.{getD, drop}
 use lib.Seq.{ext-getD, getD-take, getD-drop}
 use Rattle.paper.specs.Paper as paper
 use Rattle.batch.proofs.Runs.{word-positive}

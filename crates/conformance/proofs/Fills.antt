@@ -61,7 +61,7 @@ module _ (s : Shape) where
       let small : at places i < wordLength s = ltb-true _ _ (and-left _ (all i (λ k. ltb (at places k) (at places i))) (all-elim (length places) _ h i l)) in
       omega arith
 
-  decides-places : (places : List ℕ) → Decides (rising (wordLength s) places) (paper.WrongPlaces (of s) places)
+  pub decides-places : (places : List ℕ) → Decides (rising (wordLength s) places) (paper.WrongPlaces (of s) places)
   unfolding rising
   decides-places places = record {
     holds = λ no. let (i, l, f) = all-fails (length places) _ no in unfit-place places i l f;
@@ -83,7 +83,7 @@ module _ (s : Shape) where
   agrees-paper : {word places v : List ℕ} → Agrees s word places v → paper.Agrees (of s) word places v
   agrees-paper {places = places} a = record { stored = codeword-stored s (a .codeword); same = λ j l no. a .same j l (off-listed places j no) }
 
-  paper-agrees : {word places v : List ℕ} → paper.Agrees (of s) word places v → Agrees s word places v
+  pub paper-agrees : {word places v : List ℕ} → paper.Agrees (of s) word places v → Agrees s word places v
   paper-agrees {places = places} a = record { codeword = stored-codeword s (a .stored); same = λ j l no. a .same j l (λ yes. clash (in-listed places j yes) no) }
 
   -- ---- tests 1, 18, 2, 3 and 12, as every entry with places begins
