@@ -1,8 +1,8 @@
 pub mod Texts
 pub mod Feeds
 pub mod Frames
+pub mod Countings
 pub mod Examples
-pub mod Whole
 pub mod Print
 pub mod Ranks
 pub mod Printed

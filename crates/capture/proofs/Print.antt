@@ -1,7 +1,7 @@
 -- A capture fed line by line: the answer to each word line, and the session that it leaves.
 use mathlib.Core.Path.{_≡_, refl, sym, ap, _∙_, subst}
 use mathlib.Core.Bool.{Bool, true, not, _&&_}
-use mathlib.Core.List.{List, [], _∷_, _++_, append-assoc, append-nil}
+use mathlib.Core.List.{List, [], _∷_, _++_, map, append-assoc, append-nil}
 use Prim.Native.Nat.{ℕ, zero, suc, _*_, _^_, _<_, _≤_, suc-le-suc}
 use native.Mathlib.Nat.{not-suc-le-zero, le-of-suc-le-suc, zero-lt-suc}
 use native.Mathlib.Omega.{arith}
@@ -30,12 +30,11 @@ use Rattle.session.proofs.Alikes.{shape-kept}
 use Rattle.judge.specs.declared.Phase.{Phase}
 use Rattle.judge.specs.declared.Phase.the-variants.{ShapeValues, WordNames, Words}
 use Rattle.judge.specs.declared.Tally.{Tally}
-use Rattle.judge.specs.declared.Answer.the-variants.{Line}
+use Rattle.judge.specs.declared.Answer.the-variants.{Nothing, Word}
 use Rattle.judge.specs.declared.Judged.{Judged}
-use Rattle.capture.specs.Output.{outcomeLine}
 use Rattle.judge.specs.Judge.{lineContent, passed, broughtBy, arrived, judgedOf, start}
 use Rattle.capture.specs.Feed.{after, feed}
-use Rattle.capture.specs.Print.{Unbroken, lineAt, linesText, captureText, joining, arrivalsIn, answerLines}
+use Rattle.capture.specs.Print.{Unbroken, lineAt, linesText, captureText, joining, arrivalsIn}
 use Rattle.judge.proofs.Figures.{word-consistent}
 use Rattle.judge.proofs.Judges.{short-content}
 use Rattle.capture.proofs.Feeds.{next, feed-none, feed-end, feed-run, after-after}
@@ -119,9 +118,11 @@ feed-first t line lines cut u =
     ∙ feed-end t line newline (linesText lines ++ cut) refl
 
 -- ---- the first three lines
-next-passed : (phase : Phase) (σ : Session) (bytes : List ℕ) → next (passed phase σ) bytes ≡ feed (record { phase = phase; session = σ }) [] bytes
+-- a line that is passed over is answered with nothing
+line-passed : (t : Tally) (line : List ℕ) (lines : List (List ℕ)) (cut : List ℕ) (phase : Phase) (σ : Session) → Unbroken line → judgedOf t line ≡ passed phase σ
+    → feed t [] (linesText (line ∷ lines) ++ cut) ≡ after (Nothing ∷ []) (feed (record { phase = phase; session = σ }) [] (linesText lines ++ cut))
 unfolding passed
-next-passed phase σ bytes = refl
+line-passed t line lines cut phase σ u e = feed-first t line lines cut u ∙ ap (λ (j : Judged). next j (linesText lines ++ cut)) e
 
 shape-names : judgedOf start namesShape ≡ passed ShapeValues (start .session)
 unfolding judgedOf start sameBytes
@@ -151,21 +152,14 @@ module _ (q n b : ℕ) (law : Lawful (standard q n b)) where
   shape-values σ = rw (word-content values (omega arith) (omega arith) each-small, law)
 
   pub feed-shape : (lines : List (List ℕ)) (cut : List ℕ)
-      → feed start [] (captureText q n b lines cut) ≡ feed (record { phase = Words; session = freshOf (standard q n b) }) [] (linesText lines ++ cut)
+      → feed start [] (captureText q n b lines cut)
+      ≡ after (Nothing ∷ Nothing ∷ Nothing ∷ []) (feed (record { phase = Words; session = freshOf (standard q n b) }) [] (linesText lines ++ cut))
   unfolding captureText
   feed-shape lines cut =
       let s : Shape = standard q n b in
-      let two : List ℕ = linesText (namesWord ∷ lines) ++ cut in
-      let one : List ℕ = linesText (spell values ∷ namesWord ∷ lines) ++ cut in
-      feed-first start namesShape (spell values ∷ namesWord ∷ lines) cut (test-unbroken namesShape refl)
-      ∙ ap (λ (j : Judged). next j one) shape-names
-      ∙ next-passed ShapeValues (start .session) one
-      ∙ feed-first (record { phase = ShapeValues; session = start .session }) (spell values) (namesWord ∷ lines) cut (plain-unbroken (spell values) (spell-plain values))
-      ∙ ap (λ (j : Judged). next j two) (shape-values (start .session))
-      ∙ next-passed WordNames (freshOf s) two
-      ∙ feed-first (record { phase = WordNames; session = freshOf s }) namesWord lines cut (test-unbroken namesWord refl)
-      ∙ ap (λ (j : Judged). next j (linesText lines ++ cut)) (word-names (freshOf s))
-      ∙ next-passed Words (freshOf s) (linesText lines ++ cut)
+      line-passed start namesShape (spell values ∷ namesWord ∷ lines) cut ShapeValues (start .session) (test-unbroken namesShape refl) shape-names
+      ∙ ap (after (Nothing ∷ [])) (line-passed (record { phase = ShapeValues; session = start .session }) (spell values) (namesWord ∷ lines) cut WordNames (freshOf s) (plain-unbroken (spell values) (spell-plain values)) (shape-values (start .session))
+      ∙ ap (after (Nothing ∷ [])) (line-passed (record { phase = WordNames; session = freshOf s }) namesWord lines cut Words (freshOf s) (test-unbroken namesWord refl) (word-names (freshOf s))))
 
 -- ---- the word lines
 
@@ -180,7 +174,7 @@ abbrev pub left : Session → Content → Session
 left σ c = sessionAfter σ (broughtBy (σ .shape) c)
 
 word-judged : (σ : Session) (line : List ℕ)
-    → judgedOf (words σ) line ≡ record { tally = words (left σ (lineContent line)); answer = Line (replied σ (lineContent line)) }
+    → judgedOf (words σ) line ≡ record { tally = words (left σ (lineContent line)); answer = Word (replied σ (lineContent line)) }
 unfolding judgedOf arrived
 word-judged σ line = refl
 
@@ -194,19 +188,19 @@ endOf σ [] = σ
 endOf σ (line ∷ lines) = endOf (left σ (lineContent line)) lines
 
 pub feed-lines : (lines : List (List ℕ)) (σ : Session) (cut : List ℕ) → ((i : ℕ) → i < length lines → Unbroken (lineAt lines i))
-    → feed (words σ) [] (linesText lines ++ cut) ≡ after (answerLines (answersTo σ lines)) (feed (words (endOf σ lines)) [] cut)
-unfolding linesText answerLines
+    → feed (words σ) [] (linesText lines ++ cut) ≡ after (map Word (answersTo σ lines)) (feed (words (endOf σ lines)) [] cut)
+unfolding linesText
 feed-lines [] σ cut u = refl
 feed-lines (line ∷ lines) σ cut u =
     let c : Content = lineContent line in
     let τ : Session = left σ c in
     feed-first (words σ) line lines cut (u 0 (zero-lt-suc (length lines)))
     ∙ ap (λ (j : Judged). next j (linesText lines ++ cut)) (word-judged σ line)
-    ∙ ap (after (outcomeLine (replied σ c))) (feed-lines lines τ cut (λ i l. u (suc i) (suc-le-suc l)))
-    ∙ sym (after-after (outcomeLine (replied σ c)) (answerLines (answersTo τ lines)) (feed (words (endOf τ lines)) [] cut))
+    ∙ ap (after (Word (replied σ c) ∷ [])) (feed-lines lines τ cut (λ i l. u (suc i) (suc-le-suc l)))
+    ∙ sym (after-after (Word (replied σ c) ∷ []) (map Word (answersTo τ lines)) (feed (words (endOf τ lines)) [] cut))
 
 -- what stands after the last newline is held
-pub feed-cut : (t : Tally) (cut : List ℕ) → Unbroken cut → feed t [] cut ≡ record { tally = t; held = cut; text = [] }
+pub feed-cut : (t : Tally) (cut : List ℕ) → Unbroken cut → feed t [] cut ≡ record { tally = t; held = cut; answers = [] }
 feed-cut t cut u = ap (feed t []) (sym (append-nil cut)) ∙ feed-run t cut [] [] (u .none) ∙ feed-none t cut
 
 pub answers-number : (lines : List (List ℕ)) (σ : Session) → length (answersTo σ lines) ≡ length lines

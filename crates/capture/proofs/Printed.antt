@@ -1,13 +1,14 @@
 -- What the program writes for a capture of a recording is the recording's own tally (RULES 7.4).
-use mathlib.Core.Path.{_≡_, refl, sym, ap, _∙_, subst}
+use mathlib.Core.Path.{_≡_, refl, sym, ap, _∙_}
 use mathlib.Core.Bool.{Bool, true, false, cond}
 use mathlib.Core.Logic.{⊎-elim}
-use mathlib.Core.List.{List, [], _∷_, _++_, append-nil, append-assoc}
+use mathlib.Core.List.{List, [], _∷_, _++_, map, append-nil, append-assoc}
 use Prim.Native.Nat.{ℕ, zero, suc, _<_, _≤_}
 use native.Mathlib.Nat.{le-of-lt}
 use native.Mathlib.Omega.{arith}
 use lib.Dec.{eqb}
-use lib.ListN.{length, take}
+use lib.ListN.{length}
+use lib.Seq.{take-all}
 use borrow.Author.Tests.{ne-eqb}
 use Rattle.parity.proofs.Lists.{is-tabulate}
 use Rattle.parity.proofs.Tests.{either}
@@ -28,15 +29,13 @@ use Rattle.session.proofs.Demand.{made, made-begins, demand3-ways}
 use Rattle.session.proofs.Progress.{fresh-consistent}
 use Rattle.judge.specs.declared.Phase.the-variants.{Words}
 use Rattle.judge.specs.declared.Tally.{Tally}
-use Rattle.capture.specs.declared.Reader.{Reader}
-use Rattle.capture.specs.Output.{outcomeLine, refusedLine, callsText}
+use Rattle.judge.specs.declared.Answer.{Answer}
+use Rattle.judge.specs.declared.Answer.the-variants.{Nothing, Word}
+use Rattle.capture.specs.Output.{outcomeLine, refusedLine, answerText, answersText, callsText}
 use Rattle.judge.specs.Judge.{lineContent, start}
-use Rattle.capture.specs.Feed.{after, closing, written, readLimit, outputOf}
-use Rattle.capture.specs.Steps.{Finished}
-use Rattle.capture.specs.Whole.{BlockRun, joined}
+use Rattle.capture.specs.Feed.{after, feed, lastIn, closing, written, readLimit, outputOf}
 use Rattle.capture.specs.Print.{Unbroken, lineAt, captureText, arrivalOf, arrivalsIn, LineBrings, answerLines, cutLine, ownTable, Prints, tableFrom, secondTable}
-use Rattle.capture.proofs.Texts.{closing-in}
-use Rattle.capture.proofs.Whole.{read-whole, whole-output}
+use Rattle.capture.proofs.Texts.{closing-in, answers-words}
 use Rattle.capture.proofs.Print.{Plain, plain-append, plainTest, test-plain, decimal-plain, space-plain, answersTo, endOf, repliesTo, feed-shape, feed-lines, feed-cut, answers-number, fresh-end-calls, lines-run}
 use Rattle.capture.proofs.Ranks.{rank, line-stands, rank-less, line-before, line-unread}
 
@@ -111,6 +110,21 @@ module _ (s : Shape) (pages : List Sheet) (lines : List (List ℕ)) (r : Recordi
   unfolding ownTable
   end-table = ap callsText (is-tabulate 256 (tally pages (λ p. true)) (endOf (freshOf s) lines .calls) (fresh-end-calls lines s) (demand .whole))
 
+-- within the limit all of the input is read
+pub read-whole : (input : List ℕ) → length input ≤ readLimit → outputOf input ≡ written (feed start [] input)
+unfolding outputOf
+read-whole input few = ap (λ (x : List ℕ). written (feed start [] x)) (take-all readLimit input few)
+
+-- the first three lines are answered with nothing
+heads-text : (answers : List Answer) → answersText (Nothing ∷ Nothing ∷ Nothing ∷ answers) ≡ answersText answers
+unfolding answersText
+heads-text answers = refl
+
+-- the answer to a line without its newline
+cut-text : (whole : Bool) → answerText (lastIn Words whole) ≡ cond whole [] (refusedLine Refusal.Syntax)
+cut-text true = refl
+cut-text false = refl
+
 module _ (q n b : ℕ) (pages : List Sheet) (lines : List (List ℕ)) (cut : List ℕ) (r : Recording (standard q n b) pages) (unbroken : (i : ℕ) → i < length lines → Unbroken (lineAt lines i)) (last : Unbroken cut) (fits : Fits theWays (standard q n b) pages (arrivalsIn (standard q n b) lines)) (few : length (captureText q n b lines cut) ≤ readLimit) where
   the-text : outputOf (captureText q n b lines cut)
       ≡ namesOutcome ++ answerLines (answersTo (freshOf (standard q n b)) lines) ++ cutLine cut ++ ownTable pages
@@ -118,11 +132,12 @@ module _ (q n b : ℕ) (pages : List Sheet) (lines : List (List ℕ)) (cut : Lis
       let s : Shape = standard q n b in
       let end : Session = endOf (freshOf s) lines in
       let a : List ℕ = answerLines (answersTo (freshOf s) lines) in
+      let w : List Answer = map Word (answersTo (freshOf s) lines) in
       let t : Tally = record { phase = Words; session = end } in
       read-whole (captureText q n b lines cut) few
-      ∙ ap written (feed-shape q n b (r .lawful) lines cut ∙ feed-lines lines (freshOf s) cut unbroken ∙ ap (after a) (feed-cut t cut last))
-      ∙ ap (λ (x : List ℕ). namesOutcome ++ x ++ closing t cut) (append-nil a)
-      ∙ ap (λ (x : List ℕ). namesOutcome ++ a ++ x) (closing-in t cut refl ∙ ap (λ (x : List ℕ). cutLine cut ++ x) (end-table s pages lines r fits))
+      ∙ ap written (feed-shape q n b (r .lawful) lines cut ∙ ap (after (Nothing ∷ Nothing ∷ Nothing ∷ [])) (feed-lines lines (freshOf s) cut unbroken ∙ ap (after w) (feed-cut t cut last)))
+      ∙ ap (λ (x : List ℕ). namesOutcome ++ x ++ closing t cut) (heads-text (w ++ []) ∙ ap answersText (append-nil w) ∙ answers-words (answersTo (freshOf s) lines))
+      ∙ ap (λ (x : List ℕ). namesOutcome ++ a ++ x) (closing-in t cut refl ∙ ap (λ (x : List ℕ). x ++ callsText (end .calls)) (cut-text (eqb (length cut) 0)) ∙ ap (λ (x : List ℕ). cutLine cut ++ x) (end-table s pages lines r fits))
       ∙ sym (append-assoc (namesOutcome ++ a) (cutLine cut) (ownTable pages))
 
   pub printed : Prints (standard q n b) pages lines cut (outputOf (captureText q n b lines cut))
@@ -137,14 +152,6 @@ module _ (q n b : ℕ) (pages : List Sheet) (lines : List (List ℕ)) (cut : Lis
         again = again s pages lines r fits;
         whole = the-text;
       }
-
-  -- so it is however the input is cut into blocks
-  pub printed-blocks : {reader reader₂ : Reader} {buffer buffer₂ text out : List ℕ} {k : ℕ} (blocks : List (List ℕ)) → reader .tally ≡ start → reader .held ≡ 0
-      → length buffer ≡ 16384 → BlockRun reader buffer blocks text reader₂ buffer₂ → Finished reader₂ out k → joined blocks ≡ captureText q n b lines cut
-      → Prints (standard q n b) pages lines cut (namesOutcome ++ text ++ take k out)
-  printed-blocks {text} {out} {k} blocks first empty full run end same =
-      let short : length (joined blocks) ≤ readLimit = rw same few in
-      subst (Prints (standard q n b) pages lines cut) (sym (whole-output blocks first empty full run end short ∙ ap outputOf same)) printed
 
 -- ---- the second table
 

@@ -1,7 +1,6 @@
 -- Texts written one after another at the end of the output that waits.
 use mathlib.Core.Path.{_≡_, refl, sym, ap, _∙_}
-use mathlib.Core.Bool.{Bool}
-use mathlib.Core.List.{List, [], _++_, map-id, append-assoc, append-nil}
+use mathlib.Core.List.{List, [], _∷_, _++_, map, map-id, append-assoc, append-nil}
 use mathlib.Core.Logic.{⊎-elim}
 use Prim.Native.Nat.{ℕ, _+_, _*_, _^_, _≤_, _<_}
 use native.Mathlib.Numerals.{add-one}
@@ -26,9 +25,12 @@ use Rattle.session.specs.Steps.{Counts}
 use Rattle.session.proofs.Arrays.{counts}
 use Rattle.judge.specs.declared.Phase.{Phase}
 use Rattle.judge.specs.declared.Tally.{Tally}
-use Rattle.capture.specs.Output.{outcomeLine, callsFrom}
-use Rattle.capture.specs.Feed.{closing, closingIn}
-use Rattle.capture.specs.Steps.{Appended, LineSoFar, Closed}
+use Rattle.judge.specs.declared.Answer.{Answer}
+use Rattle.judge.specs.declared.Answer.the-variants.{Word}
+use Rattle.capture.specs.Output.{outcomeLine, answerText, answersText, callsFrom}
+use Rattle.capture.specs.Feed.{lastIn, tableIn, closing}
+use Rattle.capture.specs.Steps.{Appended, LineSoFar}
+use Rattle.capture.specs.Print.{answerLines}
 
 -- a text written over the output that waits stands at its end
 pub put-appended : {old text new : List ℕ} {at r : ℕ} → at + length text ≤ length old → Put old at text new r → Appended old at text new r
@@ -53,13 +55,6 @@ appended-both {old} {a} {b = b} {at = at} p q =
       front = q .front ∙ rw (p .front) (append-assoc (take at old) a b);
     }
 
--- what has been written is within the list
-pub appended-within : {old text new : List ℕ} {at r : ℕ} → at ≤ length old → Appended old at text new r → r ≤ length new
-appended-within {old} {text} {new} {at} {r} l p =
-    let e : length (take r new) ≡ length (take at old ++ text) = ap length (p .front) in
-    let h = simp (length-append, length-take) at e in
-    omega arith
-
 -- ---- the lines of the output
 -- the line of an outcome has its three values
 pub outcome-values : (r : Outcome) → outcomeLine r ≡ outcomeText (getD (outcomeValues r) 0 0) (getD (outcomeValues r) 1 0) (getD (outcomeValues r) 2 0)
@@ -81,6 +76,21 @@ pub put-outcome : {old new : List ℕ} {at r : ℕ} (kind number fixed : ℕ) �
 put-outcome kind number fixed l m fits p =
     let short = outcome-short kind number fixed l m in
     (put-appended (omega arith) p, omega arith)
+
+-- answers one after the other
+pub answers-append : (a b : List Answer) → answersText (a ++ b) ≡ answersText a ++ answersText b
+unfolding answersText
+answers-append [] b = refl
+answers-append (x ∷ a) b = ap (λ (t : List ℕ). answerText x ++ t) (answers-append a b) ∙ sym (append-assoc (answerText x) (answersText a) (answersText b))
+
+pub answers-one : (a : Answer) → answersText (a ∷ []) ≡ answerText a
+unfolding answersText
+answers-one a = append-nil (answerText a)
+
+pub answers-words : (rs : List Outcome) → answersText (map Word rs) ≡ answerLines rs
+unfolding answersText answerLines
+answers-words [] = refl
+answers-words (r ∷ rs) = ap (λ (t : List ℕ). outcomeLine r ++ t) (answers-words rs)
 
 -- ---- the counts
 -- what owning the array of counts tells
@@ -121,19 +131,14 @@ counting-writes {calls = calls} {f = f} l m k e fits p h =
       left = λ new r s. h .left new r (rw (calls-some f calls l e) (appended-both q s));
     }
 
-pub counting-ends : {old calls out : List ℕ} {at next f : ℕ} → length calls ≤ f → Counting old at calls out next f → Appended old at (callsFrom 0 calls) out next
+pub counting-ends : {old calls out : List ℕ} {at next f : ℕ} → length calls ≤ f → f ≤ 256 → Counting old at calls out next f → Appended old at (callsFrom 0 calls) out next × (next ≤ at + 5632)
 unfolding callsFrom
-counting-ends {calls = calls} {out} {next = next} {f = f} l h = h .left out next (rw (drop-of-length-le calls {i = f} l) (appended-none out next))
+counting-ends {calls = calls} {out} {next = next} {f = f} l m h = (h .left out next (rw (drop-of-length-le calls {i = f} l) (appended-none out next)), omega (arith, h .short))
 
 -- ---- the end of the input
-pub closing-in : (t : Tally) (line : List ℕ) {p : Phase} → t .phase ≡ p → closing t line ≡ closingIn p (t .session) line
+pub closing-in : (t : Tally) (line : List ℕ) {p : Phase} → t .phase ≡ p → closing t line ≡ answerText (lastIn p (eqb (length line) 0)) ++ tableIn p (t .session .calls)
 unfolding closing
 closing-in t line e = rw e
-
--- the text at the end, written from the start on
-pub closed-by : {t : Tally} {whole : Bool} {old text new : List ℕ} {r : ℕ} → ((line : List ℕ) → whole ≡ eqb (length line) 0 → closing t line ≡ text)
-    → Appended old 0 text new r → Closed t whole new r
-closed-by text p = record { output = λ line same. p .front ∙ sym (text line same); within = appended-within (omega arith) p }
 
 -- the line so far is empty when nothing is held
 pub held-none : {buffer line : List ℕ} {held : ℕ} → LineSoFar buffer held line → eqb held 0 ≡ eqb (length line) 0

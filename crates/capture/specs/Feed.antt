@@ -6,11 +6,13 @@ use lib.Dec.{eqb}
 use lib.ListN.{length, take}
 use Rattle.gtb.specs.declared.Refusal.{Refusal}
 use Rattle.lines.specs.Text.{newline, namesOutcome}
-use Rattle.session.specs.declared.Session.{Session}
+use Rattle.session.specs.declared.Outcome.the-variants.{Refused}
 use Rattle.judge.specs.declared.Phase.{Phase}
 use Rattle.judge.specs.declared.Phase.the-variants.{ShapeNames, ShapeValues, WordNames, Words, Ended}
 use Rattle.judge.specs.declared.Tally.{Tally}
-use Rattle.capture.specs.Output.{answerText, refusedLine, callsText}
+use Rattle.judge.specs.declared.Answer.{Answer}
+use Rattle.judge.specs.declared.Answer.the-variants.{Nothing, Word, Head}
+use Rattle.capture.specs.Output.{answerText, answersText, callsText}
 use Rattle.judge.specs.Judge.{judgedOf, start}
 
 -- a fault ends the program
@@ -19,46 +21,69 @@ isEnded ShapeNames = false
 isEnded ShapeValues = false
 isEnded WordNames = false
 isEnded Words = false
-isEnded Ended = true
+isEnded (Ended f) = true
 
--- what some bytes of input lead to: the tally, the bytes of the line that they end in, and the output on the way
+-- what some bytes of input lead to: the tally, the bytes of the line that they end in, and the answers on the way
 pub record Fed : Type 0 where
   pub tally : Tally
   pub held : List ℕ
-  pub text : List ℕ
+  pub answers : List Answer
 
--- the same after some output
-abbrev pub after : List ℕ → Fed → Fed
-after text r = record { tally = r .tally; held = r .held; text = text ++ r .text }
+-- the same after some answers
+abbrev pub after : List Answer → Fed → Fed
+after answers r = record { tally = r .tally; held = r .held; answers = answers ++ r .answers }
 
 -- a newline ends a line, which is judged
 unfoldable pub feed : Tally → List ℕ → List ℕ → Fed
-feed t held [] = record { tally = t; held = held; text = [] }
+feed t held [] = record { tally = t; held = held; answers = [] }
 feed t held (b ∷ bytes) =
     elim (eqb b newline) [
-      | true ↦ after (answerText (judgedOf t held .answer)) (feed (judgedOf t held .tally) [] bytes)
+      | true ↦ after (judgedOf t held .answer ∷ []) (feed (judgedOf t held .tally) [] bytes)
       | false ↦ feed t (held ++ (b ∷ [])) bytes
     ]
 
--- a last line without its newline is refused with 10, as is a missing one of the first three
-abbrev pub closingIn : Phase → Session → List ℕ → List ℕ
-closingIn ShapeNames σ held = refusedLine Refusal.Syntax
-closingIn ShapeValues σ held = refusedLine Refusal.Syntax
-closingIn WordNames σ held = refusedLine Refusal.Syntax
-closingIn Words σ held = cond (eqb (length held) 0) [] (refusedLine Refusal.Syntax) ++ callsText (σ .calls)
-closingIn Ended σ held = []
+-- a last line without its newline is refused with 10, as is a missing one of the first three; `whole` says that no line was begun
+abbrev pub lastIn : Phase → Bool → Answer
+lastIn ShapeNames whole = Head Refusal.Syntax
+lastIn ShapeValues whole = Head Refusal.Syntax
+lastIn WordNames whole = Head Refusal.Syntax
+lastIn Words whole = cond whole Nothing (Word (Refused Refusal.Syntax))
+lastIn (Ended f) whole = Nothing
+
+abbrev pub lastOf : Tally → List ℕ → Answer
+lastOf t held = lastIn (t .phase) (eqb (length held) 0)
+
+-- the second table comes once word lines are read
+abbrev pub tableIn : Phase → List ℕ → List ℕ
+tableIn ShapeNames calls = []
+tableIn ShapeValues calls = []
+tableIn WordNames calls = []
+tableIn Words calls = callsText calls
+tableIn (Ended f) calls = []
 
 -- the output at the end of the input
 unfoldable pub closing : Tally → List ℕ → List ℕ
-closing t held = closingIn (t .phase) (t .session) held
+closing t held = answerText (lastOf t held) ++ tableIn (t .phase) (t .session .calls)
+
+-- what is left to write
+abbrev pub remaining : Fed → List ℕ
+remaining r = answersText (r .answers) ++ closing (r .tally) (r .held)
 
 abbrev pub written : Fed → List ℕ
-written r = namesOutcome ++ r .text ++ closing (r .tally) (r .held)
+written r = namesOutcome ++ remaining r
 
 -- at most so many bytes are read; what follows counts as absent
 abbrev pub readLimit : ℕ
 readLimit = 2 ^ 32 - 1
 
+-- what an input leads to
+abbrev pub fedBy : List ℕ → Fed
+fedBy input = feed start [] (take readLimit input)
+
 -- what the program writes for an input
 unfoldable pub outputOf : List ℕ → List ℕ
-outputOf input = written (feed start [] (take readLimit input))
+outputOf input = written (fedBy input)
+
+-- the answers to an input, that at its end with them
+abbrev pub answersOf : List ℕ → List Answer
+answersOf input = fedBy input .answers ++ (lastOf (fedBy input .tally) (fedBy input .held) ∷ [])

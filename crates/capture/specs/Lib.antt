@@ -1,5 +1,5 @@
 pub mod Output
+pub mod Counting
 pub mod Feed
 pub mod Steps
-pub mod Whole
 pub mod Print

@@ -9,7 +9,7 @@ use Rattle.lines.specs.Text.{namesCalls, outcomeText, countText}
 use Rattle.session.specs.declared.Outcome.{Outcome}
 use Rattle.session.specs.declared.Outcome.the-variants.{Taken, Again, Refused}
 use Rattle.judge.specs.declared.Answer.{Answer}
-use Rattle.judge.specs.declared.Answer.the-variants.{Nothing, Line}
+use Rattle.judge.specs.declared.Answer.the-variants.{Nothing, Word, Head}
 
 -- outcome, page or refusal number, digits changed
 unfoldable pub outcomeLine : Outcome → List ℕ
@@ -17,12 +17,18 @@ outcomeLine (Taken number k) = outcomeText 0 number k
 outcomeLine (Again number k) = outcomeText 1 number k
 outcomeLine (Refused e) = outcomeText 2 (refusalNumber e) 0
 
-abbrev pub answerText : Answer → List ℕ
-answerText Nothing = []
-answerText (Line r) = outcomeLine r
-
 abbrev pub refusedLine : Refusal → List ℕ
 refusedLine e = outcomeLine (Refused e)
+
+abbrev pub answerText : Answer → List ℕ
+answerText Nothing = []
+answerText (Word r) = outcomeLine r
+answerText (Head e) = refusedLine e
+
+-- one after the other
+unfoldable pub answersText : List Answer → List ℕ
+answersText [] = []
+answersText (a ∷ answers) = answerText a ++ answersText answers
 
 -- function and calls from function f on, counts above zero only
 unfoldable pub callsFrom : ℕ → List ℕ → List ℕ

@@ -1,9 +1,13 @@
 // The tally program without its input and output: a capture comes in blocks of bytes, and text goes out.
+mod counting;
 mod output;
 
+use crate::counting::count_answer;
+use crate::counting::count_outcome;
+use crate::output::last_answer;
 use crate::output::put_answer;
-use crate::output::put_closing;
 use crate::output::put_line;
+use crate::output::put_table;
 use gtb::Shape;
 use judge::Phase;
 use judge::Seen;
@@ -14,16 +18,23 @@ ghost use mathlib.Core.Path.{_≡_};
 ghost use Prim.Native.Nat.{_+_, _<_, _≤_, min};
 ghost use lib.ListN.{length, take};
 ghost use Rattle.session.specs.Session.{Consistent};
-ghost use Rattle.judge.specs.Judge.{start};
 ghost use Rattle.capture.specs.Feed.{isEnded, readLimit};
 ghost use Rattle.judge.specs.Steps.{Foretold};
-ghost use Rattle.capture.specs.Steps.{End, Extended, LineEnded, BlockTaken, Finished};
+ghost use Rattle.capture.specs.Steps.{End, Begun, Extended, LineEnded, BlockTaken, Finished};
 
-// The tally, the length of the line so far, and the length of the output that waits. A line too long counts as 16,384.
+// Answers to words by kind. A number that is full stays so.
+pub struct Counts {
+    pub taken: u32,
+    pub again: u32,
+    pub refused: u32,
+}
+
+// The tally, the length of the line so far, the length of the output that waits, and the answers so far. A line too long counts as 16,384.
 pub struct Reader {
     pub tally: Tally,
     pub held: usize,
     pub at: usize,
+    pub counts: Counts,
 }
 
 // At most so many bytes are read; what follows counts as absent.
@@ -33,9 +44,10 @@ pub fn limit() -> usize
     4294967295
 }
 
-// Before the first line.
-pub fn begin() -> Reader
-    ensures { λ r. ⌜ (r .tally ≡ start) × (r .held ≡ 0) × (r .at ≡ 0) ⌝ }
+// Before the first line. The first name line waits.
+pub fn begin(out: &mut [u8]) -> Reader
+    requires { ⌜ 19 ≤ length (now out) ⌝ }
+    ensures { λ r. ⌜ Begun (now (out .entry)) (now (out .exit)) r ⌝ }
 {
     let fresh = Session::fresh(Shape {
         q: 0,
@@ -48,10 +60,16 @@ pub fn begin() -> Reader
         phase: Phase::ShapeNames,
         session,
     };
+    let at = lines::put_outcome_names(out, 0);
     Reader {
         tally,
         held: 0,
-        at: 0,
+        at,
+        counts: Counts {
+            taken: 0,
+            again: 0,
+            refused: 0,
+        },
     }
 }
 
@@ -76,7 +94,7 @@ fn line_end(held: usize) -> usize
     if held < 16384 { held } else { 0 }
 }
 
-// Judges the line and writes the answer.
+// Judges the line, writes the answer and counts it.
 fn end_line(
     reader: Reader,
     seen: Seen,
@@ -93,16 +111,29 @@ fn end_line(
     let tally = judged.tally;
     let answer = judged.answer;
     let at = put_answer(out, reader.at, answer);
-    Reader { tally, held: 0, at }
+    let counts = reader.counts;
+    let counts = count_answer(counts, answer);
+    Reader {
+        tally,
+        held: 0,
+        at,
+        counts,
+    }
 }
 
-// Takes a block. The output on the way stands at the start of `out`, which has room for it: 30 bytes for each byte of the block.
-pub fn take_block(reader: Reader, block: &[u8], line: &mut [u8], out: &mut [u8]) -> Reader
-    requires { ⌜ Consistent (reader .tally .session) × (length (now block) ≤ 16384) × (length (now line) ≡ 16384) × (length (now out) ≡ 491584) ⌝ }
-    ensures { λ r. ⌜ BlockTaken reader (now (line .entry)) (now (block .entry)) (now (line .exit)) (now (out .exit)) r ⌝ }
+// Takes a block. Its answers are written to `out` from `at` on, which has room for them: 30 bytes for each byte of the block.
+pub fn take_block(
+    reader: Reader,
+    at: usize,
+    block: &[u8],
+    line: &mut [u8],
+    out: &mut [u8],
+) -> Reader
+    requires { ⌜ Consistent (reader .tally .session) × (length (now block) ≤ 16384) × (length (now line) ≡ 16384) × (at + 491560 ≤ length (now out)) ⌝ }
+    ensures { λ r. ⌜ BlockTaken reader at (now (line .entry)) (now (block .entry)) (now (out .entry)) (now (line .exit)) (now (out .exit)) r ⌝ }
 {
     let mut reader = reader;
-    reader.at = 0;
+    reader.at = at;
     let mut values = [0u32; 1024];
     let mut symbols = [0u32; 900];
     let mut from = 0;
@@ -118,8 +149,10 @@ pub fn take_block(reader: Reader, block: &[u8], line: &mut [u8], out: &mut [u8])
         let taken = &reader.tally.session.taken;
         let seen = glance(tally, taken, line, end, &mut values, &mut symbols);
         if let Seen::Known(outcome) = seen {
+            let counts = reader.counts;
             reader.held = 0;
             reader.at = put_line(out, reader.at, outcome);
+            reader.counts = count_outcome(counts, outcome);
             continue;
         }
         reader = end_line(reader, seen, line, end, &symbols, out);
@@ -144,15 +177,27 @@ pub fn has_ended(reader: Reader) -> bool
         Phase::ShapeValues => false,
         Phase::WordNames => false,
         Phase::Words => false,
-        Phase::Ended => true,
+        Phase::Ended(_) => true,
     }
 }
 
-// The output at the end of the input.
-pub fn finish(reader: Reader, out: &mut [u8]) -> usize
-    requires { ⌜ length (now out) ≡ 491584 ⌝ }
-    ensures { λ r. ⌜ Finished reader (now (out .exit)) r ⌝ }
+// The output at the end of the input, from `at` on.
+pub fn finish(reader: Reader, at: usize, out: &mut [u8]) -> Reader
+    requires { ⌜ at + 5687 ≤ length (now out) ⌝ }
+    ensures { λ r. ⌜ Finished reader at (now (out .entry)) (now (out .exit)) r ⌝ }
 {
     let tally = reader.tally;
-    put_closing(out, tally, reader.held == 0)
+    let phase = tally.phase;
+    let answer = last_answer(phase, reader.held == 0);
+    let next = put_answer(out, at, answer);
+    let session = tally.session;
+    let end = put_table(out, next, phase, session);
+    let counts = reader.counts;
+    let counts = count_answer(counts, answer);
+    Reader {
+        tally,
+        held: reader.held,
+        at: end,
+        counts,
+    }
 }

@@ -2,13 +2,14 @@
 use gtb::Refusal;
 use judge::Answer;
 use judge::Phase;
-use judge::Tally;
 use session::Outcome;
 use session::Session;
+ghost use mathlib.Core.Path.{_≡_};
 ghost use Prim.Native.Nat.{_+_, _≤_};
 ghost use lib.ListN.{length};
 ghost use Rattle.capture.specs.Output.{outcomeLine, answerText, callsFrom, callsText};
-ghost use Rattle.capture.specs.Steps.{Appended, Closed};
+ghost use Rattle.capture.specs.Feed.{lastIn, tableIn};
+ghost use Rattle.capture.specs.Steps.{Appended};
 
 pub fn put_line(out: &mut [u8], at: usize, outcome: Outcome) -> usize
     requires { ⌜ at + 40 ≤ length (now out) ⌝ }
@@ -27,14 +28,15 @@ pub fn put_answer(out: &mut [u8], at: usize, answer: Answer) -> usize
 {
     match answer {
         Answer::Nothing => at,
-        Answer::Line(outcome) => put_line(out, at, outcome),
+        Answer::Word(outcome) => put_line(out, at, outcome),
+        Answer::Head(e) => put_line(out, at, Outcome::Refused(e)),
     }
 }
 
 // The counts above zero, in rising order.
 fn put_counts(out: &mut [u8], at: usize, calls: [u32; Session::FUNCTIONS]) -> usize
     requires { ⌜ at + 5632 ≤ length (now out) ⌝ }
-    ensures { λ r. ⌜ Appended (now (out .entry)) at (callsFrom 0 calls) (now (out .exit)) r ⌝ }
+    ensures { λ r. ⌜ Appended (now (out .entry)) at (callsFrom 0 calls) (now (out .exit)) r × (r ≤ at + 5632) ⌝ }
 {
     let mut next = at;
     for f in 0..Session::FUNCTIONS {
@@ -49,30 +51,41 @@ fn put_counts(out: &mut [u8], at: usize, calls: [u32; Session::FUNCTIONS]) -> us
 // The second table.
 fn put_calls(out: &mut [u8], at: usize, session: Session) -> usize
     requires { ⌜ at + 5647 ≤ length (now out) ⌝ }
-    ensures { λ r. ⌜ Appended (now (out .entry)) at (callsText (session .calls)) (now (out .exit)) r ⌝ }
+    ensures { λ r. ⌜ Appended (now (out .entry)) at (callsText (session .calls)) (now (out .exit)) r × (r ≤ at + 5647) ⌝ }
 {
     let calls = session.calls;
     let next = lines::put_calls_names(out, at);
     put_counts(out, next, calls)
 }
 
-// What is written at the end of the input, from the start of `out` on; `whole` says that no line was begun.
-pub fn put_closing(out: &mut [u8], tally: Tally, whole: bool) -> usize
-    requires { ⌜ 5687 ≤ length (now out) ⌝ }
-    ensures { λ r. ⌜ Closed tally whole (now (out .exit)) r ⌝ }
+// The answer at the end of the input, where one of the first three lines is missing or the last line has no newline; `whole` says that no line was begun.
+pub fn last_answer(phase: Phase, whole: bool) -> Answer
+    ensures { λ r. ⌜ r ≡ lastIn phase whole ⌝ }
 {
-    let phase = tally.phase;
     match phase {
-        Phase::Ended => 0,
+        Phase::ShapeNames => Answer::Head(Refusal::Syntax),
+        Phase::ShapeValues => Answer::Head(Refusal::Syntax),
+        Phase::WordNames => Answer::Head(Refusal::Syntax),
         Phase::Words => {
             if whole {
-                return put_calls(out, 0, tally.session);
+                return Answer::Nothing;
             }
-            let at = put_line(out, 0, Outcome::Refused(Refusal::Syntax));
-            put_calls(out, at, tally.session)
+            Answer::Word(Outcome::Refused(Refusal::Syntax))
         }
-        Phase::ShapeNames => put_line(out, 0, Outcome::Refused(Refusal::Syntax)),
-        Phase::ShapeValues => put_line(out, 0, Outcome::Refused(Refusal::Syntax)),
-        Phase::WordNames => put_line(out, 0, Outcome::Refused(Refusal::Syntax)),
+        Phase::Ended(_) => Answer::Nothing,
+    }
+}
+
+// The second table comes once word lines are read.
+pub fn put_table(out: &mut [u8], at: usize, phase: Phase, session: Session) -> usize
+    requires { ⌜ at + 5647 ≤ length (now out) ⌝ }
+    ensures { λ r. ⌜ Appended (now (out .entry)) at (tableIn phase (session .calls)) (now (out .exit)) r × (r ≤ at + 5647) ⌝ }
+{
+    match phase {
+        Phase::ShapeNames => at,
+        Phase::ShapeValues => at,
+        Phase::WordNames => at,
+        Phase::Words => put_calls(out, at, session),
+        Phase::Ended(_) => at,
     }
 }

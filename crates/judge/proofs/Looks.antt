@@ -22,7 +22,7 @@ use Rattle.judge.specs.declared.Phase.{Phase}
 use Rattle.judge.specs.declared.Phase.the-variants.{Words}
 use Rattle.judge.specs.declared.Seen.{Seen}
 use Rattle.judge.specs.declared.Seen.the-variants.{Known, New, Head}
-use Rattle.judge.specs.declared.Answer.the-variants.{Line}
+use Rattle.judge.specs.declared.Answer.the-variants.{Word}
 use Rattle.judge.specs.declared.Tally.{Tally}
 use Rattle.judge.specs.declared.Judged.{Judged}
 use Rattle.judge.specs.Judge.{broughtBy, arrived, worded, judgedIn, judgedOf}
@@ -51,9 +51,9 @@ known-settles : {a : Outcome} {symbols : List ℕ} → Settleable (Known a) symb
 known-settles = record { page = λ number c k h. let z : _≡_ {A = ℕ} 0 1 = cc in absurd (omega arith) }
 
 -- what the session makes of what is brought
-pub judged : {σ : Session} {o : Opened} {r : Arrived} → Settling σ o r → _≡_ {A = Judged} (record { tally = record { phase = Words; session = r .session }; answer = Line (r .outcome) }) (arrived σ o)
+pub judged : {σ : Session} {o : Opened} {r : Arrived} → Settling σ o r → _≡_ {A = Judged} (record { tally = record { phase = Words; session = r .session }; answer = Word (r .outcome) }) (arrived σ o)
 unfolding arrived
-judged settled = λ i. record { tally = record { phase = Words; session = settled .session i }; answer = Line (settled .outcome i) }
+judged settled = λ i. record { tally = record { phase = Words; session = settled .session i }; answer = Word (settled .outcome i) }
 
 module _ {s : Shape} (line : List ℕ) {symbols : List ℕ} {found : Opening} (opened : Tells (broughtBy s (contentOf line)) symbols found) where
   -- by the session's own shape
@@ -98,5 +98,5 @@ module _ {t : Tally} {line symbols : List ℕ} where
 
 -- a tally that stays
 pub foretold-known : {t : Tally} {line symbols : List ℕ} {seen : Seen} {a : Outcome} → Foretold t line symbols seen → seen ≡ Known a
-    → record { tally = t; answer = Line a } ≡ judgedOf t line
+    → record { tally = t; answer = Word a } ≡ judgedOf t line
 foretold-known {t} {line} {symbols} h is = sym (h .sure ∙ ap (foreseen t line symbols) is)

@@ -21,10 +21,11 @@ use Rattle.session.specs.Session.{freshOf, freshStatus, overflows}
 use Rattle.session.specs.Arrival.{Opened, Page, Bad, outcomeOf}
 use Rattle.session.proofs.Openings.{opened-never}
 use Rattle.session.proofs.Alikes.{shape-kept}
+use Rattle.judge.specs.declared.Fault.{Fault}
 use Rattle.judge.specs.declared.Phase.{Phase}
 use Rattle.judge.specs.declared.Phase.the-variants.{ShapeNames, ShapeValues, WordNames, Words, Ended}
 use Rattle.judge.specs.declared.Tally.{Tally}
-use Rattle.judge.specs.declared.Answer.the-variants.{Line}
+use Rattle.judge.specs.declared.Answer.the-variants.{Word, Head}
 use Rattle.judge.specs.declared.Judged.{Judged}
 use Rattle.judge.specs.Judge.{lineContent, passed, fault, named, begun, shapeIn, shaped, broughtBy, arrived, worded, judgedIn, judgedOf, start}
 
@@ -37,7 +38,8 @@ pub record Standard (σ : Session) : Type 0 where
 
 -- a line is not answered with 18, and the session after it is standard again
 pub record Judges (j : Judged) : Type 0 where
-  pub never : j .answer ≡ Line (Refused Refusal.Slope) → ⊥
+  pub never : j .answer ≡ Word (Refused Refusal.Slope) → ⊥
+  pub head : j .answer ≡ Head Refusal.Slope → ⊥
   pub next : Standard (j .tally .session)
 
 pub start-standard : Standard (start .session)
@@ -46,21 +48,21 @@ start-standard = record { q = 0; n = 0; b = 0; shape = refl }
 
 passes : (phase : Phase) (σ : Session) → Standard σ → Judges (passed phase σ)
 unfolding passed
-passes phase σ st = record { never = λ h. let z : _≡_ {A = ℕ} 0 1 = cc in omega arith; next = st }
+passes phase σ st = record { never = λ h. let z : _≡_ {A = ℕ} 0 1 = cc in omega arith; head = λ h. let z : _≡_ {A = ℕ} 0 1 = cc in omega arith; next = st }
 
-faults : (σ : Session) (e : Refusal) → Standard σ → (e ≡ Refusal.Slope → ⊥) → Judges (fault σ e)
+faults : (σ : Session) (f : Fault) (e : Refusal) → Standard σ → (e ≡ Refusal.Slope → ⊥) → Judges (fault σ f e)
 unfolding fault
-faults σ e st ne = record { never = λ h. ne (cc); next = st }
+faults σ f e st ne = record { never = λ h. let z : _≡_ {A = ℕ} 0 1 = cc in omega arith; head = λ h. ne (cc); next = st }
 
-names : (σ : Session) (t : Bool) (phase : Phase) → Standard σ → Judges (named σ t phase)
-names σ true phase st = passes phase σ st
-names σ false phase st = faults σ Refusal.Syntax st (other-refusal _ _ refl)
+names : (σ : Session) (t : Bool) (phase : Phase) (f : Fault) → Standard σ → Judges (named σ t phase f)
+names σ true phase f st = passes phase σ st
+names σ false phase f st = faults σ f Refusal.Syntax st (other-refusal _ _ refl)
 
 -- line 2
-begins : (σ : Session) (q n b : ℕ) → Standard σ → (r : Status) → (r ≡ status.Refused Refusal.Slope → ⊥) → Judges (begun σ (standard q n b) r)
+begins : (σ : Session) (q n b : ℕ) (f : Fault) → Standard σ → (r : Status) → (r ≡ status.Refused Refusal.Slope → ⊥) → Judges (begun σ (standard q n b) r f)
 unfolding freshOf
-begins σ q n b st status.Done ne = passes WordNames (freshOf (standard q n b)) (record { q = q; n = n; b = b; shape = refl })
-begins σ q n b st (status.Refused e) ne = faults σ e st (λ h. ne (ap status.Refused h))
+begins σ q n b f st status.Done ne = passes WordNames (freshOf (standard q n b)) (record { q = q; n = n; b = b; shape = refl })
+begins σ q n b f st (status.Refused e) ne = faults σ f e st (λ h. ne (ap status.Refused h))
 
 fresh-never : (q n b : ℕ) → freshStatus (standard q n b) ≡ status.Refused Refusal.Slope → ⊥
 unfolding freshStatus
@@ -68,13 +70,13 @@ fresh-never q n b =
     unless-never (lawful (standard q n b)) (status.Refused (shapeRefusal (standard q n b))) status.Done (λ no h. slope-foreign q n b .shape no (cc))
     (λ h. let z : _≡_ {A = ℕ} 0 1 = cc in omega arith)
 
-three : (σ : Session) (xs : List ℕ) (t : Bool) → Standard σ → Judges (cond t (begun σ (shapeIn xs) (freshStatus (shapeIn xs))) (fault σ Refusal.Syntax))
-three σ xs true st = begins σ (getD xs 0 0) (getD xs 1 0) (getD xs 2 0) st (freshStatus (shapeIn xs)) (fresh-never (getD xs 0 0) (getD xs 1 0) (getD xs 2 0))
-three σ xs false st = faults σ Refusal.Syntax st (other-refusal _ _ refl)
+three : (σ : Session) (xs : List ℕ) (f g : Fault) (t : Bool) → Standard σ → Judges (cond t (begun σ (shapeIn xs) (freshStatus (shapeIn xs)) f) (fault σ g Refusal.Syntax))
+three σ xs f g true st = begins σ (getD xs 0 0) (getD xs 1 0) (getD xs 2 0) f st (freshStatus (shapeIn xs)) (fresh-never (getD xs 0 0) (getD xs 1 0) (getD xs 2 0))
+three σ xs f g false st = faults σ g Refusal.Syntax st (other-refusal _ _ refl)
 
-shapes : (σ : Session) (c : Content) → Standard σ → Judges (shaped σ c)
-shapes σ (Spelled xs) st = three σ xs (eqb (length xs) 3) st
-shapes σ Unreadable st = faults σ Refusal.Syntax st (other-refusal _ _ refl)
+shapes : (σ : Session) (line : List ℕ) (c : Content) → Standard σ → Judges (shaped σ line c)
+shapes σ line (Spelled xs) st = three σ xs _ _ (eqb (length xs) 3) st
+shapes σ line Unreadable st = faults σ _ Refusal.Syntax st (other-refusal _ _ refl)
 
 -- a word line: what is opened is not turned down by 18, and the session refuses with 9 alone
 outcomes : (number k : ℕ) (a b : Bool)
@@ -92,6 +94,7 @@ arrives : (σ : Session) (o : Opened) → Standard σ → (o ≡ Bad Refusal.Slo
 unfolding arrived
 arrives σ o st ne = record {
   never = λ h. answers σ o ne (cc);
+  head = λ h. let z : _≡_ {A = ℕ} 0 1 = cc in omega arith;
   next = record { q = st .q; n = st .n; b = st .b; shape = shape-kept σ o ∙ st .shape };
 }
 
@@ -106,11 +109,11 @@ words : (σ : Session) (c : Content) → Standard σ → Judges (worded σ c)
 words σ c st = arrives σ (broughtBy (σ .shape) c) st (λ h. brought-never (st .q) (st .n) (st .b) c (rw (st .shape) at h))
 
 judges : (phase : Phase) (σ : Session) (line : List ℕ) → Standard σ → Judges (judgedIn phase σ line)
-judges ShapeNames σ line st = names σ (sameBytes line namesShape) ShapeValues st
-judges ShapeValues σ line st = shapes σ (lineContent line) st
-judges WordNames σ line st = names σ (sameBytes line namesWord) Words st
+judges ShapeNames σ line st = names σ (sameBytes line namesShape) ShapeValues _ st
+judges ShapeValues σ line st = shapes σ line (lineContent line) st
+judges WordNames σ line st = names σ (sameBytes line namesWord) Words _ st
 judges Words σ line st = words σ (lineContent line) st
-judges Ended σ line st = passes Ended σ st
+judges (Ended f) σ line st = passes (Ended f) σ st
 
 -- each line, from the first on
 pub never-slope : (t : Tally) (line : List ℕ) → Standard (t .session) → Judges (judgedOf t line)

@@ -11,7 +11,7 @@ use Rattle.session.specs.Arrival.{Page}
 use Rattle.session.specs.Steps.{Readable}
 use Rattle.judge.specs.declared.Phase.{Phase}
 use Rattle.judge.specs.declared.Phase.the-variants.{ShapeNames, ShapeValues, WordNames, Words, Ended}
-use Rattle.judge.specs.declared.Answer.the-variants.{Line}
+use Rattle.judge.specs.declared.Answer.the-variants.{Word}
 use Rattle.judge.specs.declared.Judged.{Judged}
 use Rattle.judge.specs.declared.Seen.{Seen}
 use Rattle.judge.specs.declared.Seen.the-variants.{Known, New, Head}
@@ -24,14 +24,14 @@ headedIn ShapeNames σ line = judgedIn ShapeNames σ line
 headedIn ShapeValues σ line = judgedIn ShapeValues σ line
 headedIn WordNames σ line = judgedIn WordNames σ line
 headedIn Words σ line = passed Words σ
-headedIn Ended σ line = judgedIn Ended σ line
+headedIn (Ended f) σ line = judgedIn (Ended f) σ line
 
 unfoldable pub headed : Tally → List ℕ → Judged
 headed t line = headedIn (t .phase) (t .session) line
 
 -- what a look tells of the line: the outcome of a tally that stays, the page that arrives, or that it is no word line
 abbrev pub foreseen : Tally → List ℕ → List ℕ → Seen → Judged
-foreseen t line symbols (Known a) = record { tally = t; answer = Line a }
+foreseen t line symbols (Known a) = record { tally = t; answer = Word a }
 foreseen t line symbols (New number c k) = arrived (t .session) (Page number (take c (drop 2 symbols)) k)
 foreseen t line symbols Head = headed t line
 

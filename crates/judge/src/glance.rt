@@ -95,6 +95,6 @@ pub fn glance(
         Phase::ShapeValues => Seen::Head,
         Phase::WordNames => Seen::Head,
         Phase::Words => look(shape, taken, &line[..end], values, symbols),
-        Phase::Ended => Seen::Head,
+        Phase::Ended(_) => Seen::Head,
     }
 }

@@ -3,6 +3,7 @@ pub mod glance;
 mod head;
 
 use crate::head::take_head;
+use gtb::Refusal;
 use session::Outcome;
 use session::Session;
 ghost use mathlib.Core.Path.{_≡_};
@@ -14,13 +15,28 @@ ghost use Rattle.session.specs.Steps.{Functions};
 ghost use Rattle.judge.specs.Judge.{arrived};
 ghost use Rattle.judge.specs.Steps.{foreseen, Settleable};
 
+// What should stand in one of the first three lines. `Shape` where line 2 has three values.
+pub enum Expected {
+    ShapeNames,
+    ShapeValues,
+    Shape,
+    WordNames,
+}
+
+// One of the first three lines is at fault. `marked`: it begins with a byte order mark. `returned`: it ends with a carriage return.
+pub struct Fault {
+    pub expected: Expected,
+    pub marked: bool,
+    pub returned: bool,
+}
+
 // Which line is next: the first three, a word line, or none any more after a fault.
 pub enum Phase {
     ShapeNames,
     ShapeValues,
     WordNames,
     Words,
-    Ended,
+    Ended(Fault),
 }
 
 pub struct Tally {
@@ -28,10 +44,11 @@ pub struct Tally {
     pub session: Session,
 }
 
-// What a line is answered with: nothing, or a line of output.
+// What a line is answered with: nothing, the outcome of a word line, or the refusal of one of the first three.
 pub enum Answer {
     Nothing,
-    Line(Outcome),
+    Word(Outcome),
+    Head(Refusal),
 }
 
 pub struct Judged {
@@ -59,7 +76,7 @@ fn take_page(session: Session, number: u32, corrected: u32, marks: &[u32]) -> Ju
             phase: Phase::Words,
             session: after,
         },
-        answer: Answer::Line(outcome),
+        answer: Answer::Word(outcome),
     }
 }
 
@@ -71,7 +88,7 @@ pub fn judge(tally: Tally, seen: Seen, line: &[u8], symbols: &[u32]) -> Judged
     match seen {
         Seen::Known(outcome) => Judged {
             tally,
-            answer: Answer::Line(outcome),
+            answer: Answer::Word(outcome),
         },
         Seen::New(number, count, corrected) => {
             let end = 2 + count as usize;

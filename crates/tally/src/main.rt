@@ -1,15 +1,18 @@
-// The tally of a capture, a file or standard input, to standard output. What to do is decided in `command` and `protocol`; this makes the system calls and reports what came of them.
-use command::Choice;
-use command::Text;
+// The tally of a capture, a file or standard input, to standard output. What to do is decided in `program`; this makes the system calls and reports what came of them.
+use capture::Reader;
 use libc::STDERR_FILENO;
 use libc::STDIN_FILENO;
 use libc::STDOUT_FILENO;
-use protocol::Action;
-use protocol::State;
+use program::Action;
+use program::Choice;
+use program::State;
+use program::Text;
 ghost use mathlib.Core.Path.{_≡_};
-ghost use Prim.Native.Nat.{_≤_};
+ghost use Prim.Native.Nat.{_≤_, _<_};
 ghost use lib.ListN.{length};
-ghost use Rattle.protocol.specs.Steps.{Sound, Stepped};
+ghost use Rattle.program.specs.declared.Action.the-variants as action;
+ghost use Rattle.program.specs.Moves.{towardOf};
+ghost use Rattle.program.specs.Steps.{rank, Sound, Stepped};
 ghost use Rattle.tally.specs.Read.{Acted};
 
 // Room for a block, or for a line.
@@ -19,11 +22,11 @@ fn buffer() -> [u8; 16384]
     [0; 16384]
 }
 
-// Room for the output of a block.
-fn output_buffer() -> [u8; 491584]
-    ensures { λ r. ⌜ length r ≡ 491584 ⌝ }
+// Room for the output of a block, and for the second table.
+fn output_buffer() -> [u8; 500000]
+    ensures { λ r. ⌜ length r ≡ 500000 ⌝ }
 {
-    [0; 491584]
+    [0; 500000]
 }
 
 // To standard error. What could not be said there is not said elsewhere.
@@ -37,13 +40,13 @@ fn tell(text: Text)
 
 // Of what is named, the reason of the call that has just failed. A write that succeeds leaves that reason alone.
 fn complain(name: &[u8]) {
-    tell(command::complaint(false));
+    tell(program::complaint(false));
     os::fail(name);
 }
 
-// The usage, where `--help` asks for it.
-fn help() {
-    if io::write_all(STDOUT_FILENO, &command::usage()) {
+// What the program says of itself.
+fn show(text: &[u8]) {
+    if io::write_all(STDOUT_FILENO, text) {
         return;
     }
     complain(b"standard output");
@@ -51,7 +54,7 @@ fn help() {
 
 // An argument is refused.
 fn refuse(name: &[u8], reason: &[u8]) {
-    tell(command::complaint(false));
+    tell(program::complaint(false));
     io::write_all(STDERR_FILENO, name);
     io::write_all(STDERR_FILENO, reason);
 }
@@ -69,65 +72,63 @@ fn second() -> u64 {
 
 // Reads a block.
 fn read(fd: i32, state: State, block: &mut [u8]) -> State
-    requires { ⌜ Sound state × (length (now block) ≡ 16384) ⌝ }
-    ensures { λ r. ⌜ Acted 3 state (now (block .exit)) r ⌝ }
+    requires { ⌜ Sound state × (state .action ≡ action.Read) × (length (now block) ≡ 16384) ⌝ }
+    ensures { λ r. ⌜ Acted state (now (block .exit)) r ⌝ }
 {
-    let want = protocol::wanted(state);
+    let want = program::wanted(state);
     let got = libc::read(fd, &mut block[..want]);
     if got < 0 {
-        return protocol::read_failed(state);
+        return program::read_failed(state);
     }
     let count = io::count(got, &block[..want]);
-    protocol::received(state, count)
+    program::received(state, count)
 }
 
 // Writes to standard output.
 fn write(state: State, text: &[u8]) -> State
-    requires { ⌜ Sound state ⌝ }
-    ensures { λ r. ⌜ Stepped 1 state r ⌝ }
+    requires { ⌜ Sound state × (state .action ≡ action.Write) ⌝ }
+    ensures { λ r. ⌜ Stepped state r ⌝ }
 {
     if io::write_all(STDOUT_FILENO, text) {
-        return protocol::done(state);
+        return program::written(state);
     }
-    protocol::write_failed(state)
+    program::write_failed(state)
 }
 
 // Names what failed, with the system's reason.
 fn blame(state: State, name: &[u8]) -> State
-    requires { ⌜ Sound state ⌝ }
-    ensures { λ r. ⌜ Stepped 0 state r ⌝ }
+    ensures { λ r. ⌜ r ≡ towardOf action.Stop state ⌝ }
 {
-    tell(protocol::complaint(state));
+    let watch = state.watch;
+    tell(program::complaint(watch.drawn));
     os::fail(name);
-    protocol::done(state)
+    program::stopped(state)
 }
 
-// What is to be done, where the reader is not needed for it. Of the others there is nothing to do here.
-fn act(fd: i32, name: &[u8], state: State, block: &mut [u8], out: &[u8]) -> State
-    requires { ⌜ Sound state × (length (now block) ≡ 16384) × (length (now out) ≡ 491584) ⌝ }
-    ensures { λ r. ⌜ Acted 0 state (now (block .exit)) r ⌝ }
+// What is to be done, where the reader stays as it is. Of the others there is nothing to do here.
+fn act(fd: i32, name: &[u8], state: State, reader: Reader, block: &mut [u8], out: &[u8]) -> State
+    requires { ⌜ Sound state × (length (now block) ≡ 16384) × (length (now out) ≡ 500000) ⌝ }
+    ensures { λ r. ⌜ (0 < rank (state .action) → Acted state (now (block .exit)) r) ⌝ }
 {
     let action = state.action;
     let size = state.size;
     match action {
         Action::Read => read(fd, state, block),
-        Action::Names => write(state, &protocol::names()),
         Action::Write => write(state, &out[..size]),
-        Action::Look => protocol::looked(state, second()),
+        Action::Look => program::looked(state, second()),
         Action::Draw => {
-            tell(protocol::progress(state));
-            protocol::done(state)
+            tell(program::progress(state, reader));
+            program::drew(state)
         }
-        Action::Last => write(state, &out[..size]),
         Action::Say => {
-            tell(protocol::ending(state));
-            protocol::done(state)
+            tell(program::ending(state, reader));
+            program::stopped(state)
         }
         Action::BlameInput => blame(state, name),
         Action::BlameOutput => blame(state, b"standard output"),
-        Action::Take => protocol::done(state),
-        Action::Close => protocol::done(state),
-        Action::Stop => protocol::done(state),
+        Action::Take => program::stopped(state),
+        Action::Close => program::stopped(state),
+        Action::Stop => program::stopped(state),
     }
 }
 
@@ -136,25 +137,27 @@ fn run(fd: i32, name: &[u8]) {
     let mut block = buffer();
     let mut line = buffer();
     let mut out = output_buffer();
-    let mut reader = capture::begin();
+    let mut reader = capture::begin(&mut out);
     let error = libc::isatty(STDERR_FILENO) == 1;
     let output = libc::isatty(STDOUT_FILENO) == 1;
-    let mut state = protocol::begin(error, output, second());
-    while protocol::goes_on(state) {
+    let mut state = program::begin(reader.at, error, output, second());
+    while program::goes_on(state) {
         let action = state.action;
         if let Action::Take = action {
-            let from = state.from;
-            let count = state.count;
-            let taken = protocol::take(state, reader, &block[from..count], &mut line, &mut out);
+            let input = state.input;
+            let count = input.count;
+            let taken = program::take(state, reader, &block[..count], &mut line, &mut out);
             reader = taken.reader;
             state = taken.state;
             continue;
         }
         if let Action::Close = action {
-            state = protocol::close(state, reader, &mut out);
+            let closed = program::close(state, reader, &mut out);
+            reader = closed.reader;
+            state = closed.state;
             continue;
         }
-        state = act(fd, name, state, &mut block, &out);
+        state = act(fd, name, state, reader, &mut block, &out);
     }
 }
 
@@ -171,7 +174,7 @@ fn run_file(name: &[u8]) {
 fn refuse_second() {
     let mut space = io::buffer();
     let size = os::arg(2, &mut space);
-    refuse(&space[..size], &command::too_many());
+    refuse(&space[..size], &program::too_many());
 }
 
 // An argument that is longer than any name is no file's.
@@ -179,7 +182,7 @@ fn main() {
     let mut space = io::buffer();
     let size = os::arg(1, &mut space);
     let whole = os::errno() == 0;
-    let choice = command::choose(os::arg_count(), &space[..size]);
+    let choice = program::choose(os::arg_count(), &space[..size]);
     match choice {
         Choice::Standard => run(STDIN_FILENO, b"standard input"),
         Choice::File => {
@@ -189,8 +192,9 @@ fn main() {
                 complain(&space);
             }
         }
-        Choice::Help => help(),
-        Choice::Unknown => refuse(&space[..size], &command::unknown()),
+        Choice::Help => show(&program::usage()),
+        Choice::Version => show(&program::version()),
+        Choice::Unknown => refuse(&space[..size], &program::unknown()),
         Choice::TooMany => refuse_second(),
     }
 }

@@ -2,8 +2,8 @@
 use mathlib.Core.Path.{sym, _∙_}
 use native.Mathlib.Omega.{arith}
 use lib.Seq.{length-take-le}
-use borrow.Author.Needs.{needs}
 use Rattle.capture.proofs.Frames.{line-ended}
+use borrow.Author.Needs.{needs}
 use Rattle.capture.proofs.end_line.Statement.{statement}
 use Rattle.capture.proofs.end_line.Tie as tie
 
@@ -17,8 +17,9 @@ judge-requires c κs =
 
 returns : tie.Need-returns
 returns c =
-    let asked = c .before .before .before .before .before .before .before .before .before .before .before .pre in
-    line-ended _ (asked .0) (c .before .before .before .before .before .judge .ensures ∙ sym (asked .3 .sure)) (c .before .before .put-answer .ensures .0) (c .before .before .put-answer .ensures .1)
+    let asked = c .before .before .before .before .before .before .before .before .before .before .before .before .before .pre in
+    let put = c .before .before .before .before .put-answer .ensures in
+    line-ended _ (asked .0) (c .before .before .before .before .before .before .before .judge .ensures ∙ sym (asked .3 .sure)) (put .0) (c .count-answer .ensures) (put .1)
 
 pub end-line-spec : {M : Type 1} → statement M
-end-line-spec = tie.close (tie.spec slice-aggregate-judge judge-requires (λ c κs. search needs) (λ c. search needs) returns)
+end-line-spec = tie.close (tie.spec slice-aggregate-judge judge-requires (λ c κs. search needs) (λ c κs. search needs) (λ c. search needs) returns)

@@ -11,10 +11,10 @@ use Rattle.capture.proofs.take_block.Statement.{statement}
 use Rattle.capture.proofs.take_block.Tie as tie
 
 abbrev Inv-loop : tie.InvT-loop
-Inv-loop block line₀ out₀ reader₀ values₀ symbols₀ from₀ line out reader values symbols from = Reading reader₀ line₀ block line out reader from × (length values ≡ 1024) × (length symbols ≡ 900)
+Inv-loop at block line₀ out₀ reader₀ values₀ symbols₀ from₀ line out reader values symbols from = Reading reader₀ line₀ block out₀ line out reader from × (length values ≡ 1024) × (length symbols ≡ 900)
 
 abbrev μ-loop : tie.MeasureT-loop
-μ-loop block line₀ out₀ reader₀ values₀ symbols₀ from₀ line out reader values symbols from = length block - from
+μ-loop at block line₀ out₀ reader₀ values₀ symbols₀ from₀ line out reader values symbols from = length block - from
 
 -- where the search for a newline had its answer
 abbrev at-find : tie.Else1 Inv-loop μ-loop → tie.After-find-newline Inv-loop μ-loop
@@ -39,12 +39,12 @@ less c = omega (arith, more c, at-find c .find-newline .ensures .low)
 room : (c : tie.Else1 Inv-loop μ-loop) → at-find c .before .loop .reader .at + 40 ≤ length (at-find c .before .loop .out)
 room c =
     let inv = at-find c .before .loop .inv .0 in
-    omega (arith, inv .few, inv .out-size, at-find c .find-newline .ensures .low, more c, start c .pre .1)
+    omega (arith, inv .few, inv .out-size, at-find c .find-newline .ensures .low, more c, start c .pre .1, start c .pre .3)
 
 loop-holds : tie.Need-loop-holds Inv-loop μ-loop
 loop-holds c =
     let asked = c .before .before .before .pre in
-    (reading-begins _ _ _ _ (asked .0) refl (asked .2) (asked .3), length-replicate {A = ℕ} 1024 0, length-replicate {A = ℕ} 900 0)
+    (reading-begins _ _ _ _ (asked .0) (asked .2), length-replicate {A = ℕ} 1024 0, length-replicate {A = ℕ} 900 0)
 
 append-requires : tie.Need-append-requires Inv-loop μ-loop
 append-requires c κs = c .before .before .before .loop .inv .0 .buffer-size
@@ -64,17 +64,17 @@ glance-requires c κs =
     (refl, at .before .before .before .append .ensures .size, end-few (c .before .before .before .before .before .before .line-end .ensures), at-find at .before .loop .inv .1, at-find at .before .loop .inv .2)
 
 put-line-requires : tie.Need-put-line-requires Inv-loop μ-loop
-put-line-requires c κs = room (at-end (c .before .before .before .before) .before)
+put-line-requires c κs = room (at-end (c .before .before .before .before .before) .before)
 
 -- the outcome was known
 loop-again : tie.Need-loop-again Inv-loop μ-loop
 loop-again c =
-    let ended = at-end (c .before .before .before .before .before .before .before) in
+    let ended = at-end (c .before .before .before .before .before .before .before .before .before) in
     let at = ended .before in
     let inv = at-find at .before .loop .inv in
-    let glance = c .before .before .before .before .before .before .before .before .glance in
-    let put = c .before .before .put-line .ensures in
-    (reading-on (inv .0) (at-find at .find-newline .ensures) (at .before .before .before .append .ensures) (more at) (ended .line-end .ensures) (line-ended _ (inv .0 .figures) (foretold-known (glance .ensures .0) (c .before .before .before .before .before .seen .given .1)) (put .0) (put .1)), glance .ensures .1, glance .kept .1 .1 .1 .1 .1 .0 ∙ inv .2)
+    let glance = c .before .before .before .before .before .before .before .before .before .before .glance in
+    let put = c .before .before .before .put-line .ensures in
+    (reading-on (inv .0) (at-find at .find-newline .ensures) (at .before .before .before .append .ensures) (more at) (ended .line-end .ensures) (line-ended _ (inv .0 .figures) (foretold-known (glance .ensures .0) (c .before .before .before .before .before .before .before .seen .given .1)) (put .0) (c .count-outcome .ensures) (put .1)), glance .ensures .1, glance .kept .1 .1 .1 .1 .1 .0 ∙ inv .2)
 
 end-line-requires : tie.Need-end-line-requires Inv-loop μ-loop
 end-line-requires c κs =
@@ -92,4 +92,4 @@ loop-again-2 c =
     (reading-on (inv .0) (at-find at .find-newline .ensures) (at .before .before .before .append .ensures) (more at) (ended .line-end .ensures) (c .before .before .end-line .ensures), glance .ensures .1, glance .kept .1 .1 .1 .1 .1 .0 ∙ inv .2)
 
 pub take-block-spec : {M : Type 1} → statement M
-take-block-spec = tie.close (tie.spec Inv-loop μ-loop loop-holds (λ c κs. (c .loop .inv .0 .low, le-refl _)) (λ c. search needs) (λ c. search needs) (λ c. search needs) append-requires (λ c. search needs) (λ c. search needs) returns add-from (λ c κs. search needs) (λ c. search needs) glance-requires (λ c. search needs) put-line-requires (λ c. less (at-end (c .before .before .before .before .before .before .before) .before)) loop-again (λ c. search needs) end-line-requires (λ c. less (at-end (c .before .before .before .before .before .before .before) .before)) loop-again-2)
+take-block-spec = tie.close (tie.spec Inv-loop μ-loop loop-holds (λ c κs. (c .loop .inv .0 .low, le-refl _)) (λ c. search needs) (λ c. search needs) (λ c. search needs) append-requires (λ c. search needs) (λ c. c .before .before .before .before .before .before .before .loop .inv .0 .out-size) returns add-from (λ c κs. search needs) (λ c. search needs) glance-requires (λ c. search needs) put-line-requires (λ c κs. search needs) (λ c. less (at-end (c .before .before .before .before .before .before .before .before .before) .before)) loop-again (λ c. search needs) end-line-requires (λ c. less (at-end (c .before .before .before .before .before .before .before) .before)) loop-again-2)

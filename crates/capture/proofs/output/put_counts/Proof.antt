@@ -31,7 +31,7 @@ loop-again c =
     )
 
 returns : tie.Need-returns Inv-loop μ-loop
-returns c = counting-ends (omega (arith, counts (c .before .before .before))) (c .before .loop .inv .1)
+returns c = counting-ends (omega (arith, counts (c .before .before .before))) (c .before .loop .inv .0) (c .before .loop .inv .1)
 
 pub put-counts-spec : {M : Type 1} → statement M
 put-counts-spec = tie.close (tie.spec Inv-loop μ-loop (λ c. (omega arith, counting-begins _ _ _)) (λ c. search needs) (λ c. search needs) (λ c. search needs) (λ c κs. omega arith) (λ c. search needs) (λ c. search needs) loop-again (λ c. c .before .loop .inv .1 .size) returns)

@@ -1,0 +1,70 @@
+-- Answers to words, counted by kind (RULES 7.5).
+use mathlib.Core.Bool.{Bool, true, false}
+use mathlib.Core.List.{List, [], _∷_}
+use Prim.Native.Nat.{ℕ, _+_, _-_, _^_, min}
+use Rattle.parity.specs.Count.{bit}
+use Rattle.session.specs.declared.Outcome.{Outcome}
+use Rattle.session.specs.declared.Outcome.the-variants.{Taken, Again, Refused}
+use Rattle.judge.specs.declared.Answer.{Answer}
+use Rattle.judge.specs.declared.Answer.the-variants.{Nothing, Word, Head}
+use Rattle.capture.specs.declared.Counts.{Counts}
+
+-- before the first answer
+abbrev pub none : Counts
+none = record { taken = 0; again = 0; refused = 0 }
+
+-- one more; a number that is full stays so
+abbrev pub more : ℕ → ℕ
+more k = min (k + 1) (2 ^ 32 - 1)
+
+unfoldable pub countedBy : Counts → Outcome → Counts
+countedBy c (Taken p k) = record { taken = more (c .taken); again = c .again; refused = c .refused }
+countedBy c (Again p k) = record { taken = c .taken; again = more (c .again); refused = c .refused }
+countedBy c (Refused e) = record { taken = c .taken; again = c .again; refused = more (c .refused) }
+
+-- the refused line of a fault in the first three lines is the answer to no word
+abbrev pub counted : Counts → Answer → Counts
+counted c Nothing = c
+counted c (Word r) = countedBy c r
+counted c (Head e) = c
+
+unfoldable pub countedIn : Counts → List Answer → Counts
+countedIn c [] = c
+countedIn c (a ∷ answers) = countedIn (counted c a) answers
+
+-- ---- the same without a limit
+
+abbrev pub takes : Answer → Bool
+takes Nothing = false
+takes (Word (Taken p k)) = true
+takes (Word (Again p k)) = false
+takes (Word (Refused e)) = false
+takes (Head e) = false
+
+abbrev pub repeats : Answer → Bool
+repeats Nothing = false
+repeats (Word (Taken p k)) = false
+repeats (Word (Again p k)) = true
+repeats (Word (Refused e)) = false
+repeats (Head e) = false
+
+abbrev pub refuses : Answer → Bool
+refuses Nothing = false
+refuses (Word (Taken p k)) = false
+refuses (Word (Again p k)) = false
+refuses (Word (Refused e)) = true
+refuses (Head e) = false
+
+abbrev pub isWord : Answer → Bool
+isWord Nothing = false
+isWord (Word r) = true
+isWord (Head e) = false
+
+-- how many answers pass a test
+unfoldable pub among : (Answer → Bool) → List Answer → ℕ
+among test [] = 0
+among test (a ∷ answers) = bit (test a) + among test answers
+
+-- how many words were answered in each way
+unfoldable pub amounts : List Answer → Counts
+amounts answers = record { taken = among takes answers; again = among repeats answers; refused = among refuses answers }

@@ -1,4 +1,0 @@
-pub mod Choices
-pub mod Counted
-pub mod Texts
-pub mod Lines

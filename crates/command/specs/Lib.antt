@@ -1,4 +1,0 @@
-pub mod Choice
-pub mod Counting
-pub mod Shown
-pub mod Said

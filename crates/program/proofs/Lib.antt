@@ -1,0 +1,9 @@
+pub mod Choices
+pub mod Texts
+pub mod Equations
+pub mod Moves
+pub mod Stands
+pub mod Runs
+pub mod Remarks
+pub mod Worlds
+pub mod Blames

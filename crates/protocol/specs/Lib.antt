@@ -1,4 +1,0 @@
-pub mod Summary
-pub mod Moves
-pub mod Steps
-pub mod Run
