@@ -17,6 +17,7 @@ pub mod Demands
 pub mod Products
 pub mod Bundles
 pub mod Delivery
+pub mod Chains
 pub mod Follows
 pub mod Beyond
 pub mod Looks

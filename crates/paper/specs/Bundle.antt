@@ -1,14 +1,14 @@
 -- A bundle of words in one call (RULES 5.3, request N9).
 use mathlib.Core.Path.{_≡_}
-use mathlib.Core.List.{List, [], _∷_}
+use mathlib.Core.List.{List, [], _∷_, _++_}
 use mathlib.Core.Logic.{_⊎_, _≢_}
-use Prim.Native.Nat.{ℕ, suc, _+_, _*_, _<_, _≤_}
+use Prim.Native.Nat.{ℕ, zero, suc, _+_, _*_, _<_, _≤_}
 use lib.ListN.{length, take, drop}
 use Rattle.paper.specs.Answers.{Test, Judged, refusal, at, zeros}
 use Rattle.paper.specs.Square.{Shape, InLists, WrongSlopes, N}
 use Rattle.paper.specs.Writing.{scratchLength}
 use Rattle.paper.specs.Reading.{TooFew}
-use Rattle.paper.specs.Session.{Session, WrongFigures, Arrived, Arriving}
+use Rattle.paper.specs.Session.{Session, WrongFigures, Arrival, Arrived, Arriving}
 
 -- word i of a run
 abbrev pub wordAt : Shape → List ℕ → ℕ → List ℕ
@@ -51,3 +51,15 @@ Bundling session way words scratch outcomes session′ words′ scratch′ outco
     Judged (bundleTests session way words scratch outcomes)
     (λ k. (answer ≡ refusal k) × (session′ ≡ session) × (words′ ≡ words) × (scratch′ ≡ scratch) × (outcomes′ ≡ outcomes))
     ((answer ≡ 0) × Delivered session way words scratch session′ words′ scratch′ outcomes′)
+
+-- the m words of a run from word i on, as arrivals
+abbrev pub arrivalsFrom : Shape → ℕ → List ℕ → List ℕ → ℕ → ℕ → List Arrival
+arrivalsFrom s way words scratch i zero = []
+arrivalsFrom s way words scratch i (suc m) = record { way = way; word = wordAt s words i; scratch = scratch } ∷ arrivalsFrom s way words scratch (suc i) m
+
+-- bundles one after the other, with the arrivals of all; one that is refused whole leaves the session as it was and brings none
+pub data Bundles : Session → List Arrival → Session → Type 0 where
+  none : {session : Session} → Bundles session [] session
+  more : {session next end : Session} {way : ℕ} {words scratch words′ scratch′ outcomes′ : List ℕ} {rest : List Arrival}
+      → (d : Delivered session way words scratch next words′ scratch′ outcomes′) → Bundles next rest end
+      → Bundles session (arrivalsFrom (session .shape) way words scratch 0 (d .number) ++ rest) end

@@ -8,5 +8,5 @@ pub use Rattle.paper.specs.Page.{NoFunction, marksIn, contents, pageTest
 pub use Rattle.paper.specs.Session.{Session, isYes, Lowest, WrongFigures, fresh, freshTests, Beginning, countTests, Counting, marksFor, Worn, Recorded, Arrival, Arrived, wordTests, arrivalTests, Refusing, Accepting, Settling, Arriving}
 pub use Rattle.paper.specs.Recording.{Sheet, sheetAt, arrivalAt, Recording, tallyOf, Allowed, Brings, Came, besideTests, TurnedDown, Fits, Run, EveryList, Same, Demand3}
 pub use Rattle.paper.specs.Requests.{cost, RoundedUp, billTests, Billing, coverTests, Covering}
-pub use Rattle.paper.specs.Bundle.{wordAt, RunOf, bundleTests, Delivered, Bundling}
+pub use Rattle.paper.specs.Bundle.{wordAt, RunOf, bundleTests, Delivered, Bundling, arrivalsFrom, Bundles}
 pub use Rattle.paper.specs.Beyond.{nearestTests, Nearest, reach, isListed, Reached, restoreTests, Restoring}
