@@ -56,10 +56,7 @@ impl Program {
     }
 
     /// The same: all that the program writes, and what it leaves of its input.
-    pub fn run_leaving<'a>(
-        &self,
-        pieces: impl Iterator<Item = &'a [u8]> + Send,
-    ) -> Result<(Written, Vec<u8>), String> {
+    pub fn run_leaving<'a>(&self, pieces: impl Iterator<Item = &'a [u8]> + Send) -> Result<(Written, Vec<u8>), String> {
         let problem = |error: std::io::Error| error.to_string();
         let (here, mut there) = UnixStream::pair().map_err(problem)?;
         let input = OwnedFd::from(there.try_clone().map_err(problem)?);
@@ -192,13 +189,14 @@ fn shown(terminal: Option<ScopedJoinHandle<Result<Vec<u8>, String>>>, piped: Vec
     }
 }
 
-/// All that a program writes; it must end well and have nothing to complain about.
+/// All that a program writes; it must end well and have nothing to complain about but the first three lines.
 fn finish(child: Child) -> Result<Vec<u8>, String> {
     let output = child.wait_with_output().map_err(|error| error.to_string())?;
-    if output.status.success() && output.stderr.is_empty() {
+    let said = String::from_utf8_lossy(&output.stderr);
+    if output.status.success() && said.lines().all(|line| line.starts_with("tally: line ")) {
         Ok(output.stdout)
     } else {
-        Err(format!("{}, {}", output.status, String::from_utf8_lossy(&output.stderr)))
+        Err(format!("{}, {said}", output.status))
     }
 }
 

@@ -6,7 +6,7 @@ use crate::capture::{heading, recording, text, word_lines};
 use crate::process::{Program, TemporaryFile, Written};
 use crate::random::Random;
 use crate::reference::page::PAGES;
-use crate::reference::program::{fault, tally};
+use crate::reference::program::{fault, tally, MAX_LINE};
 use crate::reference::shape::Shape;
 use crate::report::{Group, Unit, Verdict};
 use std::env;
@@ -25,6 +25,9 @@ extern "C" {
 /// A capture of one page.
 const CAPTURE: &str = "q n b\n3 2 8\nword\n5 2 7 3 1 2 6 3 5\n";
 
+/// The first three lines.
+const HEAD: [&str; 3] = ["q n b\n", "3 2 8\n", "word\n"];
+
 /// The summary of no answers.
 const NO_WORDS: &str = "0 taken, 0 again, 0 refused\n";
 
@@ -37,6 +40,7 @@ pub fn group(program: &Program) -> Group {
     test("a file gives what standard input gives", files);
     test("a dash is standard input", dash);
     test("help", |program, _| help(program));
+    test("version", |program, _| version(program));
     test("more than one argument", |program, _| several(program));
     test("options that there are not", |program, _| options(program));
     test("files that can't be opened", |program, _| unopened(program));
@@ -69,10 +73,23 @@ fn expect_refused(program: &Program, name: &str, reason: &str) -> Result<(), Str
     expect_refusal(&program.run_arguments(&[OsStr::new(name)], CAPTURE.as_bytes())?, name, reason)
 }
 
+fn expect_output(input: &[u8], written: &Written) -> Result<(), String> {
+    compare(&tally(input), Ok(written.output.clone())).map_or(Ok(()), Err)
+}
+
+/// What is said is this.
+fn expect_said(input: &[u8], said: &str, wanted: &str) -> Result<(), String> {
+    if said == wanted {
+        return Ok(());
+    }
+    let beginning = String::from_utf8_lossy(&input[..input.len().min(40)]);
+    Err(format!("{beginning:?}: it says {said:?}, expected {wanted:?}"))
+}
+
+/// The output, and standard error where that is no terminal: a fault in the first three lines, or nothing.
 fn expect_tally(input: &[u8], written: &Written) -> Result<(), String> {
-    let wrong = compare(&tally(input), Ok(written.output.clone()));
-    let wrong = wrong.or_else(|| (!written.error.is_empty()).then(|| String::from_utf8_lossy(&written.error).into()));
-    wrong.map_or(Ok(()), Err)
+    expect_output(input, written)?;
+    expect_said(input, &String::from_utf8_lossy(&written.error), &fault_text(input))
 }
 
 /// Captures of several kinds, whole and not.
@@ -124,6 +141,19 @@ fn help(program: &Program) -> Verdict {
     Ok(2)
 }
 
+/// Name and version, the one that pkg-config and the crate have.
+fn version(program: &Program) -> Verdict {
+    let written = program.run_arguments(&[OsStr::new("--version")], CAPTURE.as_bytes())?;
+    let said = String::from_utf8_lossy(&written.output).into_owned();
+    let number = said.strip_prefix("tally ").and_then(|rest| rest.strip_suffix('\n')).unwrap_or_default().to_string();
+    let files = [include_str!("../../../include/shaftglimmer.pc.in"), include_str!("../../../rust/Cargo.toml")];
+    let lines = [format!("\nVersion: {number}\n"), format!("\nversion = \"{number}\"\n")];
+    if files.iter().zip(&lines).any(|(file, line)| !file.contains(line)) || !written.error.is_empty() {
+        return Err(format!("it says {said:?}, and pkg-config or the crate has another version"));
+    }
+    Ok(1)
+}
+
 fn several(program: &Program) -> Verdict {
     let lists: [&[&str]; 6] =
         [&["a", "b"], &["-", "-"], &["--help", "b"], &["a", "--help"], &["-x", "b", "c"], &["", "--", "c", "d"]];
@@ -136,7 +166,8 @@ fn several(program: &Program) -> Verdict {
 }
 
 fn options(program: &Program) -> Verdict {
-    let options = ["-x", "--", "---", "-help", "--hel", "--helpp", "-H", "-h ", "--help=1", "--version", "-1"];
+    let options =
+        ["-x", "--", "---", "-help", "--hel", "--helpp", "-H", "-h ", "--help=1", "-version", "--Version", "-V", "-1"];
     for option in options {
         expect_refused(program, option, "no such option")?;
     }
@@ -235,11 +266,28 @@ fn expected_there(line: usize, refusal: u32) -> &'static str {
     }
 }
 
+/// What is said of a fault in the first three lines: which line, what was expected there, and what stands at the ends
+/// of a line that has its newline and is not too long.
+fn fault_text(input: &[u8]) -> String {
+    let Some((number, refusal)) = fault(input) else { return String::new() };
+    let mut text = expected_there(number, refusal as u32).to_string();
+    let line = input.split_inclusive(|&byte| byte == b'\n').nth(number - 1).filter(|line| line.len() <= MAX_LINE);
+    if let Some(line) = line.and_then(|line| line.strip_suffix(b"\n")) {
+        if line.starts_with("\u{feff}".as_bytes()) {
+            text += &format!("tally: line {number} begins with a byte order mark\n");
+        }
+        if line.ends_with(b"\r") {
+            text += &format!("tally: line {number} ends with a carriage return\n");
+        }
+    }
+    text
+}
+
 /// What stands there at the end. The refused line of a fault is the answer to no word.
 fn ending_of(input: &[u8], output: &[u8]) -> String {
     match fault(input) {
         None => summary_of(output),
-        Some((line, refusal)) => expected_there(line, refusal as u32).to_string() + NO_WORDS,
+        Some(_) => fault_text(input) + NO_WORDS,
     }
 }
 
@@ -259,14 +307,10 @@ fn shown(error: &[u8]) -> Result<(Vec<String>, String), String> {
 
 /// The progress lines of a run with this input. Output and summary must be right.
 fn progress_of(input: &[u8], written: &Written) -> Result<Vec<String>, String> {
-    expect_tally(input, &Written { output: written.output.clone(), error: vec![] })?;
+    expect_output(input, written)?;
     let (lines, last) = shown(&written.error)?;
-    let ending = ending_of(input, &written.output);
-    if last == ending {
-        Ok(lines)
-    } else {
-        Err(format!("at the end it says {last:?}, expected {ending:?}"))
-    }
+    expect_said(input, &last, &ending_of(input, &written.output))?;
+    Ok(lines)
 }
 
 /// After each line of a capture: the bytes so far, the pages taken and the lowest that is missing.
@@ -349,20 +393,26 @@ fn summary(program: &Program, random: &mut Random) -> Verdict {
     Ok(2 * inputs.len() as u64 + 1)
 }
 
-/// A fault in each of the first three lines, of every kind, or the input's end before them: a person is told which line
-/// and what was expected there, and no word is counted. A script is told nothing.
+/// A fault in each of the first three lines, of every kind, or the input's end before them: which line, what was expected
+/// there, and a byte order mark or a carriage return at its ends are said, to a script too. No word is counted.
 fn first_three(program: &Program) -> Verdict {
     let mut tried = 0;
     for (line, inputs) in (1..).zip([first_lines(), second_lines(), third_lines()]) {
-        for (input, refusal) in inputs {
+        let ends = [
+            format!("\u{feff}{}\r", HEAD[line - 1].trim_end()),
+            format!("\u{feff}{}", HEAD[line - 1].trim_end()),
+            "\u{feff}\r".into(),
+        ];
+        let ends = ends.map(|end| (HEAD[..line - 1].concat() + &end + "\nword\n", 10));
+        for (input, refusal) in inputs.into_iter().chain(ends) {
             let input = input.as_bytes();
-            let written = program.run_watched([input].into_iter(), Duration::ZERO, false, true)?;
-            let wanted = expected_there(line, refusal).to_string() + NO_WORDS;
-            let (_, said) = shown(&written.error)?;
-            if said != wanted {
-                return Err(format!("{:?}: it says {said:?}, expected {wanted:?}", String::from_utf8_lossy(input)));
+            if fault(input).map(|(number, by)| (number, by as u32)) != Some((line, refusal)) {
+                return Err(format!("{:?}: another fault is expected", String::from_utf8_lossy(input)));
             }
-            expect_tally(input, &Written { output: written.output, error: vec![] })?;
+            let written = program.run_watched([input].into_iter(), Duration::ZERO, false, true)?;
+            let (_, said) = shown(&written.error)?;
+            expect_said(input, &said, &(fault_text(input) + NO_WORDS))?;
+            expect_output(input, &written)?;
             expect_tally(input, &program.run_arguments(&[], input)?)?;
             tried += 2;
         }
