@@ -1,5 +1,5 @@
 // Reading a damaged word, the clean way.
-pub mod correct;
+mod correct;
 mod error;
 mod locate;
 mod looking;

@@ -1,7 +1,7 @@
 // Reading a word with at most two wrong symbols, whether they cancel on a check or not.
 mod attempt;
 pub mod lines;
-pub mod restore;
+mod restore;
 
 use correction::Decoded;
 use correction::test;

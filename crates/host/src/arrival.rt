@@ -31,6 +31,9 @@ const FEW: usize = 169;
 
 const FEW_DATA: usize = 144;
 
+// The data symbols of orders up to 19: an array for those of every order is longer to clear than they are to gather.
+const SHORT: usize = 324;
+
 // A page that is new: the last step, by value. It may still be refused.
 fn take_page(session: &mut [u32], number: u32, corrected: u32, marks: &[u32]) -> Outcome
     requires { ⌜ (length (now session) ≡ 1292) × Consistent (sessionOf (now session)) × (number < 1024) × Functions (now marks) ⌝ }
@@ -94,6 +97,17 @@ fn take_word(
             word,
             &mut came[..size],
             &mut few[..info],
+        );
+    }
+    if info <= SHORT {
+        let mut short = [0u32; SHORT];
+        return settle_word(
+            session,
+            shape,
+            way,
+            word,
+            &mut scratch[..size],
+            &mut short[..info],
         );
     }
     let mut symbols = [0u32; 900];

@@ -1,5 +1,5 @@
 // Reading a damaged word by vote.
-pub mod correct;
+mod correct;
 mod locate;
 mod vote;
 

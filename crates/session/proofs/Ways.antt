@@ -1,35 +1,32 @@
 -- The ways of reading that an arrival may name, all together.
-use mathlib.Core.Path.{_≡_, refl, sym, _∙_}
-use mathlib.Core.Bool.{true, false}
+use mathlib.Core.Path.{_≡_, refl}
+use mathlib.Core.Bool.{true}
 use mathlib.Core.List.{List}
 use mathlib.Core.Logic.{_⊎_, inl, inr}
 use Prim.Native.Nat.{ℕ, zero, suc, _/_, _<_, _≤_, zero-le}
 use native.Mathlib.Omega.{arith}
 use lib.Dec.{leb}
-use lib.ListN.{length}
-use borrow.Author.Tests.{eq-eqb, ltb-true, le-leb, leb-true}
+use borrow.Author.Tests.{ltb-true, le-leb, leb-true}
 use Rattle.gtb.specs.declared.Shape.{Shape}
-use Rattle.gtb.specs.declared.Refusal.{Refusal}
-use Rattle.gtb.specs.Shape.{Lawful, wordLength}
-use Rattle.gtb.specs.Square.{narrow}
+use Rattle.gtb.specs.Shape.{Lawful}
 use Rattle.distance.specs.Distance.{Near}
 use Rattle.correction.specs.declared.Decoded.{Decoded}
-use Rattle.correction.specs.declared.Decoded.the-variants.{Refused}
-use Rattle.correction.specs.Reading.{Reader, readOf}
-use Rattle.correction.specs.Steps.{Corrects}
 use Rattle.correction.proofs.Near.{damaged-near, near-damages}
 use Rattle.decoder.specs.Damage.{Explains}
+use Rattle.decoder.specs.Decode.{Decoding}
 use Rattle.decoder.specs.Decode as decoder
 use Rattle.decoder.proofs.Meaning.{clean-meant}
 use Rattle.decoder.proofs.Alikes.{clean-alike}
+use Rattle.majority.specs.Majority.{Voting}
 use Rattle.majority.specs.Majority as majority
 use Rattle.majority.proofs.Meaning.{vote-meant}
 use Rattle.majority.proofs.Alikes.{vote-alike}
+use Rattle.double.specs.Double.{ReadingTwo}
 use Rattle.double.specs.Double as double
 use Rattle.double.proofs.Meaning.{two-meant}
 use Rattle.double.proofs.Alikes.{two-alike}
-use Rattle.session.specs.Arrival.{AllSound, wayBy, clean, vote, two, isWay, wayOf, theWays}
-use Rattle.session.specs.Steps.{Openable, Reading}
+use Rattle.session.specs.Arrival.{AllSound, clean, vote, two, isWay, wayOf, theWays}
+use Rattle.session.specs.Steps.{Reading}
 use Rattle.session.proofs.NoDamage.{no-damage-clean, no-damage-weight}
 use Rattle.session.proofs.Asked.{Asked, asked}
 
@@ -78,41 +75,21 @@ all-read (suc (suc way)) = two-asked
 pub all-sound : (s : Shape) → Lawful s → AllSound theWays s
 all-sound s legal = record { sound = λ way known. all-read way .sound s legal }
 
--- past tests 1, 18, 16 and 2: test 3 refuses, or the work answers
-module _ (reader : Reader) (Allowed : Shape → (ℕ → ℕ) → Type 0) {s : Shape} {w : List ℕ} (law : Lawful s) (fits : reader .suits s ≡ true) (size : length w ≡ wordLength s) where
-  read-wide : narrow (s .b) w ≡ false → Reading (wayBy reader Allowed) s w w (Refused Refusal.Width)
-  unfolding readOf
-  read-wide h = record { answer = sym (rw (law, fits, eq-eqb (length w) (wordLength s) size, h)); word = refl }
-
-  read-corrects : narrow (s .b) w ≡ true → {w′ : List ℕ} {r : Decoded} → Corrects reader s w w′ r → Reading (wayBy reader Allowed) s w w′ r
-  unfolding readOf
-  read-corrects h c = record { answer = c .answer ∙ sym (rw (law, fits, eq-eqb (length w) (wordLength s) size, h)); word = c .word }
-
--- so each way gives what its reader does
-module _ {s : Shape} {w : List ℕ} where
-  pub reads-wide : (way : ℕ) → Openable s way w → narrow (s .b) w ≡ false → Reading (wayOf way) s w w (Refused Refusal.Width)
+-- what each reader ensures is what its way gives
+module _ {s : Shape} {w w′ : List ℕ} {r : Decoded} where
+  pub reads-clean : (way : ℕ) → way ≡ 0 → Decoding s w w′ r → Reading (wayOf way) s w w′ r
   unfolding wayOf
-  reads-wide zero o = read-wide decoder.clean _ (o .lawful) (o .suits) (o .size)
-  reads-wide (suc zero) o = read-wide majority.vote _ (o .lawful) (o .suits) (o .size)
-  reads-wide (suc (suc way)) o = read-wide double.two _ (o .lawful) (o .suits) (o .size)
+  reads-clean way h read = rw h (record { answer = read .answer; word = read .word })
 
-  module _ {w′ : List ℕ} {r : Decoded} where
-    pub reads-clean : (way : ℕ) → way ≡ 0 → Openable s way w → narrow (s .b) w ≡ true → Corrects decoder.clean s w w′ r → Reading (wayOf way) s w w′ r
-    unfolding wayOf
-    reads-clean zero h o small c = read-corrects decoder.clean _ (o .lawful) (o .suits) (o .size) small c
-    reads-clean (suc way) h o small c = absurd (omega arith)
+  pub reads-vote : (way : ℕ) → way ≡ 1 → Voting s w w′ r → Reading (wayOf way) s w w′ r
+  unfolding wayOf
+  reads-vote way h read = rw h (record { answer = read .answer; word = read .word })
 
-    pub reads-vote : (way : ℕ) → way ≡ 1 → Openable s way w → narrow (s .b) w ≡ true → Corrects majority.vote s w w′ r → Reading (wayOf way) s w w′ r
-    unfolding wayOf
-    reads-vote zero h o small c = absurd (omega arith)
-    reads-vote (suc zero) h o small c = read-corrects majority.vote _ (o .lawful) (o .suits) (o .size) small c
-    reads-vote (suc (suc way)) h o small c = absurd (omega arith)
-
-    pub reads-two : (way : ℕ) → (way ≡ 0 → ⊥) → (way ≡ 1 → ⊥) → Openable s way w → narrow (s .b) w ≡ true → Corrects double.two s w w′ r → Reading (wayOf way) s w w′ r
-    unfolding wayOf
-    reads-two zero h g o small c = absurd (h refl)
-    reads-two (suc zero) h g o small c = absurd (g refl)
-    reads-two (suc (suc way)) h g o small c = read-corrects double.two _ (o .lawful) (o .suits) (o .size) small c
+  pub reads-two : (way : ℕ) → (way ≡ 0 → ⊥) → (way ≡ 1 → ⊥) → ReadingTwo s w w′ r → Reading (wayOf way) s w w′ r
+  unfolding wayOf
+  reads-two zero h g read = absurd (h refl)
+  reads-two (suc zero) h g read = absurd (g refl)
+  reads-two (suc (suc way)) h g read = record { answer = read .answer; word = read .word }
 
 -- test 16: the first two suit every shape, the last one those with three directions or more
 pub suits-early : (way : ℕ) (s : Shape) → way < 2 → wayOf way .suits s ≡ true

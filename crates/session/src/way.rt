@@ -1,11 +1,11 @@
 // The ways of reading that an arrival may name.
 use crate::Session;
 use correction::Decoded;
-use gtb::Refusal;
 use gtb::Shape;
 ghost use mathlib.Core.Path.{_≡_};
+ghost use mathlib.Core.Bool.{true};
 ghost use Rattle.session.specs.Arrival.{isWay, wayOf};
-ghost use Rattle.session.specs.Steps.{Openable, Reading};
+ghost use Rattle.session.specs.Steps.{Reading};
 
 impl Session {
     // Numbers of ways of reading are below this.
@@ -38,19 +38,16 @@ pub fn suits(shape: Shape, way: u32) -> bool
     shape.n >= 3
 }
 
-// A word past tests 1, 18, 16 and 2, read the way that is named: here the ways meet.
+// A word read the way that is named: here the ways meet.
 pub fn read_word(shape: Shape, way: u32, word: &mut [u32]) -> Decoded
-    requires { ⌜ Openable shape way (now word) ⌝ }
+    requires { ⌜ isWay way ≡ true ⌝ }
     ensures { λ r. ⌜ Reading (wayOf way) shape (now (word .entry)) (now (word .exit)) r ⌝ }
 {
-    if !gtb::is_narrow(word, shape.b) {
-        return Decoded::Refused(Refusal::Width);
-    }
     if way == Session::CLEAN {
-        return decoder::correct::correct(shape, word);
+        return decoder::decode(shape, word);
     }
     if way == Session::VOTE {
-        return majority::correct::correct(shape, word);
+        return majority::decode_majority(shape, word);
     }
-    double::restore::restore(shape, word)
+    double::decode_two(shape, word)
 }

@@ -34,8 +34,13 @@ info-room c = omega (arith, c .info-length .ensures, sizes _ (start c .pre .0 .o
 
 settle-word-requires-2 : tie.Need-settle-word-requires-2
 settle-word-requires-2 c κs =
+    let short = c .before .before .before .before in
+    (start (short .before .before) .pre .0, length-take-le _ _ (scratch-room (short .before)), length-take-le _ _ (short .if2 .taken) ∙ short .before .before .info-length .ensures)
+
+settle-word-requires-3 : tie.Need-settle-word-requires-3
+settle-word-requires-3 c κs =
     let long = c .before .before .before .before in
-    (start (long .before) .pre .0, length-take-le _ _ (scratch-room long), length-take-le _ _ (info-room (long .before)) ∙ long .before .info-length .ensures)
+    (start (long .before .before) .pre .0, length-take-le _ _ (scratch-room (long .before)), length-take-le _ _ (info-room (long .before .before)) ∙ long .before .before .info-length .ensures)
 
 pub take-word-spec : {M : Type 1} → statement M
-take-word-spec = tie.close (tie.spec (λ c κs. c .before .before .before .pre .0 .openable .lawful) (λ c. c .before .before .if1 .taken) (λ c. sym (length-take-le _ _ (c .before .before .before .if1 .taken))) (λ c. few-room (c .before .before .before)) (λ c. sym (length-take-le _ _ (few-room (c .before .before .before .before)))) settle-word-requires (λ c. search needs) (λ c. search needs) (λ c. search needs) (λ c. scratch-room (c .before .before)) (λ c. sym (length-take-le _ _ (scratch-room (c .before .before .before)))) (λ c. info-room (c .before .before .before .before)) (λ c. sym (length-take-le _ _ (info-room (c .before .before .before .before .before)))) settle-word-requires-2 (λ c. search needs) (λ c. search needs) (λ c. search needs) (λ c. search needs))
+take-word-spec = tie.close (tie.spec (λ c κs. c .before .before .before .pre .0 .openable .lawful) (λ c. c .before .before .if1 .taken) (λ c. sym (length-take-le _ _ (c .before .before .before .if1 .taken))) (λ c. few-room (c .before .before .before)) (λ c. sym (length-take-le _ _ (few-room (c .before .before .before .before)))) settle-word-requires (λ c. search needs) (λ c. search needs) (λ c. search needs) (λ c. scratch-room (c .before .before .before)) (λ c. sym (length-take-le _ _ (scratch-room (c .before .before .before .before)))) (λ c. c .before .before .before .if2 .taken) (λ c. sym (length-take-le _ _ (c .before .before .before .before .if2 .taken))) settle-word-requires-2 (λ c. search needs) (λ c. search needs) (λ c. search needs) (λ c. search needs) (λ c. scratch-room (c .before .before .before)) (λ c. sym (length-take-le _ _ (scratch-room (c .before .before .before .before)))) (λ c. info-room (c .before .before .before .before .before)) (λ c. sym (length-take-le _ _ (info-room (c .before .before .before .before .before .before)))) settle-word-requires-3 (λ c. search needs) (λ c. search needs) (λ c. search needs) (λ c. search needs))

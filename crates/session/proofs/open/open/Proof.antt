@@ -15,4 +15,4 @@ returns-2 : tie.Need-returns-2
 returns-2 c = opens-page _ _ (c .before .before .before .before .before .before .before .before .before .before .read-word .ensures) (c .before .before .before .before .before .before .corrected .given .1) (c .before .before .find-page .ensures)
 
 pub open-spec : {M : Type 1} → statement M
-open-spec = tie.close (tie.spec (λ c κs. search needs) (λ c. search needs) (λ c. search needs) find-page-requires (λ c. search needs) returns (λ c. search needs) (λ c. search needs) returns-2)
+open-spec = tie.close (tie.spec (λ c κs. c .before .before .before .pre .0 .known) (λ c. search needs) (λ c. search needs) find-page-requires (λ c. search needs) returns (λ c. search needs) (λ c. search needs) returns-2)
