@@ -2,6 +2,7 @@ pub mod Choices
 pub mod Texts
 pub mod Equations
 pub mod Moves
+pub mod Faults
 pub mod Stands
 pub mod Runs
 pub mod Remarks
