@@ -1,13 +1,12 @@
 -- The answers to the whole call, and that the contract leaves one answer, one session and one of each slice.
 use mathlib.Core.Path.{_≡_, refl, sym, ap, ap₂, _∙_}
-use mathlib.Core.Bool.{true, false, _&&_}
+use mathlib.Core.Bool.{_&&_}
 use mathlib.Core.List.{List}
 use Prim.Native.Nat.{ℕ}
 use lib.Dec.{eqb}
 use lib.ListN.{length}
-use borrow.Author.Tests.{eqb-true, eq-eqb, ne-eqb}
+use borrow.Author.Tests.{eqb-true}
 use Rattle.parity.proofs.Tests.{and-left, and-right}
-use Rattle.gtb.specs.declared.Shape.{Shape}
 use Rattle.gtb.specs.declared.Refusal.{Refusal}
 use Rattle.gtb.specs.declared.Status.{Status}
 use Rattle.gtb.specs.declared.Status.the-variants as status
@@ -23,19 +22,6 @@ use Rattle.batch.specs.declared.Delivered.{Delivered}
 use Rattle.batch.specs.Batch.{wordsIn, wholeRun, allFit, wordAt, batchStatus, valuesOf, Arrivals, Batching}
 use Rattle.batch.specs.Steps.{Tested}
 use Rattle.batch.proofs.Runs.{run-words, same-words}
-
--- ---- test 2, by what fails it first
-module _ (s : Shape) (words scratch outcomes : List ℕ) where
-  pub fits-run : wholeRun s words ≡ false → false ≡ allFit s words scratch outcomes
-  fits-run bad = sym (rw bad)
-
-  pub fits-scratch : wholeRun s words ≡ true → (length scratch ≡ scratchLength s → ⊥)
-      → false ≡ allFit s words scratch outcomes
-  fits-scratch run bad = sym (rw (run, ne-eqb (length scratch) (scratchLength s) bad))
-
-  pub fits-list : wholeRun s words ≡ true → length scratch ≡ scratchLength s
-      → eqb (length outcomes) 192 ≡ allFit s words scratch outcomes
-  fits-list run room = sym (rw (run, eq-eqb (length scratch) (scratchLength s) room))
 
 module _ (σ : Session) (k : ℕ) (words scratch outcomes : List ℕ) where
   -- not turned down: all tests were passed

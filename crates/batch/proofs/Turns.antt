@@ -1,6 +1,6 @@
 -- The run word by word: what holds after m words, and one word more.
-use mathlib.Core.Path.{_≡_, refl, sym, ap, ap₂, _∙_, subst, subst₂}
-use mathlib.Core.Bool.{Bool, true, false}
+use mathlib.Core.Path.{_≡_, refl, sym, ap, ap₂, _∙_, subst}
+use mathlib.Core.Bool.{Bool, true, false, cond}
 use mathlib.Core.List.{List, [], _∷_, _++_}
 use mathlib.Core.Logic.{⊎-elim}
 use Prim.Native.Nat.{ℕ, _+_, _-_, _*_, _<_, _≤_}
@@ -9,7 +9,7 @@ use native.Mathlib.Numerals.{add-one}
 use native.Mathlib.Omega.{arith}
 use lib.ListN.{length, getD, take, drop, replicate, length-append, length-drop, take-append-drop, List·getD-append}
 use lib.Seq.{length-take-le, take-at, drop-at, drop-drop, getD-at}
-use borrow.Rule.Slice.PartMut.{midOf, putMid, mid-len, same-len-mid, take-put}
+use borrow.Rule.Slice.PartMut.{midOf, putMid, mid-len, same-len-mid}
 use Rattle.gtb.specs.declared.Shape.{Shape}
 use Rattle.gtb.specs.declared.Refusal.{Refusal}
 use Rattle.gtb.specs.Shape.{wordLength, infoLength, scratchLength}
@@ -18,19 +18,19 @@ use Rattle.session.specs.declared.Opening.{Opening}
 use Rattle.session.specs.declared.Opening.the-variants as opening
 use Rattle.session.specs.declared.Outcome.{Outcome}
 use Rattle.session.specs.declared.Outcome.the-variants.{Again, Refused}
+use Rattle.session.specs.declared.Arrived.{Arrived}
 use Rattle.session.specs.Session.{Consistent}
-use Rattle.session.specs.Arrival.{Way, wayOf, theWays, Opened, Page, outcomeValues, wordAfter, Arriving}
+use Rattle.session.specs.Arrival.{Way, wayOf, theWays, Page, outcomeValues, isAccepted, wordAfter, Arriving}
 use Rattle.session.specs.Claim.{Run, stop, step, answerAt}
-use Rattle.session.specs.Steps.{Openable, Keeps, openedBy, Deciding}
+use Rattle.session.specs.Steps.{Openable, Settling, Keeps, Deciding}
 use Rattle.session.proofs.Alikes.{shape-kept}
 use Rattle.session.proofs.Arrive.{decides-arrives}
 use Rattle.session.proofs.Opens.{decides-refused, decides-again, decides-new}
 use Rattle.session.proofs.Progress.{after-consistent}
 use Rattle.session.proofs.Joins.{run-join}
-use Rattle.batch.specs.declared.Seen.{Seen}
 use Rattle.batch.specs.declared.Seen.the-variants.{Known, New}
 use Rattle.batch.specs.Batch.{wordsIn, wordAt, arrivalOf, firstArrivals, valuesOf, Arrivals}
-use Rattle.batch.specs.Steps.{Tested, Ready, OneArrival, Looked, Takes}
+use Rattle.batch.specs.Steps.{Tested, OneArrival, Looked}
 use Rattle.batch.proofs.Runs.{Place, words-before, front-part}
 use Rattle.batch.proofs.Outcomes.{values-size, values-none, values-more}
 
@@ -60,10 +60,11 @@ module _ {way : Way} {s : Shape} {word word′ came symbols : List ℕ} {found :
         new = λ number′ c′ k′ is. let same : opening.Page number c k ≡ opening.Page number′ c′ k′ = cc in subst (λ (r : Opening). Keeps way s word word′ came symbols r) (h ∙ same) keeps;
       }
 
--- a page that is new, taken with the session that has these marks
+-- a page that is new, settled with the session that has these marks
 pub page-arrives : {way : Way} {s : Shape} (σ : Session) {word word′ came symbols : List ℕ} {number c k : ℕ} → σ .shape ≡ s → Keeps way s word word′ came symbols (opening.Page number c k)
-    → {word″ values : List ℕ} {σ′ : Session} → Takes σ (Page number (take (2 + c - 2) (drop 2 symbols)) k) word′ came word″ values σ′ → OneArrival way σ word σ′ word″ values
-page-arrives σ same keeps t = record { answer = t .answer; decides = decides-new σ (own keeps σ same) refl (t .settled) (t .left); written = t .written }
+    → {r : Arrived} {word″ values : List ℕ} → Settling σ (Page number (take (2 + c - 2) (drop 2 symbols)) k) r → word″ ≡ cond (isAccepted (r .outcome)) word′ came → values ≡ outcomeValues (r .outcome)
+    → OneArrival way σ word (r .session) word″ values
+page-arrives σ same keeps {r} settled put written = record { answer = r .outcome; decides = decides-new σ (own keeps σ same) refl settled put; written = written }
 
 -- ---- after m words
 pub record Delivering (σ : Session) (k : ℕ) (words scratch : List ℕ) (m : ℕ) (words′ outcomes′ : List ℕ) (end : Session) : Type 0 where
@@ -162,10 +163,6 @@ module _ {σ : Session} {k : ℕ} {words scratch outcomes : List ℕ} (tested : 
       let after : (xs : List ℕ) → drop ((m + 1) * N) xs ≡ drop N (drop (m * N) xs) = λ xs. ap (λ (n : ℕ). drop n xs) (sym both) ∙ sym (drop-drop N (m * N) xs) in
       after put ∙ ap (drop N) put-rest ∙ drop-at word″ _ N len ∙ ap (drop N) (d .rest) ∙ sym (after words)
 
-  -- what it brings to the session that it finds
-  brought : Opened
-  brought = openedBy (wayOf k) (end .shape) (wordAt (σ .shape) words′ m)
-
   run-turn : Run theWays σ (firstArrivals (σ .shape) k words scratch (m + 1)) answered end′
   unfolding firstArrivals
   run-turn =
@@ -183,7 +180,6 @@ module _ {σ : Session} {k : ℕ} {words scratch outcomes : List ℕ} (tested : 
       ∙ values-more (d .answers) (one .answer) (rw (d .answered) few)
 
   turn : Delivering σ k words scratch (m + 1) put (putMid (3 * m) 3 outcomes′ values″) end′
-  unfolding brought
   turn = record {
     answers = answered;
     run = run-turn;
@@ -192,29 +188,11 @@ module _ {σ : Session} {k : ℕ} {words scratch outcomes : List ℕ} (tested : 
     word = word-turn;
     rest = rest-turn;
     outcomesLeft = outcomes-turn;
-    consistent = subst Consistent (sym (one .decides .settled .session)) (after-consistent end brought (d .consistent));
-    shape = ap (λ (τ : Session). τ .shape) (one .decides .settled .session) ∙ shape-kept end brought ∙ d .shape;
+    consistent = subst Consistent (sym (one .decides .settled .session)) (after-consistent end _ (d .consistent));
+    shape = ap (λ (τ : Session). τ .shape) (one .decides .settled .session) ∙ shape-kept end _ ∙ d .shape;
   }
 
--- with places and lengths as the code has them
-turn-at : {σ : Session} {k : ℕ} {words scratch outcomes : List ℕ} → Tested σ k words scratch outcomes → {m : ℕ} {words′ outcomes′ : List ℕ} {end : Session} → Delivering σ k words scratch m words′ outcomes′ end
-    → m < 64 → m * wordLength (σ .shape) + wordLength (σ .shape) ≤ length words → {end′ : Session} {word″ values″ : List ℕ}
-    → (from gap three : ℕ) → from ≡ m * wordLength (σ .shape) → gap ≡ wordLength (σ .shape) → three ≡ 3
-    → length word″ ≡ length (midOf from gap words′) → OneArrival (wayOf k) end (midOf from gap words′) end′ word″ values″
-    → Delivering σ k words scratch (m + 1) (putMid from gap words′ word″) (putMid (3 * m) three outcomes′ values″) end′
-turn-at tested d few room from gap three f g t = rw (f, g, t) (λ len one. turn tested d few room (len ∙ word-part d room) one)
-
--- a part that is lent twice
-module _ (a k : ℕ) (xs ys : List ℕ) (before : a ≤ length xs) (size : length ys ≡ k) where
-  put-front : length (take a xs) ≡ a
-  put-front = length-take-le a xs before
-
-  pub mid-put : midOf a k (putMid a k xs ys) ≡ ys
-  mid-put = ap (take k) (drop-at (take a xs) _ a put-front) ∙ take-at ys _ k size
-
-  pub put-put : (zs : List ℕ) → putMid a k (putMid a k xs ys) zs ≡ putMid a k xs zs
-  put-put zs = ap₂ (λ (u v : List ℕ). u ++ (zs ++ v)) (take-put a k xs ys before) (ap (drop k) (drop-at (take a xs) _ a put-front) ∙ drop-at ys _ k size)
-
+-- ---- with places and lengths as the code has them
 module _ {σ : Session} {k : ℕ} {words scratch : List ℕ} {m : ℕ} {words′ outcomes′ : List ℕ} {end : Session} (d : Delivering σ k words scratch m words′ outcomes′ end) where
   -- the list of outcomes keeps its length
   pub list-size : m ≤ 64 → length outcomes′ ≡ 192
@@ -233,60 +211,16 @@ module _ {σ : Session} {k : ℕ} {words scratch : List ℕ} {m : ℕ} {words′
     pub values-three : length (midOf (3 * m) (3 * m + 3 - 3 * m) outcomes′) ≡ 3 * m + 3 - 3 * m
     values-three = mid-len (3 * m) (3 * m + 3) outcomes′ (omega (arith, list-size (le-of-lt (place .few)), place .few))
 
-    pub turn-ready : {came symbols : List ℕ} → length came ≡ size → length symbols ≡ infoLength (σ .shape)
-        → Ready (σ .shape) k (midOf (m * size) (m * size + size - m * size) words′) came symbols (midOf (3 * m) (3 * m + 3 - 3 * m) outcomes′)
-    turn-ready copy room =
+    pub turn-ready : (came symbols : List ℕ) → length came ≡ size → length symbols ≡ infoLength (σ .shape)
+        → let word = midOf (m * size) (m * size + size - m * size) words′ in
+        Openable (σ .shape) k word × (length came ≡ length word) × (length symbols ≡ infoLength (σ .shape)) × (length (midOf (3 * m) (3 * m + 3 - 3 * m) outcomes′) ≡ 3)
+    turn-ready came symbols copy room =
         let a = tested .admitted in
-        record {
-          openable = record { known = a .known; lawful = a .lawful; suits = a .suits; size = word-size ∙ gap ∙ is };
-          copySize = copy ∙ sym (word-size ∙ gap);
-          symbolsSize = room;
-          valuesSize = values-three ∙ three;
-        }
+        (record { known = a .known; lawful = a .lawful; suits = a .suits; size = word-size ∙ gap ∙ is }, copy ∙ sym (word-size ∙ gap), room, values-three ∙ three)
 
     pub turn-code : {end′ : Session} {word″ values″ : List ℕ} → length word″ ≡ length (midOf (m * size) (m * size + size - m * size) words′)
         → OneArrival (wayOf k) end (midOf (m * size) (m * size + size - m * size) words′) end′ word″ values″
         → Delivering σ k words scratch (m + 1) (putMid (m * size) (m * size + size - m * size) words′ word″) (putMid (3 * m) (3 * m + 3 - 3 * m) outcomes′ values″) end′
     turn-code =
-        turn-at tested d (place .few) (subst (λ (n : ℕ). m * n + n ≤ length words) is (place .room)) (m * size) (m * size + size - m * size) (3 * m + 3 - 3 * m)
-        (ap (λ (n : ℕ). m * n) is) (gap ∙ is) three
-
-    -- a word that a look left with a page that is new: both parts are lent again, for the last step
-    module _ {taken : List Bool} {word₁ came symbols values₁ : List ℕ} {r : Seen} (seen : Looked (wayOf k) (σ .shape) taken (midOf (m * size) (m * size + size - m * size) words′) word₁ came symbols values₁ r) (first : length word₁ ≡ length (midOf (m * size) (m * size + size - m * size) words′)) (listed : length values₁ ≡ length (midOf (3 * m) (3 * m + 3 - 3 * m) outcomes′)) where
-      abbrev looked : List ℕ
-      looked = putMid (m * size) (m * size + size - m * size) words′ word₁
-
-      abbrev noted : List ℕ
-      noted = putMid (3 * m) (3 * m + 3 - 3 * m) outcomes′ values₁
-
-      pub looked-size : length looked ≡ length words′
-      looked-size = same-len-mid (m * size) (m * size + size - m * size) words′ word₁ first
-
-      pub noted-size : length noted ≡ length outcomes′
-      noted-size = same-len-mid (3 * m) (3 * m + 3 - 3 * m) outcomes′ values₁ listed
-
-      before-word : m * size ≤ length words′
-      before-word = omega (arith, place .room, d .size)
-
-      before-values : 3 * m ≤ length outcomes′
-      before-values = omega (arith, list-size (le-of-lt (place .few)), place .few)
-
-      pub same-part : midOf (m * size) (m * size + size - m * size) looked ≡ word₁
-      same-part = mid-put (m * size) (m * size + size - m * size) words′ word₁ before-word (first ∙ word-size)
-
-      pub part-size : length (midOf (m * size) (m * size + size - m * size) looked) ≡ size
-      part-size = ap length same-part ∙ first ∙ word-size ∙ gap
-
-      pub part-three : length (midOf (3 * m) (3 * m + 3 - 3 * m) noted) ≡ 3
-      part-three = mid-len (3 * m) (3 * m + 3) noted (omega (arith, noted-size, list-size (le-of-lt (place .few)), place .few)) ∙ three
-
-      pub turn-page : {number c n : ℕ} → r ≡ New number c n → {word″ values″ : List ℕ} {end′ : Session}
-          → length word″ ≡ length (midOf (m * size) (m * size + size - m * size) looked)
-          → Takes end (Page number (take (2 + c - 2) (drop 2 symbols)) n) (midOf (m * size) (m * size + size - m * size) looked) came word″ values″ end′
-          → Delivering σ k words scratch (m + 1) (putMid (m * size) (m * size + size - m * size) looked word″) (putMid (3 * m) (3 * m + 3 - 3 * m) noted values″) end′
-      turn-page {number} {c} {n} is {word″} {values″} {end′} len takes =
-          let one = page-arrives end (d .shape) (seen .new number c n is) (subst (λ (w : List ℕ). Takes end (Page number (take (2 + c - 2) (drop 2 symbols)) n) w came word″ values″ end′) same-part takes) in
-          subst₂ (λ (xs ys : List ℕ). Delivering σ k words scratch (m + 1) xs ys end′)
-          (sym (put-put (m * size) (m * size + size - m * size) words′ word₁ before-word (first ∙ word-size) word″))
-          (sym (put-put (3 * m) (3 * m + 3 - 3 * m) outcomes′ values₁ before-values (listed ∙ values-three) values″))
-          (turn-code (len ∙ ap length same-part ∙ first) one)
+        let room : m * wordLength (σ .shape) + wordLength (σ .shape) ≤ length words = subst (λ (n : ℕ). m * n + n ≤ length words) is (place .room) in
+        rw (gap ∙ is, three, ap (λ (n : ℕ). m * n) is) (λ len one. turn tested d (place .few) room (len ∙ word-part d room) one)

@@ -1,16 +1,16 @@
 -- Contracts of the bundle's private steps.
 use mathlib.Core.Path.{_≡_}
-use mathlib.Core.Bool.{Bool, true, cond}
+use mathlib.Core.Bool.{Bool, true}
 use mathlib.Core.List.{List}
 use Prim.Native.Nat.{ℕ}
 use lib.ListN.{length}
 use Rattle.gtb.specs.declared.Shape.{Shape}
-use Rattle.gtb.specs.Shape.{infoLength, scratchLength}
+use Rattle.gtb.specs.Shape.{scratchLength}
 use Rattle.session.specs.declared.Session.{Session}
 use Rattle.session.specs.declared.Outcome.{Outcome}
 use Rattle.session.specs.declared.Opening.the-variants as opening
-use Rattle.session.specs.Arrival.{Way, Opened, outcomeValues, isAccepted}
-use Rattle.session.specs.Steps.{Admitted, Openable, Keeps, Settling, Deciding}
+use Rattle.session.specs.Arrival.{Way, outcomeValues}
+use Rattle.session.specs.Steps.{Admitted, Keeps, Deciding}
 use Rattle.batch.specs.declared.Seen.{Seen}
 use Rattle.batch.specs.declared.Seen.the-variants.{Known, New}
 use Rattle.batch.specs.Batch.{wholeRun}
@@ -22,13 +22,6 @@ pub record Tested (σ : Session) (k : ℕ) (words scratch outcomes : List ℕ) :
   pub scratchSize : length scratch ≡ scratchLength (σ .shape)
   pub outcomesSize : length outcomes ≡ 192
 
--- so one word of the run finds this, with room for what came and for its symbols
-pub record Ready (s : Shape) (k : ℕ) (word came symbols values : List ℕ) : Type 0 where
-  pub openable : Openable s k word
-  pub copySize : length came ≡ length word
-  pub symbolsSize : length symbols ≡ infoLength s
-  pub valuesSize : length values ≡ 3
-
 -- a word is decided, and its answer's values are written down
 pub record OneArrival (way : Way) (σ : Session) (word : List ℕ) (σ′ : Session) (word′ values′ : List ℕ) : Type 0 where
   pub answer : Outcome
@@ -39,10 +32,3 @@ pub record OneArrival (way : Way) (σ : Session) (word : List ℕ) (σ′ : Sess
 pub record Looked (way : Way) (s : Shape) (taken : List Bool) (word word′ came′ symbols′ values′ : List ℕ) (r : Seen) : Type 0 where
   pub known : r ≡ Known → (σ : Session) → σ .shape ≡ s → σ .taken ≡ taken → OneArrival way σ word σ word′ values′
   pub new : (number c k : ℕ) → r ≡ New number c k → Keeps way s word word′ came′ symbols′ (opening.Page number c k)
-
--- the last step with such a page: what came is put back where it is refused after all, and the answer's values are written down
-pub record Takes (σ : Session) (o : Opened) (word came word′ values′ : List ℕ) (σ′ : Session) : Type 0 where
-  pub answer : Outcome
-  pub settled : Settling σ o (record { session = σ′; outcome = answer })
-  pub left : word′ ≡ cond (isAccepted answer) word came
-  pub written : values′ ≡ outcomeValues answer

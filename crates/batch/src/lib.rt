@@ -12,14 +12,12 @@ use session::number::put_outcome;
 use session::open::open_kept;
 use session::put_back;
 ghost use mathlib.Core.Path.{_≡_};
-ghost use Prim.Native.Nat.{_<_};
 ghost use lib.ListN.{length};
 ghost use Rattle.gtb.specs.Shape.{Lawful, wordLength, infoLength};
-ghost use Rattle.session.specs.Session.{Consistent};
-ghost use Rattle.session.specs.Arrival.{wayOf, Opened};
-ghost use Rattle.session.specs.Steps.{Functions};
-ghost use Rattle.batch.specs.Batch.{wholeRun, allFit, batchStatus, Arrivals, Batching};
-ghost use Rattle.batch.specs.Steps.{Tested, Ready, Looked, Takes};
+ghost use Rattle.session.specs.Arrival.{wayOf};
+ghost use Rattle.session.specs.Steps.{Openable};
+ghost use Rattle.batch.specs.Batch.{wholeRun, batchStatus, Arrivals, Batching};
+ghost use Rattle.batch.specs.Steps.{Tested, Looked};
 
 // A run has at most so many words.
 pub const WORDS: usize = 64;
@@ -55,20 +53,6 @@ fn is_run(shape: Shape, words: &[u32]) -> bool
     count <= WORDS
 }
 
-// Test 2 on all that is lent.
-fn fits(shape: Shape, words: &[u32], scratch: &[u32], outcomes: &[u32]) -> bool
-    requires { ⌜ Lawful shape ⌝ }
-    ensures { λ r. ⌜ r ≡ allFit shape (now (words .entry)) (now (scratch .entry)) (now (outcomes .entry)) ⌝ }
-{
-    if !is_run(shape, words) {
-        return false;
-    }
-    if scratch.len() != scratch_length(shape) {
-        return false;
-    }
-    outcomes.len() == OUTCOMES
-}
-
 // The tests for the whole call: those of an arrival, then 2.
 fn judge(session: Session, way: u32, words: &[u32], scratch: &[u32], outcomes: &[u32]) -> Status
     ensures { λ r. ⌜ r ≡ batchStatus session way (now (words .entry)) (now (scratch .entry)) (now (outcomes .entry)) ⌝ }
@@ -76,7 +60,14 @@ fn judge(session: Session, way: u32, words: &[u32], scratch: &[u32], outcomes: &
     if let Status::Refused(e) = session.arrival_status(way) {
         return Status::Refused(e);
     }
-    if !fits(session.shape, words, scratch, outcomes) {
+    let shape = session.shape;
+    if !is_run(shape, words) {
+        return Status::Refused(Refusal::Length);
+    }
+    if scratch.len() != scratch_length(shape) {
+        return Status::Refused(Refusal::Length);
+    }
+    if outcomes.len() != OUTCOMES {
         return Status::Refused(Refusal::Length);
     }
     Status::Done
@@ -92,7 +83,7 @@ fn look(
     symbols: &mut [u32],
     values: &mut [u32],
 ) -> Seen
-    requires { ⌜ Ready shape way (now word) (now came) (now symbols) (now values) ⌝ }
+    requires { ⌜ Openable shape way (now word) × (length (now came) ≡ length (now word)) × (length (now symbols) ≡ infoLength shape) × (length (now values) ≡ 3) ⌝ }
     ensures { λ r. ⌜ Looked (wayOf way) shape (now (taken .entry)) (now (word .entry)) (now (word .exit)) (now (came .exit)) (now (symbols .exit)) (now (values .exit)) r ⌝ }
 {
     match open_kept(shape, way, word, came, symbols) {
@@ -109,26 +100,6 @@ fn look(
             Seen::New(number, count, corrected)
         }
     }
-}
-
-// A page that is new: the last step, by value.
-fn take_page(
-    session: Session,
-    number: u32,
-    corrected: u32,
-    marks: &[u32],
-    word: &mut [u32],
-    came: &[u32],
-    values: &mut [u32],
-) -> Session
-    requires { ⌜ Consistent session × (number < 1024) × Functions (now marks) × (length (now came) ≡ length (now word)) × (length (now values) ≡ 3) ⌝ }
-    ensures { λ r. ⌜ Takes session (Opened.Page number (now (marks .entry)) corrected) (now (word .entry)) (now (came .entry)) (now (word .exit)) (now (values .exit)) r ⌝ }
-{
-    let arrived = session.settled(number, corrected, marks);
-    let outcome = arrived.outcome;
-    put_back(outcome, came, word);
-    put_outcome(outcome, values);
-    arrived.session
 }
 
 // The run word by word, first word first. A refused word keeps its digits, and the others go on; the session moves where a page is new. Room for a word and for its symbols is lent, so that it is made once.
@@ -156,58 +127,21 @@ fn run(
         let at = 3 * i;
         let next = at + 3;
         i += 1;
-        let seen = look(
-            &after.taken,
-            shape,
-            way,
-            &mut words[from..end],
-            came,
-            symbols,
-            &mut outcomes[at..next],
-        );
+        let word = &mut words[from..end];
+        let values = &mut outcomes[at..next];
+        let seen = look(&after.taken, shape, way, word, came, symbols, values);
         let Seen::New(number, marks, corrected) = seen else {
             continue;
         };
         let last = 2 + marks as usize;
-        after = take_page(
-            after,
-            number,
-            corrected,
-            &symbols[2..last],
-            &mut words[from..end],
-            came,
-            &mut outcomes[at..next],
-        );
+        let arrived = after.settled(number, corrected, &symbols[2..last]);
+        let outcome = arrived.outcome;
+        put_back(outcome, came, word);
+        put_outcome(outcome, values);
+        after = arrived.session;
     }
     gtb::clear(scratch);
     after
-}
-
-// The run, past all tests of the call.
-fn deliver(
-    session: Session,
-    way: u32,
-    words: &mut [u32],
-    scratch: &mut [u32],
-    outcomes: &mut [u32],
-) -> Session
-    requires { ⌜ Tested session way (now words) (now scratch) (now outcomes) ⌝ }
-    ensures { λ r. ⌜ Arrivals session way (now (words .entry)) (now (scratch .entry)) (now (words .exit)) (now (scratch .exit)) (now (outcomes .exit)) r ⌝ }
-{
-    let shape = session.shape;
-    let size = word_length(shape);
-    let info = info_length(shape);
-    let mut came = [0u32; 961];
-    let mut symbols = [0u32; 900];
-    run(
-        session,
-        way,
-        words,
-        scratch,
-        outcomes,
-        &mut came[..size],
-        &mut symbols[..info],
-    )
 }
 
 // A run of words that arrive side by side, all read one way. A refusal is of the whole call and changes nothing; a word's own answer goes to the list of outcomes.
@@ -225,9 +159,25 @@ pub fn arrive_all(
             session,
             status: Status::Refused(e),
         },
-        Status::Done => Delivered {
-            session: deliver(session, way, words, scratch, outcomes),
-            status: Status::Done,
-        },
+        Status::Done => {
+            let shape = session.shape;
+            let size = word_length(shape);
+            let info = info_length(shape);
+            let mut came = [0u32; 961];
+            let mut symbols = [0u32; 900];
+            let after = run(
+                session,
+                way,
+                words,
+                scratch,
+                outcomes,
+                &mut came[..size],
+                &mut symbols[..info],
+            );
+            Delivered {
+                session: after,
+                status: Status::Done,
+            }
+        }
     }
 }

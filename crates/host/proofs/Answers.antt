@@ -1,11 +1,11 @@
 -- What the entries answer and leave, by the tests passed.
 use mathlib.Core.Path.{_≡_, refl, sym, ap, _∙_, subst}
 use mathlib.Core.Bool.{Bool, false, not, cond}
-use mathlib.Core.List.{List, [], _∷_, _++_}
+use mathlib.Core.List.{List, [], _∷_}
 use mathlib.Core.Logic.{⊎-elim}
 use Prim.Native.Nat.{ℕ, _+_, _-_, _^_, _<_}
 use native.Mathlib.Omega.{arith}
-use lib.ListN.{length, getD, take, drop, List·getD-map}
+use lib.ListN.{getD, take, drop, List·getD-map}
 use lib.Seq.{getD-drop, getD-take}
 use borrow.Author.Tests.{eq-eqb, ne-eqb}
 use denote.Enum.Declared.{tagOf}
@@ -66,12 +66,9 @@ module _ {values : List ℕ} {Promise : Session → Arrived → Type 0} where
       → AtValues values Promise values′ (a .outcome)
   at-values a is holds left = record { after = a .session; holds = rw (← is) holds; left = left }
 
-  -- turned down: nothing is written
-  pub at-refused : {e : Refusal} → Promise (sessionOf values) (record { session = sessionOf values; outcome = Refused e }) → AtValues values Promise values (Refused e)
-  at-refused holds = record { after = sessionOf values; holds = holds; left = refl }
-
-  pub at-again : {number k : ℕ} → Promise (sessionOf values) (record { session = sessionOf values; outcome = Again number k }) → AtValues values Promise values (Again number k)
-  at-again holds = record { after = sessionOf values; holds = holds; left = refl }
+  -- turned down or again: nothing is written
+  pub at-kept : {r : Outcome} → values ≡ sessionIn values (sessionOf values) r → Promise (sessionOf values) (record { session = sessionOf values; outcome = r }) → AtValues values Promise values r
+  at-kept left holds = record { after = sessionOf values; holds = holds; left = left }
 
   -- a promise that another gives
   pub at-other : {Other : Session → Arrived → Type 0} {values′ : List ℕ} {r : Outcome} → AtValues values Other values′ r
@@ -92,11 +89,11 @@ module _ (way : ℕ) (values : List ℕ) {s : Shape} (same : sessionOf values .s
   own = subst (λ (x : Shape). Keeps (wayOf way) x word word′ came symbols found) (sym same) keeps
 
   pub word-refused : {e : Refusal} {restored : Bool} → found ≡ opening.Refused e restored → AtValues values (λ σ a. Deciding (wayOf way) σ word word′ a) values (Refused e)
-  word-refused h = at-refused (decides-refused (sessionOf values) own h (refl, refl))
+  word-refused h = at-kept refl (decides-refused (sessionOf values) own h (refl, refl))
 
   module _ {number c k : ℕ} (h : found ≡ opening.Page number c k) where
     pub word-again : (getD values (12 + number) 0 ≡ 0 → ⊥) → AtValues values (λ σ a. Deciding (wayOf way) σ word word′ a) values (Again number k)
-    word-again marked = at-again (decides-again (sessionOf values) own h (mark-lent values number (keeps .tells .readable number c k h .low) ∙ ap not (ne-eqb _ _ marked)))
+    word-again marked = at-kept refl (decides-again (sessionOf values) own h (mark-lent values number (keeps .tells .readable number c k h .low) ∙ ap not (ne-eqb _ _ marked)))
 
     pub word-new : {values′ word″ : List ℕ} {r : Outcome} → AtValues values (λ σ a. Settling σ (Page number (take (2 + c - 2) (drop 2 symbols)) k) a) values′ r → word″ ≡ cond (isAccepted r) word′ came
         → AtValues values (λ σ a. Deciding (wayOf way) σ word word″ a) values′ r

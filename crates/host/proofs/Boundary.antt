@@ -19,11 +19,11 @@ use Rattle.gtb.specs.Answer.{statusNumber}
 use Rattle.session.specs.declared.Session.{Session}
 use Rattle.session.specs.declared.Outcome.{Outcome}
 use Rattle.session.specs.declared.Outcome.the-variants.{Taken, Again, Refused}
-use Rattle.session.specs.Session.{freshOf, freshStatus}
+use Rattle.session.specs.Session.{freshOf}
 use Rattle.session.specs.Arrival.{theWays, Opened, Page, Bad, outcomeOf, presented, sessionBy, sessionAfter}
 use Rattle.session.specs.Recording.{Arrival}
 use Rattle.session.specs.Claim.{Run, stop, step, isTaken}
-use Rattle.session.proofs.Demand.{demand3-ways}
+use Rattle.session.proofs.Demand.{made-begins, demand3-ways}
 use Rattle.session.proofs.Growth.{Sized, Grows, Kept, arrival-keeps, run-grows}
 use Rattle.session.proofs.Joins.{run-join, run-answered}
 use Rattle.session.proofs.Progress.{fresh-consistent}
@@ -143,10 +143,6 @@ fresh-kept s seven = record {
   sized = record { slopes = seven; taken = length-replicate {A = Bool} 1024 false; calls = length-replicate {A = ℕ} 256 0 };
 }
 
-fresh-done : (s : Shape) → Lawful s → freshStatus s ≡ status.Done
-unfolding freshStatus
-fresh-done s law = rw law
-
 seven-slopes : (shape : List ℕ) → length shape ≡ 10 → length (shapeIn shape .slopes) ≡ 7
 unfolding shapeIn
 seven-slopes shape ten = omega (arith, ten, length-drop 3 shape)
@@ -155,7 +151,7 @@ pub demand3-boundary : ClaimAtBoundary
 unfolding sessionOf
 demand3-boundary shape blank start number pages arrivals given end ten fresh r fits calls =
     let s = shapeIn shape in
-    let done = fresh-done s (r .lawful) in
+    let done = sym (made-begins s (r .lawful) .status) in
     let kept = fresh-kept s (seven-slopes shape ten) in
     let holds : Holds start (freshOf s) = written (kept .sized) (fresh .left ∙ rw done) in
     let ran = calls-run (r .lawful) (holds .size) (subst (Kept s) (sym (holds .back)) kept) calls in

@@ -22,7 +22,7 @@ ghost use lib.ListN.{length};
 ghost use Rattle.gtb.specs.Shape.{infoLength, scratchLength};
 ghost use Rattle.session.specs.Session.{Consistent};
 ghost use Rattle.session.specs.Arrival.{wayOf, theWays, Opened, Arriving};
-ghost use Rattle.session.specs.Steps.{Functions, Settling, wordTests, Deciding};
+ghost use Rattle.session.specs.Steps.{Functions, Settling, Deciding};
 ghost use Rattle.host.specs.Crossing.{sessionOf};
 ghost use Rattle.host.specs.Steps.{AtValues, Fitting};
 

@@ -5,7 +5,7 @@ ghost use mathlib.Core.Path.{_≡_};
 ghost use mathlib.Core.List.{map};
 ghost use lib.ListN.{length};
 ghost use Rattle.parity.specs.Count.{bit};
-ghost use Rattle.host.specs.Crossing.{shapeIn, shapeValues, isYes, sessionOf, valuesOf};
+ghost use Rattle.host.specs.Crossing.{shapeIn, isYes, sessionOf, valuesOf};
 
 // How many values a shape crosses as. In a session the number of pages taken and the lowest page not taken follow it, then the page marks, then the calls counts.
 pub const SHAPE: usize = 10;
@@ -36,18 +36,6 @@ pub fn load_shape(values: &[u32]) -> Shape
     }
 }
 
-// The values of the shape.
-fn store_shape(shape: Shape, values: &mut [u32])
-    requires { ⌜ length (now values) ≡ 10 ⌝ }
-    ensures { λ _. ⌜ now (values .exit) ≡ shapeValues shape ⌝ }
-{
-    let slopes = shape.slopes;
-    values[0] = shape.q;
-    values[1] = shape.n;
-    values[2] = shape.b;
-    gtb::copy(&slopes, &mut values[3..]);
-}
-
 // A page mark is no where its value is 0.
 fn load_taken(values: &[u32]) -> [bool; Session::PAGES]
     requires { ⌜ length (now values) ≡ 1024 ⌝ }
@@ -60,24 +48,17 @@ fn load_taken(values: &[u32]) -> [bool; Session::PAGES]
     taken
 }
 
-fn load_calls(values: &[u32]) -> [u32; Session::FUNCTIONS]
-    requires { ⌜ length (now values) ≡ 256 ⌝ }
-    ensures { λ r. ⌜ r ≡ now (values .entry) ⌝ }
-{
-    let mut calls = [0u32; Session::FUNCTIONS];
-    gtb::copy(values, &mut calls);
-    calls
-}
-
 // The session in the values.
 pub fn load(values: &[u32]) -> Session
     requires { ⌜ length (now values) ≡ 1292 ⌝ }
     ensures { λ r. ⌜ r ≡ sessionOf (now (values .entry)) ⌝ }
 {
+    let mut calls = [0u32; Session::FUNCTIONS];
+    gtb::copy(&values[CALLS..], &mut calls);
     Session {
         shape: load_shape(&values[..SHAPE]),
         taken: load_taken(&values[MARKS..CALLS]),
-        calls: load_calls(&values[CALLS..]),
+        calls,
         pages: values[PAGES],
         lowest: values[LOWEST],
     }
@@ -93,17 +74,21 @@ fn store_taken(taken: [bool; Session::PAGES], values: &mut [u32])
     }
 }
 
-// The values of the session.
+// The values of the session, laid down from the first to the last.
 pub fn store(session: Session, values: &mut [u32])
     requires { ⌜ length (now values) ≡ 1292 ⌝ }
     ensures { λ _. ⌜ now (values .exit) ≡ valuesOf session ⌝ }
 {
     let shape = session.shape;
+    let slopes = shape.slopes;
     let taken = session.taken;
     let calls = session.calls;
-    store_shape(shape, &mut values[..SHAPE]);
+    values[0] = shape.q;
+    values[1] = shape.n;
+    values[2] = shape.b;
+    gtb::copy(&slopes, &mut values[3..SHAPE]);
     values[PAGES] = session.pages;
     values[LOWEST] = session.lowest;
     store_taken(taken, &mut values[MARKS..CALLS]);
-    gtb::copy(&calls, &mut values[CALLS..]);
+    gtb::copy(&calls, &mut values[CALLS..SESSION]);
 }

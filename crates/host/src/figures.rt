@@ -4,15 +4,15 @@ ghost use mathlib.Core.Bool.{_&&_};
 ghost use mathlib.Core.List.{map};
 ghost use Prim.Native.Nat.{_+_, _-_, _≤_};
 ghost use lib.Dec.{eqb};
-ghost use lib.ListN.{length};
+ghost use lib.ListN.{length, getD};
 ghost use Rattle.parity.specs.Count.{count};
-ghost use Rattle.session.specs.Session.{marked, pagesOf, lowestOf};
+ghost use Rattle.session.specs.Session.{pagesOf, lowestOf};
 ghost use Rattle.host.specs.Crossing.{isYes};
 
 // How many marks from one number on and below another are no. The loop has no early exit, so that many are counted at once; and a comparison with 0 is what is added up, where one for yes would have to be turned round first.
 fn unmarked_in(marks: &[u32], from: usize, to: usize) -> u32
     requires { ⌜ (from ≤ to) × (to ≤ 1024) × (length (now marks) ≡ 1024) ⌝ }
-    ensures { λ r. ⌜ r + count (to - from) (λ i. marked (map isYes (now (marks .entry))) (from + i)) ≡ to - from ⌝ }
+    ensures { λ r. ⌜ r ≡ count (to - from) (λ i. eqb (getD (now (marks .entry)) (from + i) 0) 0) ⌝ }
 {
     let mut unmarked = 0u32;
     for i in from..to {

@@ -7,7 +7,7 @@ use gtb::size::word_length;
 ghost use mathlib.Core.Path.{_≡_};
 ghost use Prim.Native.Nat.{_+_, _*_, _≤_};
 ghost use lib.ListN.{length};
-ghost use Rattle.gtb.specs.Shape.{Lawful, wordLength, infoLength, standard};
+ghost use Rattle.gtb.specs.Shape.{Lawful, wordLength, standard};
 ghost use Rattle.page.specs.Page.{readNumber};
 ghost use Rattle.host.specs.Bytes.{symbolsOf, bytesOf, symbolAt, withSymbol};
 ghost use Rattle.host.specs.Exported.{pageIn, ReadingWord};
@@ -96,15 +96,6 @@ pub extern "C" fn shaftglimmer_read_word(q: u32, n: u32, b: u32, word: &mut [u8]
     read_word(shape, word, &mut symbols[..size])
 }
 
-// Page reading past the tests on shape and length.
-fn read_page(shape: Shape, bytes: &[u8], symbols: &mut [u32]) -> u32
-    requires { ⌜ (Lawful shape) × (length (now bytes) ≡ 4 * infoLength shape) × (length (now symbols) ≡ infoLength shape) ⌝ }
-    ensures { λ r. ⌜ r ≡ readNumber (pageIn shape (now (bytes .entry))) ⌝ }
-{
-    load(bytes, symbols);
-    page::number::read(page::read_page(shape, symbols))
-}
-
 // Page reading: 1024 × page number + number of marks, or 2^31 plus the number of the refusal.
 #[no_mangle]
 pub extern "C" fn shaftglimmer_read_page(q: u32, n: u32, b: u32, symbols: &[u8]) -> u32
@@ -124,5 +115,7 @@ pub extern "C" fn shaftglimmer_read_page(q: u32, n: u32, b: u32, symbols: &[u8])
         return gtb::number::refused(Refusal::Length);
     }
     let mut loaded = [0u32; 900];
-    read_page(shape, symbols, &mut loaded[..size])
+    let part = &mut loaded[..size];
+    load(symbols, part);
+    page::number::read(page::read_page(shape, part))
 }

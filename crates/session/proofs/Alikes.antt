@@ -1,7 +1,7 @@
 -- Sessions look at the first n - 1 slopes of their shape alone: two runs that differ in the others have the same answers, marks and counts.
 use mathlib.Core.Path.{_≡_, refl, sym, ap, _∙_}
 use mathlib.Core.Bool.{_&&_}
-use mathlib.Core.List.{List, []}
+use mathlib.Core.List.{List}
 use Prim.Native.Nat.{ℕ}
 use lib.Dec.{eqb, ltb}
 use lib.ListN.{length, getD}
@@ -28,6 +28,7 @@ use Rattle.session.specs.Session.{consistent, freshOf, freshStatus, sess
 use Rattle.session.specs.Arrival.{isWay, wayOf, theWays, Opened, Page, Bad, openPage, openWord, opened, arrivalStatus, presented, outcomeOf, sessionBy, sessionAfter, wordAfter, Arriving}
 use Rattle.session.specs.Recording.{Sheet, Recording, Arrival, arrivalAt, Fits}
 use Rattle.session.specs.Claim.{Run, stop, step, SameSheets}
+use Rattle.session.proofs.Settle.{after-cases}
 use Rattle.session.proofs.Ways.{all-read, all-sound}
 use Rattle.session.proofs.Fits.{only-recording}
 
@@ -105,17 +106,10 @@ module _ (σ : Session) (slopes : List ℕ) where
   unfolding sessionAfter
   session-alike o = session-by o (outcomeOf σ o) ∙ ap (sessionBy (resloped σ slopes) o) (sym (outcome-alike o))
 
-  shape-by : (o : Opened) (r : Outcome) → sessionBy σ o r .shape ≡ σ .shape
-  unfolding recorded
-  shape-by (Page number marks k) (Taken p c) = refl
-  shape-by (Page number marks k) (Again p c) = refl
-  shape-by (Page number marks k) (Refused e) = refl
-  shape-by (Bad e′) r = refl
-
 -- an arrival leaves the shape
 pub shape-kept : (σ : Session) (o : Opened) → sessionAfter σ o .shape ≡ σ .shape
-unfolding sessionAfter
-shape-kept σ o = shape-by σ [] o (outcomeOf σ o)
+unfolding recorded
+shape-kept σ = after-cases (λ τ. τ .shape ≡ σ .shape) σ refl (λ number marks. refl)
 
 -- one arrival
 arriving-alike : {σ : Session} {way : ℕ} {word scratch word′ scratch′ : List ℕ} {r : Arrived} (slopes : List ℕ) → Alike (σ .shape) slopes

@@ -8,23 +8,23 @@ use native.Mathlib.Nat.{not-suc-le-zero, le-of-suc-le-suc, le-refl, le-trans}
 use native.Mathlib.Omega.{arith}
 use lib.Dec.{eqb, leb, lit≤}
 use lib.ListN.{length, getD, take, length-set, length-replicate, getD-replicate}
-use lib.Seq.{getD-set-same, getD-set-other}
 use borrow.Author.Tests.{eqb-true, eqb-false, lt-leb}
 use Rattle.parity.proofs.Tests.{either, any-none}
 use Rattle.parity.specs.Count.{count, lowestNot}
 use Rattle.parity.proofs.Sums.{bit-le, sum-le, sum-const, count-cong}
 use Rattle.parity.proofs.Lowest.{lowest-cong}
-use Rattle.parity.proofs.Lists.{at-tabulate}
 use Rattle.gtb.specs.declared.Shape.{Shape}
 use Rattle.gtb.specs.declared.Refusal.{Refusal}
 use Rattle.session.specs.declared.Session.{Session}
 use Rattle.session.specs.declared.Outcome.{Outcome}
 use Rattle.session.specs.declared.Outcome.the-variants.{Taken, Again, Refused}
-use Rattle.session.specs.Session.{marked, pagesOf, lowestOf, Consistent, freshOf, isCall, countOf, added, overflows, recorded}
+use Rattle.session.specs.Session.{marked, pagesOf, lowestOf, Consistent, freshOf, isCall, countOf, overflows, recorded}
 use Rattle.session.specs.Arrival.{Ways, AllSound, Opened, Page, Bad, opened, presented, outcomeOf, sessionBy, sessionAfter}
 use Rattle.session.specs.Recording.{Arrival, openedAt, arrivalAt, TurnedDown}
 use Rattle.session.specs.Claim.{Run, stop, step, come, Machine, emptyMachine, machinePage, machineStep, machine, Agrees, answerAt, EveryList, answerTo}
-use Rattle.session.proofs.Progress.{fresh-consistent, after-by, consistent-pages, consistent-lowest}
+use Rattle.session.proofs.Joins.{run-answered}
+use Rattle.session.proofs.Marks.{added-at}
+use Rattle.session.proofs.Progress.{fresh-consistent, page-own, page-other, recorded-consistent, consistent-pages, consistent-lowest}
 use Rattle.session.proofs.Arrive.{presented-opened}
 use Rattle.session.proofs.Machine.{weighed, fed-weight, held, held-pages}
 use Rattle.session.proofs.Openings.{Sane, opened-sane}
@@ -86,35 +86,15 @@ grown-reply s σ m g (Page number marks k) sane =
     rw (g .agrees .taken number (sane .0), no-overflow s σ m g marks (sane .1)) (answer-to (m .pages number) number k)
 grown-reply s σ m g (Bad e) sane = refl
 
--- the marked numbers after a page was taken: every other as it was
-taken-other : (σ : Session) (number : ℕ) (marks : List ℕ) (p : ℕ) → (p ≡ number → ⊥)
-    → getD (recorded σ number marks .taken) p false ≡ getD (σ .taken) p false
-unfolding recorded
-taken-other σ number marks p ne = getD-set-other (σ .taken) number p _ false ne
-
--- its own marked
-taken-own : (σ : Session) (number : ℕ) (marks : List ℕ) → number < length (σ .taken) → getD (recorded σ number marks .taken) number false ≡ true
-unfolding recorded
-taken-own σ number marks l = getD-set-same (σ .taken) number _ false l
-
-taken-size : (σ : Session) (number : ℕ) (marks : List ℕ) → length (recorded σ number marks .taken) ≡ length (σ .taken)
-unfolding recorded
-taken-size σ number marks = length-set (σ .taken) number _
-
--- the counts: each mark adds one to its function's
-calls-after : (σ : Session) (number : ℕ) (marks : List ℕ) (f : ℕ) → f < 256
-    → getD (recorded σ number marks .calls) f 0 ≡ getD (σ .calls) f 0 + countOf f marks
-unfolding recorded added
-calls-after σ number marks f l = at-tabulate 256 _ f l
-
--- so the marked numbers are the machine's
+-- after a page was taken the marked numbers are the machine's
 taken-after : (s : Shape) (σ : Session) (m : Machine) → Grown s σ m → (number : ℕ) (marks : List ℕ) → number < 1024 → m .pages number ≡ false
     → (p : ℕ) → p < 1024 → getD (recorded σ number marks .taken) p false ≡ (m .pages p || eqb p number)
+unfolding recorded
 taken-after s σ m g number marks l new p lp =
     ⊎-elim
-    (λ (t : eqb p number ≡ true). rw (t, eqb-true p number t, new) (taken-own σ number marks (rw (g .size) l)))
+    (λ (t : eqb p number ≡ true). rw (t, eqb-true p number t, new) (page-own (σ .taken) number (g .size) l))
     (λ (f : eqb p number ≡ false).
-    rw f (taken-other σ number marks p (eqb-false p number f) ∙ g .agrees .taken p lp ∙ sym (or-false (m .pages p))))
+    rw f (page-other (σ .taken) number (g .size) l p (eqb-false p number f) ∙ g .agrees .taken p lp ∙ sym (or-false (m .pages p))))
     (either (eqb p number))
 
 -- after a page the session holds what the machine then holds
@@ -125,12 +105,12 @@ unfolding recorded
 grown-by s σ m g number marks k sane true h = g
 grown-by s σ m g number marks k sane false h = record {
   shape = g .shape;
-  size = taken-size σ number marks ∙ g .size;
+  size = length-set (σ .taken) number true ∙ g .size;
   agrees = record {
     taken = taken-after s σ m g number marks (sane .0) h;
-    calls = λ f l. calls-after σ number marks f l ∙ ap (λ (x : ℕ). x + countOf f marks) (g .agrees .calls f l);
+    calls = λ f l. added-at (σ .calls) marks f l ∙ ap (λ (x : ℕ). x + countOf f marks) (g .agrees .calls f l);
   };
-  consistent = after-by σ (Page number marks k) (Taken number k) (g .consistent);
+  consistent = recorded-consistent σ number marks;
   few = λ f.
       omega
       (arith, g .few f, count-le f marks, fed-weight 1024 (λ p. p) (λ p. 898) m number marks false h number (sane .0) refl (λ j lj e. e));
@@ -192,10 +172,6 @@ module _ (ways : Ways) (s : Shape) (sound : AllSound ways s) where
   grown-answer (a ∷ rest) σ m g zero l = grown-arrival σ m g a .0
   grown-answer (a ∷ rest) σ m g (suc j) l = grown-answer rest _ _ (grown-arrival σ m g a .1) j (le-of-suc-le-suc l)
 
-length-answers : (ways : Ways) (σ : Session) (arrivals : List Arrival) → length (answersOf ways σ arrivals) ≡ length arrivals
-length-answers ways σ [] = refl
-length-answers ways σ (a ∷ rest) = ap suc (length-answers ways (sessionAfter σ (brought ways σ a)) rest)
-
 -- the machine refuses exactly what is turned down
 reply-refused : (m : Machine) (o : Opened) (e : Refusal) → reply m o ≡ Refused e → o ≡ Bad e
 reply-refused m (Page number marks k) e h = absurd (told (m .pages number) h)
@@ -223,7 +199,7 @@ pub every-list : (ways : Ways) (s : Shape) → AllSound ways s → (arrivals : L
     → Run ways (freshOf s) arrivals answers end → EveryList ways s (freshOf s) arrivals answers end
 every-list ways s sound arrivals answers end run = record {
   agrees = grown .agrees;
-  answered = rw (run-answers run) (length-answers ways (freshOf s) arrivals);
+  answered = run-answered run;
   shape = grown .shape;
   consistent = grown .consistent;
   few = λ f l. rw (grown .agrees .calls f l) (le-trans (grown .few f) (all-few (machine ways s emptyMachine arrivals .pages)));

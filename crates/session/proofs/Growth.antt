@@ -18,6 +18,7 @@ use Rattle.session.specs.Arrival.{theWays, Opened, Page, Bad, opened, pr
 use Rattle.session.specs.Recording.{Arrival}
 use Rattle.session.specs.Claim.{Run, stop, step}
 use Rattle.session.proofs.Marks.{added-size}
+use Rattle.session.proofs.Settle.{after-cases}
 use Rattle.session.proofs.Progress.{more-pages, arrival-consistent}
 use Rattle.session.proofs.Openings.{Sane, opened-sane}
 use Rattle.session.proofs.Arrive.{presented-opened}
@@ -30,16 +31,11 @@ pub record Sized (σ : Session) : Type 0 where
   pub taken : length (σ .taken) ≡ 1024
   pub calls : length (σ .calls) ≡ 256
 
-sized-by : {σ : Session} → Sized σ → (o : Opened) (r : Outcome) → Sized (sessionBy σ o r)
-unfolding recorded
-sized-by {σ} h (Page number marks k) (Taken p c) = record { slopes = h .slopes; taken = length-set (σ .taken) number true ∙ h .taken; calls = added-size (σ .calls) marks }
-sized-by h (Page number marks k) (Again p c) = h
-sized-by h (Page number marks k) (Refused e) = h
-sized-by h (Bad e) r = h
-
 sized-after : {σ : Session} → Sized σ → (o : Opened) → Sized (sessionAfter σ o)
-unfolding sessionAfter
-sized-after {σ} h o = sized-by h o (outcomeOf σ o)
+unfolding recorded
+sized-after {σ} h =
+    after-cases Sized σ h
+    (λ number marks. record { slopes = h .slopes; taken = length-set (σ .taken) number true ∙ h .taken; calls = added-size (σ .calls) marks })
 
 -- one session is the other with pages taken
 pub record Grows (σ τ : Session) : Type 0 where
@@ -56,15 +52,6 @@ grows-on g h = record {
 }
 
 -- ---- by what an arrival brings
--- its page number has a place
-abbrev Low : Opened → Type 0
-Low (Page number marks k) = number < 1024
-Low (Bad e) = Unit {0}
-
-low : (o : Opened) → Sane o → Low o
-low (Page number marks k) h = h .0
-low (Bad e) h = tt
-
 module _ (σ : Session) (right : Consistent σ) (size : length (σ .taken) ≡ 1024) where
   page-grows : (number : ℕ) (marks : List ℕ) (k : ℕ) → number < 1024 → (again over : Bool) → getD (σ .taken) number false ≡ again
       → Grows σ (sessionBy σ (Page number marks k) (cond again (Again number k) (cond over (Refused Refusal.Overflow) (Taken number k))))
@@ -75,10 +62,10 @@ module _ (σ : Session) (right : Consistent σ) (size : length (σ .taken) ≡ 1
       let more = more-pages σ right number size l h in
       record { upto = omega (arith, more); same = λ e. absurd (omega (arith, more, e)) }
 
-  after-grows : (o : Opened) → Low o → Grows σ (sessionAfter σ o)
+  after-grows : (o : Opened) → Sane o → Grows σ (sessionAfter σ o)
   unfolding sessionAfter outcomeOf
-  after-grows (Page number marks k) l = page-grows number marks k l (getD (σ .taken) number false) (overflows (σ .calls) marks) refl
-  after-grows (Bad e) l = grows-none
+  after-grows (Page number marks k) h = page-grows number marks k (h .0) (getD (σ .taken) number false) (overflows (σ .calls) marks) refl
+  after-grows (Bad e) h = grows-none
 
 -- ---- arrivals at a session of a lawful shape
 -- what holds of the session before and after each
@@ -92,7 +79,7 @@ module _ {s : Shape} (law : Lawful s) where
   arrival-grows {σ} kept {way} {word} {scratch} h =
       rw (h .session, presented-opened theWays σ way word scratch (kept .consistent))
       (after-grows σ (kept .consistent) (kept .sized .taken) (opened theWays (σ .shape) way word scratch)
-      (low (opened theWays (σ .shape) way word scratch) (opened-sane theWays (σ .shape) (all-sound (σ .shape) (rw (kept .shape) law)) way word scratch)))
+      (opened-sane theWays (σ .shape) (all-sound (σ .shape) (rw (kept .shape) law)) way word scratch))
 
   pub arrival-keeps : {σ : Session} → Kept s σ → {way : ℕ} {word scratch word′ scratch′ : List ℕ} {r : Arrived} → Arriving theWays σ way word scratch word′ scratch′ r → Kept s (r .session)
   arrival-keeps {σ} kept {way} {word} {scratch} h =

@@ -3,8 +3,7 @@ use mathlib.Core.Path.{_≡_, refl}
 use mathlib.Core.Bool.{Bool, true, false, _&&_}
 use mathlib.Core.List.{List}
 use mathlib.Core.Logic.{⊎-elim}
-use Prim.Native.Nat.{ℕ, _+_, _-_, _*_, _<_, _≤_}
-use native.Mathlib.Nat.{mul-le-mul}
+use Prim.Native.Nat.{ℕ, _<_, _≤_}
 use native.Mathlib.Omega.{arith}
 use lib.Dec.{eqb}
 use lib.ListN.{length}
@@ -16,10 +15,10 @@ use Rattle.decoder.specs.Decode.{decodeOf, restored}
 use Rattle.decoder.proofs.Meaning.{decode-never}
 use Rattle.gtb.specs.declared.Shape.{Shape}
 use Rattle.gtb.specs.declared.Refusal.{Refusal}
-use Rattle.gtb.specs.Shape.{lawful, Lawful, infoLength, wordLength, scratchLength, shapeRefusal}
+use Rattle.gtb.specs.Shape.{lawful, Lawful, wordLength, scratchLength, shapeRefusal}
 use Rattle.gtb.specs.Positions.{extractOf}
 use Rattle.gtb.specs.Answer.{refusalNumber, unless}
-use Rattle.gtb.proofs.Bounds.{bounds}
+use Rattle.gtb.proofs.Sizes.{sizes}
 use Rattle.correction.specs.declared.Decoded.{Decoded}
 use Rattle.correction.specs.declared.Decoded.the-variants as decoded
 use Rattle.page.specs.declared.PageRead.{PageRead}
@@ -40,14 +39,9 @@ session-foreign s e h =
     (λ (eleven : eqb (refusalNumber e) 11 ≡ true). let n = eqb-true (refusalNumber e) 11 eleven in late-foreign s e (omega arith) (λ x. omega arith))
     (or-cases (eqb (refusalNumber e) 9) (eqb (refusalNumber e) 11) h)
 
--- K - 2 is at most 30 × 30 - 2
+-- K - 2 is at most 898
 few-marks : (s : Shape) → Lawful s → most s ≤ 898
-few-marks s h =
-    let b = bounds s h in
-    let l : s .q - 1 ≤ 30 = omega arith in
-    let r : s .q + 1 - s .n ≤ 30 = omega arith in
-    let k : infoLength s ≤ 30 * 30 = mul-le-mul l r in
-    omega arith
+few-marks s h = omega (arith, sizes s h .info)
 
 page-sane : (s : Shape) (symbols : List ℕ) (k : ℕ) (r : PageRead) → pageOf s symbols ≡ r → Sane (openPage s symbols k r)
 page-sane s symbols k (page.Page number c) h =

@@ -1,5 +1,5 @@
 -- The first step of an arrival, and both steps: what a word brings, and what the session makes of it.
-use mathlib.Core.Path.{_≡_, refl, sym, ap, ap₂, _∙_, subst}
+use mathlib.Core.Path.{_≡_, sym, ap, ap₂, _∙_, subst}
 use mathlib.Core.Bool.{Bool, true, false, cond}
 use mathlib.Core.List.{List, _++_}
 use Prim.Native.Nat.{ℕ, _+_, _-_, _^_}
@@ -11,7 +11,7 @@ use Rattle.parity.proofs.Tests.{all-intro}
 use Rattle.parity.proofs.Lists.{at-tabulate, length-tabulate}
 use Rattle.gtb.specs.declared.Shape.{Shape}
 use Rattle.gtb.specs.declared.Refusal.{Refusal}
-use Rattle.gtb.specs.Shape.{Lawful, infoLength}
+use Rattle.gtb.specs.Shape.{infoLength}
 use Rattle.gtb.specs.Square.{at, narrow, Word}
 use Rattle.gtb.specs.Positions.{infoPosition, extractOf}
 use Rattle.correction.specs.declared.Decoded.{Decoded}
@@ -28,7 +28,7 @@ use Rattle.session.specs.declared.Opening.the-variants as opening
 use Rattle.session.specs.declared.Outcome.the-variants.{Again, Refused}
 use Rattle.session.specs.declared.Arrived.{Arrived}
 use Rattle.session.specs.Arrival.{Way, wayOf, Opened, Page, Bad, openPage, openWord, isAccepted}
-use Rattle.session.specs.Steps.{Functions, Reading, Settling, openedBy, told, isRestored, isPage, Readable, Tells, Opens, Keeps, Deciding}
+use Rattle.session.specs.Steps.{Functions, Reading, Settling, told, isRestored, isPage, Readable, Tells, Opens, Keeps, Deciding}
 use Rattle.session.proofs.Arrive.{whole-copy}
 use Rattle.session.proofs.Settle.{settle-bad, settle-again}
 use Rattle.session.proofs.Ways.{all-read}

@@ -14,16 +14,15 @@ use borrow.Author.Tests.{eq-eqb, ne-eqb, eqb-true, eqb-false}
 use mir.Val.{boolByte}
 use Rattle.parity.specs.Count.{bit, count}
 use Rattle.parity.proofs.Tests.{either, clash, and-both, and-left, and-right, and-no-left, and-no-right, not-of-true, not-of-false}
-use Rattle.parity.proofs.Sums.{sum-split, bit-le, count-zero, count-more, count-cong, count-bound, count-none, count-all}
+use Rattle.parity.proofs.Sums.{sum-split, count-zero, count-more, count-cong, count-bound, count-none, count-all}
 use Rattle.parity.proofs.Pigeon.{count-others}
 use Rattle.parity.proofs.Lowest.{Lowest, lowest-is, lowest-right, full-count}
 use Rattle.gtb.specs.declared.Shape.{Shape}
 use Rattle.session.specs.declared.Session.{Session}
 use Rattle.session.specs.Session.{marked, pagesOf, lowestOf, consistent, Consistent, freshOf, figured, recorded}
-use Rattle.session.specs.declared.Outcome.{Outcome}
-use Rattle.session.specs.declared.Outcome.the-variants.{Taken, Again, Refused}
 use Rattle.session.specs.declared.Arrived.{Arrived}
-use Rattle.session.specs.Arrival.{Ways, Opened, Page, Bad, outcomeOf, sessionBy, sessionAfter, Answering}
+use Rattle.session.specs.Arrival.{Ways, Opened, sessionAfter, Answering}
+use Rattle.session.proofs.Settle.{after-cases}
 
 -- ---- counting
 
@@ -33,36 +32,28 @@ unfolding bit
 bit-byte true = refl
 bit-byte false = refl
 
--- none yet
-pub none-marked : (taken : List Bool) (from : ℕ) → 0 ≡ count (from - from) (λ k. marked taken (from + k))
-none-marked taken from =
+-- the places from one on that pass a test: none yet
+pub none-counted : (p : ℕ → Bool) (from : ℕ) → 0 ≡ count (from - from) (λ k. p (from + k))
+none-counted p from =
     let none : 0 ≡ from - from = omega arith in
-    sym (count-zero (λ k. marked taken (from + k))) ∙ ap (λ (n : ℕ). count n (λ k. marked taken (from + k))) none
+    sym (count-zero (λ k. p (from + k))) ∙ ap (λ (n : ℕ). count n (λ k. p (from + k))) none
 
--- fewer than 256 after each of 128 turns
-pub few-marked : (taken : List Bool) (from i pages : ℕ) → pages ≡ count (i - from) (λ k. marked taken (from + k)) → i - from < 128
-    → pages + boolByte (marked taken i) < 256
-few-marked taken from i pages h few =
-    omega (arith, h, few, count-bound (i - from) (λ k. marked taken (from + k)), bit-byte (marked taken i), bit-le (marked taken i))
-
--- one mark more
-pub marked-more : (taken : List Bool) (from i pages : ℕ) → from ≤ i → pages ≡ count (i - from) (λ k. marked taken (from + k))
-    → pages + bit (marked taken i) ≡ count (i + 1 - from) (λ k. marked taken (from + k))
-marked-more taken from i pages l h =
+-- one place more
+pub counted-more : (p : ℕ → Bool) (from i : ℕ) {n : ℕ} → from ≤ i → n ≡ count (i - from) (λ k. p (from + k)) → n + bit (p i) ≡ count (i + 1 - from) (λ k. p (from + k))
+counted-more p from i l h =
     let here : from + (i - from) ≡ i = omega arith in
     let next : i - from + 1 ≡ i + 1 - from = omega arith in
-    ap (λ (x : ℕ). x + bit (marked taken i)) h
-    ∙ ap (λ (x : ℕ). count (i - from) (λ k. marked taken (from + k)) + bit (marked taken x)) (sym here)
-    ∙ sym (count-more (i - from) (λ k. marked taken (from + k)))
-    ∙ ap (λ (k : ℕ). count k (λ j. marked taken (from + j))) next
+    ap (λ (x : ℕ). x + bit (p i)) h
+    ∙ ap (λ (x : ℕ). count (i - from) (λ k. p (from + k)) + bit (p x)) (sym here)
+    ∙ sym (count-more (i - from) (λ k. p (from + k)))
+    ∙ ap (λ (k : ℕ). count k (λ j. p (from + j))) next
 
 -- a piece more
-pub piece-more : (taken : List Bool) (from to : ℕ) → from ≤ to
-    → count from (marked taken) + count (to - from) (λ k. marked taken (from + k)) ≡ count to (marked taken)
+pub piece-more : (p : ℕ → Bool) (from to : ℕ) → from ≤ to → count from p + count (to - from) (λ k. p (from + k)) ≡ count to p
 unfolding count
-piece-more taken from to l =
+piece-more p from to l =
     let next : from + (to - from) ≡ to = omega arith in
-    sym (sum-split from (to - from) (λ k. bit (marked taken k))) ∙ ap (λ (k : ℕ). count k (marked taken)) next
+    sym (sum-split from (to - from) (λ k. bit (p k))) ∙ ap (λ (k : ℕ). count k p) next
 
 -- ---- the test
 
@@ -182,19 +173,12 @@ pub figured-consistent : (s : Shape) (taken : List Bool) (calls : List ℕ) → 
 unfolding consistent
 figured-consistent s taken calls = and-both (eq-eqb (pagesOf taken) (pagesOf taken) refl) (eq-eqb (lowestOf taken) (lowestOf taken) refl)
 
-recorded-consistent : (σ : Session) (number : ℕ) (marks : List ℕ) → Consistent (recorded σ number marks)
+pub recorded-consistent : (σ : Session) (number : ℕ) (marks : List ℕ) → Consistent (recorded σ number marks)
 unfolding recorded
 recorded-consistent σ number marks = let τ = recorded σ number marks in figured-consistent (τ .shape) (τ .taken) (τ .calls)
 
-pub after-by : (σ : Session) (o : Opened) (r : Outcome) → Consistent σ → Consistent (sessionBy σ o r)
-after-by σ (Page number marks k) (Taken p c) right = recorded-consistent σ number marks
-after-by σ (Page number marks k) (Again p c) right = right
-after-by σ (Page number marks k) (Refused e) right = right
-after-by σ (Bad e) r right = right
-
 pub after-consistent : (σ : Session) (o : Opened) → Consistent σ → Consistent (sessionAfter σ o)
-unfolding sessionAfter
-after-consistent σ o = after-by σ o (outcomeOf σ o)
+after-consistent σ o right = after-cases Consistent σ right (recorded-consistent σ) o
 
 pub arrival-consistent : (ways : Ways) (σ : Session) {way : ℕ} {o : Opened} {word scratch word′ scratch′ : List ℕ} {r : Arrived}
     → Answering ways σ way o word scratch word′ scratch′ r → Consistent σ → Consistent (r .session)

@@ -6,11 +6,23 @@ use Prim.Native.Nat.{ℕ}
 use lib.ListN.{getD}
 use Rattle.gtb.specs.declared.Refusal.{Refusal}
 use Rattle.session.specs.declared.Session.{Session}
+use Rattle.session.specs.declared.Outcome.{Outcome}
 use Rattle.session.specs.declared.Outcome.the-variants.{Taken, Again, Refused}
 use Rattle.session.specs.declared.Arrived.{Arrived}
 use Rattle.session.specs.Session.{overflows, recorded}
-use Rattle.session.specs.Arrival.{Page, Bad, outcomeOf, sessionAfter}
+use Rattle.session.specs.Arrival.{Opened, Page, Bad, outcomeOf, sessionBy, sessionAfter}
 use Rattle.session.specs.Steps.{Settling}
+
+-- what holds of a session, and of it with any page recorded, holds after an arrival
+pub after-cases : (P : Session → Type 0) (σ : Session) → P σ → ((number : ℕ) (marks : List ℕ) → P (recorded σ number marks)) → (o : Opened) → P (sessionAfter σ o)
+unfolding sessionAfter
+after-cases P σ same more o = by o (outcomeOf σ o)
+  where
+    by : (o : Opened) (r : Outcome) → P (sessionBy σ o r)
+    by (Page number marks k) (Taken p c) = more number marks
+    by (Page number marks k) (Again p c) = same
+    by (Page number marks k) (Refused e) = same
+    by (Bad e) r = same
 
 -- nothing was brought
 pub settle-bad : {σ : Session} {e : Refusal} → Settling σ (Bad e) (record { session = σ; outcome = Refused e })

@@ -34,7 +34,6 @@ pub record Counts (calls : List ℕ) : Type 0 where
 pub record Adding (calls marks calls′ : List ℕ) (r : Bool) : Type 0 where
   pub fits : r ≡ not (overflows calls marks)
   pub sums : r ≡ true → calls′ ≡ added calls marks
-  pub counts : Counts calls′
 
 -- the last step of an arrival
 pub record Settling (σ : Session) (o : Opened) (r : Arrived) : Type 0 where

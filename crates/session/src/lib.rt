@@ -16,7 +16,7 @@ ghost use mathlib.Core.Bool.{cond};
 ghost use Prim.Native.Nat.{_<_};
 ghost use lib.ListN.{length};
 ghost use Rattle.gtb.specs.Shape.{infoLength};
-ghost use Rattle.session.specs.Session.{consistent, Consistent, sessionStatus, countedOf, Beginning};
+ghost use Rattle.session.specs.Session.{Consistent, sessionStatus, countedOf, Beginning};
 ghost use Rattle.session.specs.Arrival.{wayOf, theWays, Opened, arrivalStatus, Arriving, isAccepted};
 ghost use Rattle.session.specs.Steps.{Adding, Counts, Functions, Settling, Openable, Deciding};
 
@@ -92,25 +92,20 @@ impl Session {
         }
     }
 
-    // Both figures are what the marks say.
-    fn agrees(self) -> bool
-        ensures { λ r. ⌜ r ≡ consistent self ⌝ }
-    {
-        figures::agree(&self.taken, self.pages, self.lowest)
-    }
-
     // Tests 1, 18 and 11.
     pub fn status(self) -> Status
         ensures { λ r. ⌜ r ≡ sessionStatus self ⌝ }
     {
-        status::session_status(self.shape, self.agrees())
+        let agree = figures::agree(&self.taken, self.pages, self.lowest);
+        status::session_status(self.shape, agree)
     }
 
     // Tests 1, 18, 11 and 16, for arrivals that name this way.
     pub fn arrival_status(self, way: u32) -> Status
         ensures { λ r. ⌜ r ≡ arrivalStatus theWays self way ⌝ }
     {
-        status::arrival_status(self.shape, way, self.agrees())
+        let agree = figures::agree(&self.taken, self.pages, self.lowest);
+        status::arrival_status(self.shape, way, agree)
     }
 
     // How often a function was called: tests 1, 18, 11, then 7.
@@ -132,12 +127,16 @@ impl Session {
     pub fn arrive(self, way: u32, word: &mut [u32], scratch: &mut [u32]) -> Arrived
         ensures { λ r. ⌜ Arriving theWays self way (now (word .entry)) (now (scratch .entry)) (now (word .exit)) (now (scratch .exit)) r ⌝ }
     {
-        let agree = self.agrees();
+        let agree = figures::agree(&self.taken, self.pages, self.lowest);
         if let Status::Refused(e) = word_status(self.shape, way, agree, word, scratch) {
             return self.refused(e);
         }
         gtb::clear(scratch);
-        self.take_word(way, word)
+        let size = word.len();
+        let info = info_length(self.shape);
+        let mut came = [0u32; 961];
+        let mut symbols = [0u32; 900];
+        self.settle_word(way, word, &mut came[..size], &mut symbols[..info])
     }
 
     // Turned down: the session is as it was.
@@ -150,19 +149,7 @@ impl Session {
         }
     }
 
-    // Both steps past all tests, with room for what came and for the information symbols.
-    fn take_word(self, way: u32, word: &mut [u32]) -> Arrived
-        requires { ⌜ Consistent self × Openable (self .shape) way (now word) ⌝ }
-        ensures { λ r. ⌜ Deciding (wayOf way) self (now (word .entry)) (now (word .exit)) r ⌝ }
-    {
-        let size = word.len();
-        let info = info_length(self.shape);
-        let mut came = [0u32; 961];
-        let mut symbols = [0u32; 900];
-        self.settle_word(way, word, &mut came[..size], &mut symbols[..info])
-    }
-
-    // The same where that room is lent.
+    // Both steps past all tests. Room for what came and for the information symbols is lent.
     fn settle_word(
         self,
         way: u32,

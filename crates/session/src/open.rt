@@ -6,24 +6,10 @@ use gtb::Shape;
 use page::PageRead;
 use page::read_narrow;
 ghost use mathlib.Core.Path.{_≡_};
-ghost use mathlib.Core.Bool.{true};
 ghost use lib.ListN.{length};
-ghost use Rattle.gtb.specs.Shape.{Lawful, infoLength};
-ghost use Rattle.gtb.specs.Square.{Word};
-ghost use Rattle.session.specs.Arrival.{wayOf, openWord};
-ghost use Rattle.session.specs.Steps.{Tells, isRestored, Openable, Opens, Keeps};
-
-// The page in a word that was read.
-fn find_page(shape: Shape, word: &[u32], symbols: &mut [u32], corrected: u32) -> Opening
-    requires { ⌜ Lawful shape × Word shape (now word) × (length (now symbols) ≡ infoLength shape) ⌝ }
-    ensures { λ r. ⌜ Tells (openWord shape (now (word .entry)) (Decoded.Corrected corrected)) (now (symbols .exit)) r × (isRestored r ≡ true) ⌝ }
-{
-    gtb::gather(shape, word, symbols);
-    match read_narrow(shape, symbols) {
-        PageRead::Refused(e) => Opening::Refused(e, true),
-        PageRead::Page(number, count) => Opening::Page(number, count, corrected),
-    }
-}
+ghost use Rattle.gtb.specs.Shape.{infoLength};
+ghost use Rattle.session.specs.Arrival.{wayOf};
+ghost use Rattle.session.specs.Steps.{Openable, Opens, Keeps};
 
 // A word past tests 1, 18, 16 and 2, read the way that is named. Where it brings a page, the marks are the symbols from place 2 on.
 pub fn open(shape: Shape, way: u32, word: &mut [u32], symbols: &mut [u32]) -> Opening
@@ -32,7 +18,13 @@ pub fn open(shape: Shape, way: u32, word: &mut [u32], symbols: &mut [u32]) -> Op
 {
     match read_word(shape, way, word) {
         Decoded::Refused(e) => Opening::Refused(e, false),
-        Decoded::Corrected(corrected) => find_page(shape, word, symbols, corrected),
+        Decoded::Corrected(corrected) => {
+            gtb::gather(shape, word, symbols);
+            match read_narrow(shape, symbols) {
+                PageRead::Refused(e) => Opening::Refused(e, true),
+                PageRead::Page(number, count) => Opening::Page(number, count, corrected),
+            }
+        }
     }
 }
 

@@ -5,7 +5,7 @@ use Rattle.batch.proofs.look.Statement.{statement}
 use Rattle.batch.proofs.look.Tie as tie
 
 open-kept-requires : tie.Need-open-kept-requires
-open-kept-requires c κs = let s = c .before .before .before .before .before .before .before in (s .pre .openable, s .pre .copySize, s .pre .symbolsSize)
+open-kept-requires c κs = let s = c .before .before .before .before .before .before .before in (s .pre .0, s .pre .1, s .pre .2)
 
 element-copy-out-if1 : tie.Need-element-copy-out-if1
 element-copy-out-if1 c = c .before .before .before .before .before .before .before .before .before .open-kept .ensures .tells .readable _ _ _ (c .before .number .given .1) .low
@@ -20,4 +20,4 @@ returns-3 : tie.Need-returns-3
 returns-3 c = looked-new (c .before .before .before .before .before .before .before .before .before .before .before .open-kept .ensures) (c .before .before .before .number .given .1)
 
 pub look-spec : {M : Type 1} → statement M
-look-spec = tie.close (tie.spec open-kept-requires (λ c. search needs) (λ c κs. c .before .before .before .before .before .before .before .before .before .before .before .before .before .before .before .before .before .before .pre .valuesSize) (λ c. search needs) (λ c. search needs) element-copy-out-if1 (λ c κs. c .before .before .before .before .before .before .before .before .before .before .before .before .before .before .before .before .before .before .before .before .pre .valuesSize) (λ c. search needs) (λ c. search needs) (λ c. search needs) (λ c. search needs) returns (λ c. search needs) (λ c. search needs) (λ c. search needs) (λ c. search needs) returns-2 (λ c. search needs) (λ c. search needs) (λ c. search needs) returns-3)
+look-spec = tie.close (tie.spec open-kept-requires (λ c. search needs) (λ c κs. c .before .before .before .before .before .before .before .before .before .before .before .before .before .before .before .before .before .before .pre .3) (λ c. search needs) (λ c. search needs) element-copy-out-if1 (λ c κs. c .before .before .before .before .before .before .before .before .before .before .before .before .before .before .before .before .before .before .before .before .pre .3) (λ c. search needs) (λ c. search needs) (λ c. search needs) (λ c. search needs) returns (λ c. search needs) (λ c. search needs) (λ c. search needs) (λ c. search needs) returns-2 (λ c. search needs) (λ c. search needs) (λ c. search needs) returns-3)

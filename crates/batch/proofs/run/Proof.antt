@@ -8,7 +8,7 @@ use Rattle.gtb.specs.Shape.{infoLength}
 use Rattle.session.proofs.Opens.{lent-marks}
 use Rattle.batch.specs.Batch.{wordsIn}
 use Rattle.batch.proofs.Runs.{word-positive, Whole, run-words, Place, run-place}
-use Rattle.batch.proofs.Turns.{Delivering, delivering-begins, delivering-ends, list-size, turn-ready, turn-code, looked-size, noted-size, part-size, part-three, turn-page}
+use Rattle.batch.proofs.Turns.{page-arrives, Delivering, delivering-begins, delivering-ends, list-size, turn-ready, turn-code}
 use Rattle.batch.proofs.run.Statement.{statement}
 use Rattle.batch.proofs.run.Tie as tie
 
@@ -39,84 +39,70 @@ div-count c = rw (c .before .before .before .before .before .before .pre .1) (wo
 loop-holds : tie.Need-loop-holds Inv-loop μ-loop
 loop-holds c = let s = c .before .before .before .before .before .before .before .before .before .before in (search needs, delivering-begins (s .pre .0) (c .before .before .clear .ensures), search needs, s .pre .2)
 
-part-look-end : tie.Need-part-look-end Inv-loop μ-loop
-part-look-end c = let p = place (c .before .before) in omega (arith, c .before .before .before .loop .inv .1 .size)
+part-word-end : tie.Need-part-word-end Inv-loop μ-loop
+part-word-end c = let p = place c in omega (arith, c .before .loop .inv .1 .size)
 
-part-look-end-2 : tie.Need-part-look-end-2 Inv-loop μ-loop
-part-look-end-2 c =
-    let t = c .before .before .before .before .before in
+part-values-end : tie.Need-part-values-end Inv-loop μ-loop
+part-values-end c =
+    let t = c .before in
     let p = place t in
     let few : t .before .loop .i ≤ 64 = omega arith in
     omega (arith, list-size (t .before .loop .inv .1) few)
 
 look-requires : tie.Need-look-requires Inv-loop μ-loop
 look-requires c κs =
-    let t = c .before .before .before .before .before .before in
+    let t = c .before .before .before .before .before .before .before .before in
     let s = start (t .before) in
-    turn-ready (t .before .loop .inv .1) (s .pre .0) (s .pre .1) (place t) (t .before .loop .inv .2) (t .before .loop .inv .3)
-
--- where the turn of a word that was looked at began
-abbrev turning : tie.After-look Inv-loop μ-loop → tie.In-loop Inv-loop μ-loop
-turning c = c .before .before .before .before .before .before .before
+    let inv = t .before .loop .inv in
+    turn-ready (inv .1) (s .pre .0) (s .pre .1) (place t) (t .before .loop .came) (t .before .loop .symbols) (inv .2) (inv .3)
 
 -- a word whose answer leaves the session as it is
 loop-again : tie.Need-loop-again Inv-loop μ-loop
 loop-again c =
-    let t = turning (c .before .before .before .before .before .before .before .before .before .before) in
+    let t = c .before .before .before .before .before .before .before .before .before .before .before .before .before .before .before .before .before .before .before .before .before .before .before in
     let s = start (t .before) in
     let inv = t .before .loop .inv in
-    let one = c .before .before .before .before .before .before .before .before .before .before .look in (
+    let one = c .before .before .before .before .before .before .before .before .before .before .before .before .before .before .look in (
       search needs,
-      turn-code (inv .1) (s .pre .0) (s .pre .1) (place t) (one .kept .1 .1 .1 .0) (one .ensures .known (c .enum-told .given .1) (t .before .loop .after) (inv .1 .shape) refl),
+      turn-code (inv .1) (s .pre .0) (s .pre .1) (place t) (one .kept .1 .1 .1 .0) (one .ensures .known (c .before .before .before .before .enum-told .given .1) (t .before .loop .after) (inv .1 .shape) refl),
       one .kept .1 .1 .1 .1 .0 ∙ inv .2,
       one .kept .1 .1 .1 .1 .1 .0 ∙ inv .3,
     )
 
-part-take-page-end : tie.Need-part-take-page-end Inv-loop μ-loop
-part-take-page-end c = c .before .before .before .before .before .before .before .before .before .before .before .before .look .ensures .new _ _ _ (c .before .before .seen .given .1) .tells .readable _ _ _ refl .room
+-- a word with a page that is new
+part-settled-end : tie.Need-part-settled-end Inv-loop μ-loop
+part-settled-end c = c .before .before .before .before .before .before .before .before .before .before .before .before .look .ensures .new _ _ _ (c .before .before .seen .given .1) .tells .readable _ _ _ refl .room
 
-part-take-page-end-2 : tie.Need-part-take-page-end-2 Inv-loop μ-loop
-part-take-page-end-2 c =
-    let t = c .before .before .before .before .before .before .before .before .before .before .before .before .before .before .before .before .before .before .before .before in
-    let s = start (t .before) in
-    let p = place t in
-    let one = c .before .before .before .before .before .before .before .before .before .before .before .before .before .look in
-    omega (arith, looked-size (t .before .loop .inv .1) (s .pre .0) (s .pre .1) p (one .ensures) (one .kept .1 .1 .1 .0) (one .kept .1 .1 .1 .1 .1 .1 .0), t .before .loop .inv .1 .size)
+settled-requires : tie.Need-settled-requires Inv-loop μ-loop
+settled-requires c κs =
+    let page = c .before .before .before .before .before .before .before .before .before .before .before .before .before .look .ensures .new _ _ _ (c .before .before .before .seen .given .1) .tells .readable _ _ _ refl in
+    (c .before .before .before .before .before .before .before .before .before .before .before .before .before .before .before .before .before .before .before .before .before .before .before .loop .inv .1 .consistent, page .low, lent-marks page)
 
-part-take-page-end-3 : tie.Need-part-take-page-end-3 Inv-loop μ-loop
-part-take-page-end-3 c =
-    let t = c .before .before .before .before .before .before .before .before .before .before .before .before .before .before .before .before .before .before .before .before .before .before in
-    let s = start (t .before) in
-    let p = place t in
-    let one = c .before .before .before .before .before .before .before .before .before .before .before .before .before .before .before .look in
-    let few : t .before .loop .i ≤ 64 = omega arith in
-    omega (arith, noted-size (t .before .loop .inv .1) (s .pre .0) (s .pre .1) p (one .ensures) (one .kept .1 .1 .1 .0) (one .kept .1 .1 .1 .1 .1 .1 .0), list-size (t .before .loop .inv .1) few)
-
-take-page-requires : tie.Need-take-page-requires Inv-loop μ-loop
-take-page-requires c κs =
-    let t = c .before .before .before .before .before .before .before .before .before .before .before .before .before .before .before .before .before .before .before .before .before .before .before in
+put-back-requires : tie.Need-put-back-requires Inv-loop μ-loop
+put-back-requires c κs =
+    let t = c .before .before .before .before .before .before .before .before .before .before .before .before .before .before .before .before .before .before .before .before .before .before .before .before in
     let s = start (t .before) in
     let inv = t .before .loop .inv in
-    let one = c .before .before .before .before .before .before .before .before .before .before .before .before .before .before .before .before .look in
-    let page = one .ensures .new _ _ _ (c .before .before .before .before .before .before .seen .given .1) .tells .readable _ _ _ refl in
-    let size = part-size (inv .1) (s .pre .0) (s .pre .1) (place t) (one .ensures) (one .kept .1 .1 .1 .0) (one .kept .1 .1 .1 .1 .1 .1 .0) in (
-      inv .1 .consistent,
-      page .low,
-      lent-marks page,
-      one .kept .1 .1 .1 .1 .0 ∙ inv .2 ∙ sym size,
-      part-three (inv .1) (s .pre .0) (s .pre .1) (place t) (one .ensures) (one .kept .1 .1 .1 .0) (one .kept .1 .1 .1 .1 .1 .1 .0),
-    )
+    let one = c .before .before .before .before .before .before .before .before .before .before .before .before .before .before .before .look in
+    one .kept .1 .1 .1 .1 .0 ∙ turn-ready (inv .1) (s .pre .0) (s .pre .1) (place t) (t .before .loop .came) (t .before .loop .symbols) (inv .2) (inv .3) .1 ∙ sym (one .kept .1 .1 .1 .0)
 
--- a word with a page that is new
+put-outcome-requires : tie.Need-put-outcome-requires Inv-loop μ-loop
+put-outcome-requires c κs =
+    let t = c .before .before .before .before .before .before .before .before .before .before .before .before .before .before .before .before .before .before .before .before .before .before .before .before .before .before .before in
+    let s = start (t .before) in
+    let inv = t .before .loop .inv in
+    c .before .before .before .before .before .before .before .before .before .before .before .before .before .before .before .before .before .before .look .kept .1 .1 .1 .1 .1 .1 .0 ∙ turn-ready (inv .1) (s .pre .0) (s .pre .1) (place t) (t .before .loop .came) (t .before .loop .symbols) (inv .2) (inv .3) .3
+
 loop-again-2 : tie.Need-loop-again-2 Inv-loop μ-loop
 loop-again-2 c =
-    let t = turning (c .before .before .before .before .before .before .before .before .before .before .before .before .before .before .before .before .before .before .before .before .before) in
+    let t = c .before .before .before .before .before .before .before .before .before .before .before .before .before .before .before .before .before .before .before .before .before .before .before .before .before .before .before .before .before .before .before in
     let s = start (t .before) in
     let inv = t .before .loop .inv in
-    let one = c .before .before .before .before .before .before .before .before .before .before .before .before .before .before .before .before .before .before .before .before .before .look in
-    let new = c .before .before .before .before .take-page in (
+    let one = c .before .before .before .before .before .before .before .before .before .before .before .before .before .before .before .before .before .before .before .before .before .before .look in
+    let back = c .before .before .before .before .before .before .put-back in (
       search needs,
-      turn-page (inv .1) (s .pre .0) (s .pre .1) (place t) (one .ensures) (one .kept .1 .1 .1 .0) (one .kept .1 .1 .1 .1 .1 .1 .0) (c .before .before .before .before .before .before .before .before .before .before .before .seen .given .1) (new .kept .1 .1 .1 .1 .0) (new .ensures),
+      turn-code (inv .1) (s .pre .0) (s .pre .1) (place t) (back .kept .1 .1 .0 ∙ one .kept .1 .1 .1 .0)
+          (page-arrives (t .before .loop .after) (inv .1 .shape) (one .ensures .new _ _ _ (c .before .before .before .before .before .before .before .before .before .before .before .before .seen .given .1)) (c .before .before .before .before .before .before .before .before .settled .ensures) (back .ensures) (c .before .before .before .put-outcome .ensures)),
       one .kept .1 .1 .1 .1 .0 ∙ inv .2,
       one .kept .1 .1 .1 .1 .1 .0 ∙ inv .3,
     )
@@ -138,4 +124,4 @@ returns : tie.Need-returns Inv-loop μ-loop
 returns c = let e = c .before .before .before .before in delivering-ends (all e) (c .before .before .clear2 .ensures) (e .before .loop .inv .1)
 
 pub run-spec : {M : Type 1} → statement M
-run-spec = tie.close (tie.spec Inv-loop μ-loop div-count (λ c κs. search needs) loop-holds (λ c. let p = place c in omega arith) (λ c. let p = place c in omega arith) (λ c. let p = place c in omega arith) (λ c. let p = place c in omega arith) (λ c. let p = place c in omega arith) (λ c. let p = place (c .before .before) in omega arith) (λ c. search needs) (λ c. search needs) part-look-end (λ c. let p = place (c .before .before .before .before .before) in omega arith) (λ c. search needs) (λ c. search needs) part-look-end-2 look-requires (λ c. search needs) (λ c. search needs) (λ c. omega (arith, c .before .before .before .before .before .before .before .before .before .before .before .before .before .before .before .before .before .loop-test .taken)) loop-again (λ c. search needs) (λ c. search needs) (λ c. search needs) (λ c. search needs) part-take-page-end (λ c. let p = place (c .before .before .before .before .before .before .before .before .before .before .before .before .before .before .before .before .before .before .before .before) in omega arith) (λ c. search needs) (λ c. search needs) part-take-page-end-2 (λ c. let p = place (c .before .before .before .before .before .before .before .before .before .before .before .before .before .before .before .before .before .before .before .before .before .before) in omega arith) (λ c. search needs) (λ c. search needs) part-take-page-end-3 take-page-requires (λ c. omega (arith, c .before .before .before .before .before .before .before .before .before .before .before .before .before .before .before .before .before .before .before .before .before .before .before .before .before .before .before .before .loop-test .taken)) loop-again-2 (λ c κs. search needs) (λ c. search needs) (λ c. search needs) same-length-3 (λ c. search needs) (λ c. search needs) returns)
+run-spec = tie.close (tie.spec Inv-loop μ-loop div-count (λ c κs. search needs) loop-holds (λ c. let p = place c in omega arith) (λ c. let p = place c in omega arith) (λ c. let p = place c in omega arith) (λ c. let p = place c in omega arith) (λ c. let p = place c in omega arith) (λ c. let p = place c in omega arith) (λ c. search needs) (λ c. search needs) part-word-end (λ c. let p = place (c .before) in omega arith) (λ c. search needs) (λ c. search needs) part-values-end look-requires (λ c. search needs) (λ c. search needs) (λ c. omega (arith, c .before .before .before .before .before .before .before .before .before .before .before .before .before .before .before .before .before .before .before .before .before .before .before .loop-test .taken)) loop-again (λ c. search needs) (λ c. search needs) (λ c. search needs) (λ c. search needs) part-settled-end settled-requires put-back-requires put-outcome-requires (λ c. omega (arith, c .before .before .before .before .before .before .before .before .before .before .before .before .before .before .before .before .before .before .before .before .before .before .before .before .before .before .before .before .before .before .before .loop-test .taken)) loop-again-2 (λ c κs. search needs) (λ c. search needs) (λ c. search needs) same-length-3 (λ c. search needs) (λ c. search needs) returns)

@@ -11,7 +11,7 @@ use Rattle.session.specs.Session.{consistent, Consistent}
 use Rattle.session.specs.Steps.{Openable}
 use Rattle.session.proofs.Arrive.{tests-refused, tests-passed, decides-arrives}
 use Rattle.host.specs.Crossing.{sessionOf}
-use Rattle.host.proofs.Answers.{at-refused, at-other}
+use Rattle.host.proofs.Answers.{at-kept, at-other}
 use Rattle.host.proofs.arrival.arrive.Statement.{statement}
 use Rattle.host.proofs.arrival.arrive.Tie as tie
 
@@ -43,7 +43,7 @@ load-shape-requires c κs = let s = c .before .before .before .before in length-
 returns : tie.Need-returns
 returns c =
     let s = c .before .before .before .before .before .before .before .before .before .before .before .before .before .before .args in
-    at-refused (tests-refused (sessionOf (s .session .now)) (same (c .before .before .before .before .before .before .before .before .before)) (agrees (c .before .before .before .before .before .before)) (s .way) (s .word .now) (s .scratch .now) (sym (c .before .before .before .word-status .ensures) ∙ c .before .e .given .1) (refl, refl))
+    at-kept refl (tests-refused (sessionOf (s .session .now)) (same (c .before .before .before .before .before .before .before .before .before)) (agrees (c .before .before .before .before .before .before)) (s .way) (s .word .now) (s .scratch .now) (sym (c .before .before .before .word-status .ensures) ∙ c .before .e .given .1) (refl, refl))
 
 take-word-requires : tie.Need-take-word-requires
 take-word-requires c κs =

@@ -9,7 +9,7 @@ use lib.Dec.{eqb}
 use lib.ListN.{getD, List·getD-map}
 use borrow.Author.Tests.{eq-eqb}
 use Rattle.parity.specs.Count.{count}
-use Rattle.parity.proofs.Sums.{count-zero}
+use Rattle.parity.proofs.Sums.{count-zero, count-cong, count-not}
 use Rattle.parity.proofs.Lowest.{full-count}
 use Rattle.session.specs.Session.{marked, pagesOf}
 use Rattle.session.proofs.Progress.{piece-more, lowest-found, lowest-facts, lowest-full, pages-differ, lowest-differs, both-agree, last-test}
@@ -23,11 +23,18 @@ marksAt c = map isYes (c .before .before .args .marks .now)
 abbrev lowestAt : tie.Else1 → ℕ
 lowestAt c = c .before .before .args .lowest
 
+-- a mark is no or yes
+no-or-yes : (marks : List ℕ) (n : ℕ) → count n (λ i. eqb (getD marks i 0) 0) + count n (marked (map isYes marks)) ≡ n
+no-or-yes marks n =
+    let no : ℕ → Bool = λ i. eqb (getD marks i 0) 0 in
+    ap (λ (k : ℕ). count n no + k) (count-cong n (marked (map isYes marks)) (λ i. not (no i)) (λ i l. List·getD-map isYes marks i 0)) ∙ count-not n no
+
 -- as many as are not marked below the lowest number
 below : (c : tie.After-unmarked-in) → c .unmarked-in .result + count (lowestAt (c .before)) (marked (marksAt (c .before))) ≡ lowestAt (c .before)
 below c =
-    let taken = marksAt (c .before) in
-    omega (arith, c .unmarked-in .ensures, piece-more taken 0 (lowestAt (c .before)) zero-le, count-zero (marked taken))
+    let marks = c .before .before .before .args .marks .now in
+    let no : ℕ → Bool = λ i. eqb (getD marks i 0) 0 in
+    omega (arith, c .unmarked-in .ensures, piece-more no 0 (lowestAt (c .before)) zero-le, count-zero no, no-or-yes marks (lowestAt (c .before)))
 
 -- past the test all below it are taken
 full : (c : tie.Else2) → count (lowestAt (c .before .before)) (marked (marksAt (c .before .before))) ≡ lowestAt (c .before .before)
@@ -37,8 +44,15 @@ full c = omega (arith, below (c .before), c .if2 .left)
 both : (c : tie.After-unmarked-in2) → c .unmarked-in2 .result + count 1024 (marked (marksAt (c .before .before .before))) ≡ 1024
 both c =
     let begun = c .before .before .before in
-    let taken = marksAt begun in
-    omega (arith, full (c .before), c .unmarked-in2 .ensures, begun .if1 .left, piece-more taken (lowestAt begun) 1024 (begun .if1 .left))
+    let marks = begun .before .before .args .marks .now in
+    omega (
+      arith,
+      full (c .before),
+      c .unmarked-in2 .ensures,
+      piece-more (λ i. eqb (getD marks i 0) 0) (lowestAt begun) 1024 (begun .if1 .left),
+      no-or-yes marks (lowestAt begun),
+      no-or-yes marks 1024,
+    )
 
 returns : tie.Need-returns
 returns c =

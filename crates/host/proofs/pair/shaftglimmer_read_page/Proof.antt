@@ -1,6 +1,6 @@
 -- `host::pair::shaftglimmer_read_page` meets its contract.
 use mathlib.Core.Path.{sym, ap, _∙_}
-use Prim.Native.Nat.{_≤_, _+_, _^_}
+use Prim.Native.Nat.{ℕ, _≤_, _+_, _*_, _^_}
 use native.Mathlib.Omega.{arith}
 use lib.Seq.{length-take-le}
 use borrow.Author.Tests.{not-true, not-false}
@@ -9,8 +9,9 @@ use Rattle.gtb.specs.declared.Refusal.{Refusal}
 use Rattle.gtb.specs.Answer.{refusalNumber}
 use Rattle.gtb.specs.Shape.{Lawful, standard}
 use Rattle.gtb.proofs.Sizes.{sizes}
-use Rattle.page.specs.Page.{readNumber}
-use Rattle.host.proofs.Pairs.{page-shape, page-length}
+use Rattle.page.specs.Page.{readNumber, pageOf}
+use Rattle.page.proofs.Pages.{read-fits}
+use Rattle.host.proofs.Pairs.{page-shape, page-length, page-past}
 use Rattle.host.proofs.pair.shaftglimmer_read_page.Statement.{statement}
 use Rattle.host.proofs.pair.shaftglimmer_read_page.Tie as tie
 
@@ -33,12 +34,14 @@ mul-if2 c = omega (arith, c .info-length .ensures, sizes _ (legal (c .before)) .
 returns-2 : tie.Need-returns-2
 returns-2 c = c .refused2 .ensures ∙ sym (ap readNumber (page-length _ _ (legal (c .before .before .before)) (λ e. c .before .if2 .taken (rw (c .before .before .info-length .ensures) e))))
 
-read-page-requires : tie.Need-read-page-requires
-read-page-requires c κs = (
-  legal (c .before .before .before),
-  rw (c .before .before .info-length .ensures) at (c .before .if2 .left),
-  length-take-le _ _ (room (c .before)) ∙ c .before .before .info-length .ensures,
-)
+load-requires : tie.Need-load-requires
+load-requires c κs = let tested = c .before .before in tested .if2 .left ∙ ap (λ (n : ℕ). 4 * n) (sym (length-take-le _ _ (room tested)))
+
+returns-3 : tie.Need-returns-3
+returns-3 c =
+    let tested = c .before .before .before .before .before .before .before .before .before in
+    let s = c .before .before .before .before .before .before .before .before .before .before .before .before .before .before .args in
+    c .read .ensures ∙ ap readNumber (c .before .before .read-page .ensures ∙ ap (pageOf (standard (s .q) (s .n) (s .b))) (c .before .before .before .before .before .before .load .ensures) ∙ sym (page-past _ _ (legal (tested .before .before)) (rw (tested .before .info-length .ensures) at (tested .if2 .left))))
 
 pub shaftglimmer-read-page-spec : {M : Type 1} → statement M
-shaftglimmer-read-page-spec = tie.close (tie.spec (λ c κs. search needs) (λ c κs. search needs) (λ c κs. search needs) returns (λ c κs. legal c) mul-if2 (λ c κs. search needs) returns-2 (λ c. room c) (λ c. sym (length-take-le _ _ (room (c .before)))) read-page-requires (λ c. search needs))
+shaftglimmer-read-page-spec = tie.close (tie.spec (λ c κs. search needs) (λ c κs. search needs) (λ c κs. search needs) returns (λ c κs. legal c) mul-if2 (λ c κs. search needs) returns-2 (λ c. room c) (λ c. sym (length-take-le _ _ (room (c .before)))) load-requires (λ c κs. search needs) (λ c κs. rw (c .before .read-page .ensures) (read-fits _ _)) returns-3)

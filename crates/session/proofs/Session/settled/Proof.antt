@@ -4,10 +4,11 @@ use mathlib.Core.Bool.{true}
 use Prim.Native.Nat.{_+_}
 use native.Mathlib.Omega.{arith}
 use lib.ListN.{length, set}
+use denote.Struct.Field.{bool-field}
 use borrow.Author.Needs.{needs}
 use borrow.Author.Tests.{not-true, not-false}
 use Rattle.session.specs.Session.{pagesOf, recorded}
-use Rattle.session.proofs.Arrays.{counts, marks}
+use Rattle.session.proofs.Arrays.{counts, sized}
 use Rattle.session.proofs.Progress.{kept-lowest, few-pages, more-pages}
 use Rattle.session.proofs.Settle.{settle-again, settle-overflow, settle-taken}
 use Rattle.session.proofs.Session.settled.Statement.{statement}
@@ -18,7 +19,7 @@ abbrev entry : tie.Else1 → tie.Start
 entry c = c .before .before .before .before
 
 marks-size : (c : tie.Start) → length (c .args .self .taken) ≡ 1024
-marks-size c = marks (c .args .self .taken) _ (c .good .0 .1 .1 .1 .0)
+marks-size c = sized bool-field 1024 (c .args .self .taken) _ (c .good .0 .1 .1 .1 .0)
 
 add-marks-requires : tie.Need-add-marks-requires
 add-marks-requires c κs =

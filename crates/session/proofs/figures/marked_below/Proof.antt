@@ -31,7 +31,7 @@ more : (c : tie.After-marked-in Inv-loop μ-loop)
     → c .before .before .loop .pages + c .marked-in .result ≡ count (c .before .before .loop .from + 128) (marked (c .before .before .before .args .taken .now))
 more c =
     let at = c .before .before in
-    ap₂ (λ (x y : ℕ). x + y) (at .loop .inv .1) (c .marked-in .ensures) ∙ piece-more (at .before .args .taken .now) (at .loop .from) (at .loop .from + 128) (omega arith)
+    ap₂ (λ (x y : ℕ). x + y) (at .loop .inv .1) (c .marked-in .ensures) ∙ piece-more (marked (at .before .args .taken .now)) (at .loop .from) (at .loop .from + 128) (omega arith)
 
 add-pages : tie.Need-add-pages Inv-loop μ-loop
 add-pages c =
@@ -49,7 +49,7 @@ whole : (c : tie.After-marked-in2 Inv-loop μ-loop)
     → c .before .before .loop .pages + c .marked-in2 .result ≡ count (c .before .before .before .args .end) (marked (c .before .before .before .args .taken .now))
 whole c =
     let at = c .before .before in
-    ap₂ (λ (x y : ℕ). x + y) (at .loop .inv .1) (c .marked-in2 .ensures) ∙ piece-more (at .before .args .taken .now) (at .loop .from) (at .before .args .end) (at .loop .inv .0)
+    ap₂ (λ (x y : ℕ). x + y) (at .loop .inv .1) (c .marked-in2 .ensures) ∙ piece-more (marked (at .before .args .taken .now)) (at .loop .from) (at .before .args .end) (at .loop .inv .0)
 
 add-result : tie.Need-add-result Inv-loop μ-loop
 add-result c =

@@ -1,5 +1,5 @@
 -- `session::status::session_status` meets its contract: the tests turn down in their order.
-use mathlib.Core.Path.{_≡_, sym, ap, _∙_}
+use mathlib.Core.Path.{sym, ap, _∙_}
 use borrow.Author.Tests.{not-true, not-false}
 use borrow.Author.Needs.{needs}
 use Rattle.gtb.specs.declared.Status.the-variants.{Refused}
