@@ -25,11 +25,10 @@ use Rattle.lines.specs.Text.{ascii, decimal, spell, sameBytes}
 use Rattle.lines.specs.Content.{valuesIn, small, contentOf}
 use Rattle.session.specs.Arrival.{isWay, wayOf, theWays, opened}
 use Rattle.session.specs.Recording.{Sheet, sheetAt, symbolsOf, Recording, Arrival, arrivalAt, TurnedDown, Brings, Fits}
-use Rattle.judge.specs.Judge.{lineContent}
+use Rattle.capture.specs.Judge.{keptOf}
 use Rattle.capture.specs.Feed.{readLimit, outputOf}
 use Rattle.capture.specs.Print.{Unbroken, lineAt, linesText, captureText, arrivalOf, arrivalsIn, Prints}
 use Rattle.capture.proofs.Examples.{example}
-use Rattle.capture.proofs.Print.{test-unbroken}
 use Rattle.capture.proofs.Printed.{printed}
 
 -- a word that reading accepts, with the page's data digits, brings the page
@@ -92,7 +91,7 @@ unfolding opened isWay wayOf changesBy restoredBy acceptedBy readOf silentTest m
 turned-down = record { by = refl }
 
 the-arrivals : arrivalsIn shape lines ≡ arrivalOf shape stored ∷ arrivalOf shape damaged ∷ arrivalOf shape spoiled ∷ []
-unfolding arrivalsIn lineContent contentOf small valuesIn sameBytes spell decimal all
+unfolding arrivalsIn keptOf contentOf small valuesIn sameBytes spell decimal all
 the-arrivals = refl
 
 abbrev arrivals : List Arrival
@@ -114,9 +113,9 @@ fits : Fits theWays shape (sheet ∷ []) (arrivalsIn shape lines)
 fits = rw the-arrivals (record { each = each; every = every })
 
 unbroken : (i : ℕ) → i < 3 → Unbroken (lineAt lines i)
-unbroken zero l = test-unbroken (ascii "5 2 7 3 1 2 6 3 5") refl
-unbroken (suc zero) l = test-unbroken (ascii "12 2 7 3 1 2 6 3 5") refl
-unbroken (suc (suc zero)) l = test-unbroken (ascii "1 0 0 0 1 0 0 0 0") refl
+unbroken zero l = refl
+unbroken (suc zero) l = refl
+unbroken (suc (suc zero)) l = refl
 unbroken (suc (suc (suc i))) l = absurd (omega arith)
 
 the-text : captureText 3 2 8 lines [] ≡ ascii "q n b\n3 2 8\nword\n5 2 7 3 1 2 6 3 5\n12 2 7 3 1 2 6 3 5\n1 0 0 0 1 0 0 0 0\n"
@@ -129,4 +128,4 @@ short = rw the-text (omega arith)
 pub example-printed : Prints shape (sheet ∷ []) lines [] (ascii "outcome page fixed\ntaken 1 0\nagain 1 1\nrefused 4 0\nfunction calls\n3 1\n5 1\n")
 example-printed =
     subst (Prints shape (sheet ∷ []) lines []) (ap outputOf the-text ∙ example)
-    (printed 3 2 8 (sheet ∷ []) lines [] recording unbroken (test-unbroken [] refl) fits short)
+    (printed 3 2 8 (sheet ∷ []) lines [] recording unbroken refl fits short)

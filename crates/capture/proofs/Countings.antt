@@ -1,23 +1,22 @@
 -- What is counted are the answers of each kind, as long as no number is full.
-use mathlib.Core.Path.{_≡_, refl, sym, ap, _∙_}
+use mathlib.Core.Path.{_≡_, refl, _∙_}
 use mathlib.Core.Bool.{Bool, true, false}
 use mathlib.Core.List.{List, [], _∷_, _++_}
-use Prim.Native.Nat.{ℕ, suc, _+_, _-_, _^_, _≤_, _<_}
+use Prim.Native.Nat.{ℕ, _+_, _^_, _≤_, _<_}
 use native.Mathlib.Omega.{arith}
 use borrow.Author.Tests.{ne-eqb}
 use lib.Dec.{eqb}
 use lib.ListN.{length, take, length-take}
 use Rattle.parity.specs.Count.{bit}
-use Rattle.session.specs.declared.Outcome.{Outcome}
 use Rattle.session.specs.declared.Outcome.the-variants.{Taken, Again, Refused}
-use Rattle.judge.specs.declared.Answer.{Answer}
-use Rattle.judge.specs.declared.Answer.the-variants.{Nothing, Word, Head}
+use Rattle.capture.specs.declared.Answer.{Answer}
+use Rattle.capture.specs.declared.Answer.the-variants.{Nothing, Word, Head}
 use Rattle.capture.specs.declared.Counts.{Counts}
-use Rattle.capture.specs.Counting.{none, more, countedBy, counted, countedIn, takes, repeats, refuses, isWord, among, amounts}
-use Rattle.judge.specs.declared.Phase.{Phase}
-use Rattle.judge.specs.declared.Phase.the-variants.{ShapeNames, ShapeValues, WordNames, Words, Ended}
-use Rattle.judge.specs.Judge.{start}
-use Rattle.capture.specs.Feed.{feed, lastIn, lastOf, readLimit, fedBy, answersOf}
+use Rattle.capture.specs.Counting.{none, counted, countedIn, isKind, among, amounts}
+use Rattle.capture.specs.declared.Phase.{Phase}
+use Rattle.capture.specs.declared.Phase.the-variants.{ShapeNames, ShapeValues, WordNames, Words, Ended}
+use Rattle.capture.specs.Judge.{start}
+use Rattle.capture.specs.Feed.{lastIn, lastOf, readLimit, fedBy, answersOf}
 use Rattle.capture.proofs.Feeds.{feed-few}
 
 pub counted-append : (c : Counts) (a b : List Answer) → countedIn c (a ++ b) ≡ countedIn (countedIn c a) b
@@ -27,40 +26,29 @@ counted-append c (x ∷ a) b = counted-append (counted c x) a b
 
 -- these counts and the answers of each kind
 abbrev with : Counts → List Answer → Counts
-with c answers = record { taken = c .taken + among takes answers; again = c .again + among repeats answers; refused = c .refused + among refuses answers }
+with c answers = record { taken = c .taken + among (isKind 0) answers; again = c .again + among (isKind 1) answers; refused = c .refused + among (isKind 2) answers }
 
 -- no count gets beyond its limit with so many words more
-record Room (c : Counts) (words : ℕ) : Type 0 where
-  taken : c .taken + words < 2 ^ 32
-  again : c .again + words < 2 ^ 32
-  refused : c .refused + words < 2 ^ 32
+abbrev Room : Counts → ℕ → Type 0
+Room c words = c .taken + c .again + c .refused + words < 2 ^ 32
 
 counts-are : {t a r t′ a′ r′ : ℕ} → t ≡ t′ → a ≡ a′ → r ≡ r′ → _≡_ {A = Counts} (record { taken = t; again = a; refused = r }) (record { taken = t′; again = a′; refused = r′ })
 counts-are et ea er = λ i. record { taken = et i; again = ea i; refused = er i }
 
+-- a word, in whichever way it is answered
+abbrev isWord : Answer → Bool
+isWord Nothing = false
+isWord (Word r) = true
+isWord (Head e) = false
+
 module _ (c : Counts) (answers : List Answer) (n : ℕ) where
   one : (a : Answer) → Room c (bit (isWord a) + n) → Room (counted c a) n × (with (counted c a) answers ≡ with c (a ∷ answers))
-  unfolding countedBy among bit
-  one Nothing room = (
-    record { taken = omega (arith, room .taken); again = omega (arith, room .again); refused = omega (arith, room .refused) },
-    counts-are (omega arith) (omega arith) (omega arith),
-  )
-  one (Word (Taken p k)) room = (
-    record { taken = omega (arith, room .taken); again = omega (arith, room .again); refused = omega (arith, room .refused) },
-    counts-are (omega (arith, room .taken)) (omega arith) (omega arith),
-  )
-  one (Word (Again p k)) room = (
-    record { taken = omega (arith, room .taken); again = omega (arith, room .again); refused = omega (arith, room .refused) },
-    counts-are (omega arith) (omega (arith, room .again)) (omega arith),
-  )
-  one (Word (Refused f)) room = (
-    record { taken = omega (arith, room .taken); again = omega (arith, room .again); refused = omega (arith, room .refused) },
-    counts-are (omega arith) (omega arith) (omega (arith, room .refused)),
-  )
-  one (Head e) room = (
-    record { taken = omega (arith, room .taken); again = omega (arith, room .again); refused = omega (arith, room .refused) },
-    counts-are (omega arith) (omega arith) (omega arith),
-  )
+  unfolding among bit
+  one Nothing room = (omega arith, counts-are (omega arith) (omega arith) (omega arith))
+  one (Word (Taken p k)) room = (omega arith, counts-are (omega arith) (omega arith) (omega arith))
+  one (Word (Again p k)) room = (omega arith, counts-are (omega arith) (omega arith) (omega arith))
+  one (Word (Refused f)) room = (omega arith, counts-are (omega arith) (omega arith) (omega arith))
+  one (Head e) room = (omega arith, counts-are (omega arith) (omega arith) (omega arith))
 
 counted-with : (c : Counts) (answers : List Answer) → Room c (among isWord answers) → countedIn c answers ≡ with c answers
 unfolding countedIn among
@@ -72,7 +60,7 @@ counted-with c (a ∷ answers) room =
 -- so they are the numbers of answers, if there are fewer than 2^32 words
 pub counted-amounts : (answers : List Answer) → among isWord answers < 2 ^ 32 → countedIn none answers ≡ amounts answers
 unfolding amounts
-counted-amounts answers l = counted-with none answers (record { taken = omega (arith, l); again = omega (arith, l); refused = omega (arith, l) }) ∙ counts-are (omega arith) (omega arith) (omega arith)
+counted-amounts answers l = counted-with none answers (omega arith) ∙ counts-are (omega arith) (omega arith) (omega arith)
 
 -- ---- no more words than bytes
 words-few : (answers : List Answer) → among isWord answers ≤ length answers

@@ -13,13 +13,13 @@ use lib.Seq.{drop-length, drop-drop, drop-cons, getD-take, getD-drop, length-tak
 use Rattle.parity.proofs.Tests.{either, clash}
 use Rattle.lines.specs.Text.{newline}
 use Rattle.lines.specs.Parse.{FirstNewline}
-use Rattle.judge.specs.declared.Fault.{Fault}
-use Rattle.judge.specs.declared.Phase.{Phase}
-use Rattle.judge.specs.declared.Phase.the-variants.{ShapeNames, ShapeValues, WordNames, Words, Ended}
-use Rattle.judge.specs.declared.Tally.{Tally}
-use Rattle.judge.specs.declared.Judged.{Judged}
-use Rattle.judge.specs.declared.Answer.{Answer}
-use Rattle.judge.specs.Judge.{passed, judgedOf}
+use Rattle.capture.specs.declared.Fault.{Fault}
+use Rattle.capture.specs.declared.Phase.{Phase}
+use Rattle.capture.specs.declared.Phase.the-variants.{ShapeNames, ShapeValues, WordNames, Words, Ended}
+use Rattle.capture.specs.declared.Tally.{Tally}
+use Rattle.capture.specs.declared.Judged.{Judged}
+use Rattle.capture.specs.declared.Answer.{Answer}
+use Rattle.capture.specs.Judge.{passed, judgedOf}
 use Rattle.capture.specs.declared.Counts.{Counts}
 use Rattle.capture.specs.Output.{answersText}
 use Rattle.capture.specs.Counting.{countedIn}
@@ -92,7 +92,7 @@ pub record Silent (f : Fault) (r : Fed) : Type 0 where
   pub counts : (c : Counts) → countedIn c (r .answers) ≡ c
 
 pub ended-silent : (bytes : List ℕ) (t : Tally) (held : List ℕ) {f : Fault} → t .phase ≡ Ended f → Silent f (feed t held bytes)
-unfolding passed answersText countedIn
+unfolding answersText countedIn
 ended-silent [] t held h = rw (feed-none t held) (record { phase = h; text = refl; counts = λ c. refl })
 ended-silent (b ∷ bytes) t held {f} h =
     ⊎-elim

@@ -13,19 +13,19 @@ use Rattle.parity.proofs.Tests.{either}
 use Rattle.lines.specs.Text.{Put}
 use Rattle.lines.specs.Parse.{FirstNewline}
 use Rattle.session.specs.Session.{Consistent}
-use Rattle.judge.specs.declared.Tally.{Tally}
-use Rattle.judge.specs.declared.Judged.{Judged}
-use Rattle.judge.specs.declared.Answer.{Answer}
+use Rattle.capture.specs.declared.Tally.{Tally}
+use Rattle.capture.specs.declared.Judged.{Judged}
+use Rattle.capture.specs.declared.Answer.{Answer}
 use Rattle.capture.specs.declared.Counts.{Counts}
 use Rattle.capture.specs.declared.Reader.{Reader}
 use Rattle.capture.specs.Output.{answerText, answersText}
 use Rattle.capture.specs.Counting.{counted, countedIn}
-use Rattle.judge.specs.Judge.{judgedOf}
+use Rattle.capture.specs.Judge.{judgedOf}
 use Rattle.capture.specs.Feed.{Fed, after, feed}
 use Rattle.capture.specs.Steps.{Appended, LineSoFar, Extended, End, LineEnded, BlockTaken}
-use Rattle.judge.proofs.Figures.{judged-consistent}
+use Rattle.capture.proofs.Sessions.{judged-consistent}
 use Rattle.capture.proofs.Texts.{put-appended, appended-none, appended-both, answers-append, answers-one}
-use Rattle.judge.proofs.Judges.{long-judged}
+use Rattle.capture.proofs.Judges.{long-judged}
 use Rattle.capture.proofs.Feeds.{after-after, piece, feed-rest, feed-line}
 
 -- ---- bytes join the line

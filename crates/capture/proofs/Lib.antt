@@ -1,3 +1,6 @@
+pub mod Judges
+pub mod Looks
+pub mod Sessions
 pub mod Texts
 pub mod Feeds
 pub mod Frames
@@ -8,3 +11,4 @@ pub mod Ranks
 pub mod Printed
 pub mod Captured
 pub mod Recordings
+pub mod Blames

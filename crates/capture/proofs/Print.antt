@@ -1,94 +1,65 @@
 -- A capture fed line by line: the answer to each word line, and the session that it leaves.
 use mathlib.Core.Path.{_≡_, refl, sym, ap, _∙_, subst}
-use mathlib.Core.Bool.{Bool, true, not, _&&_}
+use mathlib.Core.Bool.{not}
 use mathlib.Core.List.{List, [], _∷_, _++_, map, append-assoc, append-nil}
 use Prim.Native.Nat.{ℕ, zero, suc, _*_, _^_, _<_, _≤_, suc-le-suc}
 use native.Mathlib.Nat.{not-suc-le-zero, le-of-suc-le-suc, zero-lt-suc}
 use native.Mathlib.Omega.{arith}
-use borrow.Author.Tests.{eqb-false, not-true}
+use borrow.Author.Tests.{ne-eqb, eqb-false, not-true}
 use lib.Dec.{eqb}
-use lib.ListN.{length, getD, length-append, length-replicate}
-use Rattle.parity.proofs.Tests.{and-left, and-right}
-use Rattle.parity.proofs.Lists.{length-tabulate}
+use lib.ListN.{length, getD, length-append}
+use Rattle.parity.proofs.Tests.{and-left, and-right, and-both}
 use Rattle.gtb.specs.declared.Shape.{Shape}
 use Rattle.gtb.specs.Shape.{Lawful, standard}
 use Rattle.gtb.proofs.Bounds.{bounds}
-use Rattle.lines.specs.Text.{newline, space, decimal, spell, namesShape, namesWord, sameBytes}
-use Rattle.lines.specs.Content.{Content, Spelled, Unreadable}
+use Rattle.lines.specs.Text.{newline, space, decimal, spell, namesShape, namesWord}
+use Rattle.lines.specs.Content.{Content, Spelled, Unreadable, contentOf}
 use Rattle.lines.proofs.Decimals.{AllDigits, decimal-digits, at-most-ten}
 use Rattle.lines.proofs.Contents.{content-spelled}
 use Rattle.session.specs.declared.Session.{Session}
 use Rattle.session.specs.declared.Outcome.{Outcome}
-use Rattle.session.specs.declared.Outcome.the-variants.{Taken, Again, Refused}
 use Rattle.session.specs.declared.Arrived.{Arrived}
-use Rattle.session.specs.Session.{Consistent, freshOf, freshStatus, added, recorded}
-use Rattle.session.specs.Arrival.{theWays, Opened, Page, Bad, outcomeOf, sessionBy, sessionAfter}
+use Rattle.session.specs.Session.{Consistent, freshOf}
+use Rattle.session.specs.Arrival.{theWays, outcomeOf, sessionAfter}
 use Rattle.session.specs.Recording.{Arrival}
 use Rattle.session.specs.Claim.{Run, stop, step}
 use Rattle.session.proofs.Arrive.{step-arrives}
 use Rattle.session.proofs.Alikes.{shape-kept}
-use Rattle.judge.specs.declared.Phase.{Phase}
-use Rattle.judge.specs.declared.Phase.the-variants.{ShapeValues, WordNames, Words}
-use Rattle.judge.specs.declared.Tally.{Tally}
-use Rattle.judge.specs.declared.Answer.the-variants.{Nothing, Word}
-use Rattle.judge.specs.declared.Judged.{Judged}
-use Rattle.judge.specs.Judge.{lineContent, passed, broughtBy, arrived, judgedOf, start}
+use Rattle.capture.specs.declared.Phase.{Phase}
+use Rattle.capture.specs.declared.Phase.the-variants.{ShapeValues, WordNames, Words}
+use Rattle.capture.specs.declared.Tally.{Tally}
+use Rattle.capture.specs.declared.Answer.the-variants.{Nothing, Word}
+use Rattle.capture.specs.declared.Judged.{Judged}
+use Rattle.capture.specs.Judge.{lineContent, passed, broughtBy, judgedOf, start}
 use Rattle.capture.specs.Feed.{after, feed}
-use Rattle.capture.specs.Print.{Unbroken, lineAt, linesText, captureText, joining, arrivalsIn}
-use Rattle.judge.proofs.Figures.{word-consistent}
-use Rattle.judge.proofs.Judges.{short-content}
+use Rattle.capture.specs.Print.{isUnbroken, Unbroken, lineAt, linesText, captureText, joining, arrivalsIn}
+use Rattle.capture.proofs.Sessions.{word-consistent}
+use Rattle.capture.proofs.Judges.{kept-short, names-right, word-right, shape-right}
 use Rattle.capture.proofs.Feeds.{next, feed-none, feed-end, feed-run, after-after}
 
 -- ---- texts without a newline
+pub unbroken-append : (a b : List ℕ) → Unbroken a → Unbroken b → Unbroken (a ++ b)
+unbroken-append [] b h k = k
+unbroken-append (x ∷ a) b h k = and-both (and-left (not (eqb x newline)) (isUnbroken a) h) (unbroken-append a b (and-right (not (eqb x newline)) (isUnbroken a) h) k)
 
--- by recursion, for texts that are put together
-abbrev pub Plain : List ℕ → Type 0
-Plain [] = Unit {0}
-Plain (b ∷ text) = (b ≡ newline → ⊥) × Plain text
+digits-unbroken : (l : List ℕ) → AllDigits l → Unbroken l
+digits-unbroken [] h = refl
+digits-unbroken (b ∷ l) h = and-both (ap not (ne-eqb b newline (λ e. omega (arith, h .0 .low)))) (digits-unbroken l (h .1))
 
-pub plain-append : (a b : List ℕ) → Plain a → Plain b → Plain (a ++ b)
-plain-append [] b h k = k
-plain-append (x ∷ a) b h k = (h .0, plain-append a b (h .1) k)
+pub decimal-unbroken : (n : ℕ) → Unbroken (decimal n)
+decimal-unbroken n = digits-unbroken (decimal n) (decimal-digits n)
 
-digits-plain : (l : List ℕ) → AllDigits l → Plain l
-digits-plain [] h = tt
-digits-plain (b ∷ l) h = (λ e. omega (arith, h .0 .low), digits-plain l (h .1))
-
-pub decimal-plain : (n : ℕ) → Plain (decimal n)
-decimal-plain n = digits-plain (decimal n) (decimal-digits n)
-
-pub space-plain : space ≡ newline → ⊥
-space-plain e = omega arith
-
-plain-none : (l : List ℕ) → Plain l → (i : ℕ) → i < length l → getD l i 0 ≡ newline → ⊥
-plain-none [] h i l e = not-suc-le-zero l
-plain-none (b ∷ t) h zero l e = h .0 e
-plain-none (b ∷ t) h (suc i) l e = plain-none t (h .1) i (le-of-suc-le-suc l) e
-
-pub plain-unbroken : (l : List ℕ) → Plain l → Unbroken l
-plain-unbroken l h = record { none = plain-none l h }
+pub unbroken-none : (l : List ℕ) → Unbroken l → (i : ℕ) → i < length l → getD l i 0 ≡ newline → ⊥
+unbroken-none [] h i l e = not-suc-le-zero l
+unbroken-none (b ∷ t) h zero l e = eqb-false b newline (not-true (eqb b newline) (and-left (not (eqb b newline)) (isUnbroken t) h)) e
+unbroken-none (b ∷ t) h (suc i) l e = unbroken-none t (and-right (not (eqb b newline)) (isUnbroken t) h) i (le-of-suc-le-suc l) e
 
 -- values spelled
-pub spell-plain : (xs : List ℕ) → Plain (spell xs)
+pub spell-unbroken : (xs : List ℕ) → Unbroken (spell xs)
 unfolding spell
-spell-plain [] = tt
-spell-plain (x ∷ []) = decimal-plain x
-spell-plain (x ∷ (y ∷ ys)) = plain-append (decimal x) (space ∷ spell (y ∷ ys)) (decimal-plain x) (space-plain, spell-plain (y ∷ ys))
-
--- a text that is written out, by one computed test
-abbrev pub plainTest : List ℕ → Bool
-plainTest [] = true
-plainTest (b ∷ text) = not (eqb b newline) && plainTest text
-
-pub test-plain : (l : List ℕ) → plainTest l ≡ true → Plain l
-test-plain [] h = tt
-test-plain (b ∷ l) h = (
-  eqb-false b newline (not-true (eqb b newline) (and-left (not (eqb b newline)) (plainTest l) h)),
-  test-plain l (and-right (not (eqb b newline)) (plainTest l) h),
-)
-
-pub test-unbroken : (l : List ℕ) → plainTest l ≡ true → Unbroken l
-test-unbroken l h = plain-unbroken l (test-plain l h)
+spell-unbroken [] = refl
+spell-unbroken (x ∷ []) = decimal-unbroken x
+spell-unbroken (x ∷ (y ∷ ys)) = unbroken-append (decimal x) (space ∷ spell (y ∷ ys)) (decimal-unbroken x) (spell-unbroken (y ∷ ys))
 
 -- ---- the line of some values
 -- values below 2^32 take at most 11 bytes each
@@ -106,7 +77,7 @@ word-short xs few small = omega (arith, spell-short xs small)
 -- so their line says them
 pub word-content : (xs : List ℕ) → 0 < length xs → length xs ≤ 961 → ((i : ℕ) → i < length xs → getD xs i 0 < 2 ^ 32) → lineContent (spell xs) ≡ Spelled xs
 word-content xs some few small =
-    short-content (spell xs) (word-short xs few small) ∙ content-spelled (spell xs) xs (record { some = some; small = small; text = refl })
+    ap contentOf (kept-short (spell xs) (word-short xs few small)) ∙ content-spelled (spell xs) xs (record { some = some; small = small; text = refl })
 
 -- ---- one line
 feed-first : (t : Tally) (line : List ℕ) (lines : List (List ℕ)) (cut : List ℕ) → Unbroken line
@@ -114,23 +85,14 @@ feed-first : (t : Tally) (line : List ℕ) (lines : List (List ℕ)) (cut : List
 unfolding linesText
 feed-first t line lines cut u =
     ap (feed t []) (append-assoc line (newline ∷ linesText lines) cut)
-    ∙ feed-run t line [] (newline ∷ (linesText lines ++ cut)) (u .none)
+    ∙ feed-run t line [] (newline ∷ (linesText lines ++ cut)) (unbroken-none line u)
     ∙ feed-end t line newline (linesText lines ++ cut) refl
 
 -- ---- the first three lines
 -- a line that is passed over is answered with nothing
 line-passed : (t : Tally) (line : List ℕ) (lines : List (List ℕ)) (cut : List ℕ) (phase : Phase) (σ : Session) → Unbroken line → judgedOf t line ≡ passed phase σ
     → feed t [] (linesText (line ∷ lines) ++ cut) ≡ after (Nothing ∷ []) (feed (record { phase = phase; session = σ }) [] (linesText lines ++ cut))
-unfolding passed
 line-passed t line lines cut phase σ u e = feed-first t line lines cut u ∙ ap (λ (j : Judged). next j (linesText lines ++ cut)) e
-
-shape-names : judgedOf start namesShape ≡ passed ShapeValues (start .session)
-unfolding judgedOf start sameBytes
-shape-names = refl
-
-word-names : (σ : Session) → judgedOf (record { phase = WordNames; session = σ }) namesWord ≡ passed Words σ
-unfolding judgedOf sameBytes
-word-names σ = refl
 
 module _ (q n b : ℕ) (law : Lawful (standard q n b)) where
   abbrev values : List ℕ
@@ -147,19 +109,15 @@ module _ (q n b : ℕ) (law : Lawful (standard q n b)) where
   each-small (suc (suc zero)) l = small .2
   each-small (suc (suc (suc i))) l = absurd (omega arith)
 
-  shape-values : (σ : Session) → judgedOf (record { phase = ShapeValues; session = σ }) (spell values) ≡ passed WordNames (freshOf (standard q n b))
-  unfolding judgedOf freshStatus
-  shape-values σ = rw (word-content values (omega arith) (omega arith) each-small, law)
-
   pub feed-shape : (lines : List (List ℕ)) (cut : List ℕ)
       → feed start [] (captureText q n b lines cut)
       ≡ after (Nothing ∷ Nothing ∷ Nothing ∷ []) (feed (record { phase = Words; session = freshOf (standard q n b) }) [] (linesText lines ++ cut))
   unfolding captureText
   feed-shape lines cut =
       let s : Shape = standard q n b in
-      line-passed start namesShape (spell values ∷ namesWord ∷ lines) cut ShapeValues (start .session) (test-unbroken namesShape refl) shape-names
-      ∙ ap (after (Nothing ∷ [])) (line-passed (record { phase = ShapeValues; session = start .session }) (spell values) (namesWord ∷ lines) cut WordNames (freshOf s) (plain-unbroken (spell values) (spell-plain values)) (shape-values (start .session))
-      ∙ ap (after (Nothing ∷ [])) (line-passed (record { phase = WordNames; session = freshOf s }) namesWord lines cut Words (freshOf s) (test-unbroken namesWord refl) (word-names (freshOf s))))
+      line-passed start namesShape (spell values ∷ namesWord ∷ lines) cut ShapeValues (start .session) refl names-right
+      ∙ ap (after (Nothing ∷ [])) (line-passed (record { phase = ShapeValues; session = start .session }) (spell values) (namesWord ∷ lines) cut WordNames (freshOf s) (spell-unbroken values) (shape-right (start .session) (spell values) values (word-content values (omega arith) (omega arith) each-small) refl law)
+      ∙ ap (after (Nothing ∷ [])) (line-passed (record { phase = WordNames; session = freshOf s }) namesWord lines cut Words (freshOf s) refl (word-right (freshOf s))))
 
 -- ---- the word lines
 
@@ -175,7 +133,7 @@ left σ c = sessionAfter σ (broughtBy (σ .shape) c)
 
 word-judged : (σ : Session) (line : List ℕ)
     → judgedOf (words σ) line ≡ record { tally = words (left σ (lineContent line)); answer = Word (replied σ (lineContent line)) }
-unfolding judgedOf arrived
+unfolding judgedOf
 word-judged σ line = refl
 
 -- one line after the other
@@ -201,31 +159,11 @@ feed-lines (line ∷ lines) σ cut u =
 
 -- what stands after the last newline is held
 pub feed-cut : (t : Tally) (cut : List ℕ) → Unbroken cut → feed t [] cut ≡ record { tally = t; held = cut; answers = [] }
-feed-cut t cut u = ap (feed t []) (sym (append-nil cut)) ∙ feed-run t cut [] [] (u .none) ∙ feed-none t cut
+feed-cut t cut u = ap (feed t []) (sym (append-nil cut)) ∙ feed-run t cut [] [] (unbroken-none cut u) ∙ feed-none t cut
 
 pub answers-number : (lines : List (List ℕ)) (σ : Session) → length (answersTo σ lines) ≡ length lines
 answers-number [] σ = refl
 answers-number (line ∷ lines) σ = ap suc (answers-number lines (left σ (lineContent line)))
-
--- ---- a count for each of 256 functions
-by-calls : (σ : Session) (o : Opened) (r : Outcome) → length (σ .calls) ≡ 256 → length (sessionBy σ o r .calls) ≡ 256
-unfolding recorded added
-by-calls σ (Page number marks k) (Taken p c) h = length-tabulate 256 _
-by-calls σ (Page number marks k) (Again p c) h = h
-by-calls σ (Page number marks k) (Refused e) h = h
-by-calls σ (Bad e) r h = h
-
-left-calls : (σ : Session) (c : Content) → length (σ .calls) ≡ 256 → length (left σ c .calls) ≡ 256
-unfolding sessionAfter
-left-calls σ c = by-calls σ (broughtBy (σ .shape) c) (replied σ c)
-
-end-calls : (lines : List (List ℕ)) (σ : Session) → length (σ .calls) ≡ 256 → length (endOf σ lines .calls) ≡ 256
-end-calls [] σ h = h
-end-calls (line ∷ lines) σ h = end-calls lines (left σ (lineContent line)) (left-calls σ (lineContent line) h)
-
-pub fresh-end-calls : (lines : List (List ℕ)) (s : Shape) → length (endOf (freshOf s) lines .calls) ≡ 256
-unfolding freshOf
-fresh-end-calls lines s = end-calls lines (freshOf s) (length-replicate {A = ℕ} 256 0)
 
 -- ---- the readable lines are a run
 

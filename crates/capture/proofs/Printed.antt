@@ -1,17 +1,17 @@
 -- What the program writes for a capture of a recording is the recording's own tally (RULES 7.4).
 use mathlib.Core.Path.{_≡_, refl, sym, ap, _∙_}
-use mathlib.Core.Bool.{Bool, true, false, cond}
+use mathlib.Core.Bool.{Bool, true, false, cond, not}
 use mathlib.Core.Logic.{⊎-elim}
 use mathlib.Core.List.{List, [], _∷_, _++_, map, append-nil, append-assoc}
 use Prim.Native.Nat.{ℕ, zero, suc, _<_, _≤_}
 use native.Mathlib.Nat.{le-of-lt}
 use native.Mathlib.Omega.{arith}
 use lib.Dec.{eqb}
-use lib.ListN.{length}
+use lib.ListN.{length, length-replicate}
 use lib.Seq.{take-all}
-use borrow.Author.Tests.{ne-eqb}
+use borrow.Author.Tests.{ne-eqb, not-true}
 use Rattle.parity.proofs.Lists.{is-tabulate}
-use Rattle.parity.proofs.Tests.{either}
+use Rattle.parity.proofs.Tests.{either, and-left, and-right}
 use Rattle.gtb.specs.declared.Shape.{Shape}
 use Rattle.gtb.specs.declared.Refusal.{Refusal}
 use Rattle.gtb.specs.Shape.{standard}
@@ -24,19 +24,20 @@ use Rattle.session.specs.declared.Outcome.the-variants.{Taken, Again, Refused}
 use Rattle.session.specs.Session.{freshOf}
 use Rattle.session.specs.Arrival.{theWays}
 use Rattle.session.specs.Recording.{Sheet, sheetAt, Recording, tally, Arrival, TurnedDown, Fits}
-use Rattle.session.specs.Claim.{come, answerAt, answerTo, Demand3}
+use Rattle.session.specs.Claim.{Run, come, answerAt, answerTo, Demand3}
 use Rattle.session.proofs.Demand.{made, made-begins, demand3-ways}
+use Rattle.session.proofs.Growth.{Kept, run-grows}
 use Rattle.session.proofs.Progress.{fresh-consistent}
-use Rattle.judge.specs.declared.Phase.the-variants.{Words}
-use Rattle.judge.specs.declared.Tally.{Tally}
-use Rattle.judge.specs.declared.Answer.{Answer}
-use Rattle.judge.specs.declared.Answer.the-variants.{Nothing, Word}
+use Rattle.capture.specs.declared.Phase.the-variants.{Words}
+use Rattle.capture.specs.declared.Tally.{Tally}
+use Rattle.capture.specs.declared.Answer.{Answer}
+use Rattle.capture.specs.declared.Answer.the-variants.{Nothing, Word}
 use Rattle.capture.specs.Output.{outcomeLine, refusedLine, answerText, answersText, callsText}
-use Rattle.judge.specs.Judge.{lineContent, start}
+use Rattle.capture.specs.Judge.{lineContent, start}
 use Rattle.capture.specs.Feed.{after, feed, lastIn, closing, written, readLimit, outputOf}
-use Rattle.capture.specs.Print.{Unbroken, lineAt, captureText, arrivalOf, arrivalsIn, LineBrings, answerLines, cutLine, ownTable, Prints, tableFrom, secondTable}
+use Rattle.capture.specs.Print.{isUnbroken, Unbroken, lineAt, captureText, arrivalOf, arrivalsIn, LineBrings, answerLines, cutLine, ownTable, Prints, tableFrom, secondTable}
 use Rattle.capture.proofs.Texts.{closing-in, answers-words}
-use Rattle.capture.proofs.Print.{Plain, plain-append, plainTest, test-plain, decimal-plain, space-plain, answersTo, endOf, repliesTo, feed-shape, feed-lines, feed-cut, answers-number, fresh-end-calls, lines-run}
+use Rattle.capture.proofs.Print.{unbroken-append, decimal-unbroken, answersTo, endOf, repliesTo, feed-shape, feed-lines, feed-cut, answers-number, lines-run}
 use Rattle.capture.proofs.Ranks.{rank, line-stands, rank-less, line-before, line-unread}
 
 -- ---- a capture of a recording
@@ -55,11 +56,12 @@ module _ (s : Shape) (pages : List Sheet) (lines : List (List ℕ)) (r : Recordi
   abbrev answers : List Outcome
   answers = answersTo (freshOf s) lines
 
+  the-run : Run theWays (freshOf s) arrivals replies (endOf (freshOf s) lines)
+  the-run = lines-run s lines (freshOf s) (fresh-shape s) (fresh-consistent s)
+
   -- demand 3 of the readable lines
   demand : Demand3 theWays s pages (made s) arrivals replies (endOf (freshOf s) lines)
-  demand =
-      demand3-ways s pages arrivals replies (made s) (endOf (freshOf s) lines) r fits (made-begins s (r .lawful))
-      (lines-run s lines (freshOf s) (fresh-shape s) (fresh-consistent s))
+  demand = demand3-ways s pages arrivals replies (made s) (endOf (freshOf s) lines) r fits (made-begins s (r .lawful)) the-run
 
   -- and of line i by its place among them
   turned : (i : ℕ) → i < length lines → (xs : List ℕ) (e : Refusal) → lineContent (lineAt lines i) ≡ Spelled xs
@@ -105,10 +107,16 @@ module _ (s : Shape) (pages : List Sheet) (lines : List (List ℕ)) (r : Recordi
       → answerAt answers i ≡ Again (sheetAt pages p .number) k
   again i p k j c b l d = brought i p k b ∙ ap (λ (x : Bool). answerTo x (sheetAt pages p .number) k) (brought-come i p k j c b l d)
 
-  -- the counts at the end, as a list
-  end-table : callsText (endOf (freshOf s) lines .calls) ≡ ownTable pages
+  -- the counts at the end, as a list: one for each of 256 functions
+  fresh-kept : length (s .slopes) ≡ 7 → Kept s (freshOf s)
+  unfolding freshOf
+  fresh-kept seven = record { shape = refl; consistent = fresh-consistent s; sized = record { slopes = seven; taken = length-replicate 1024 false; calls = length-replicate {A = ℕ} 256 0 } }
+
+  end-table : length (s .slopes) ≡ 7 → callsText (endOf (freshOf s) lines .calls) ≡ ownTable pages
   unfolding ownTable
-  end-table = ap callsText (is-tabulate 256 (tally pages (λ p. true)) (endOf (freshOf s) lines .calls) (fresh-end-calls lines s) (demand .whole))
+  end-table seven =
+      let end = run-grows (r .lawful) (fresh-kept seven) the-run .1 in
+      ap callsText (is-tabulate 256 (tally pages (λ p. true)) (endOf (freshOf s) lines .calls) (end .sized .calls) (demand .whole))
 
 -- within the limit all of the input is read
 pub read-whole : (input : List ℕ) → length input ≤ readLimit → outputOf input ≡ written (feed start [] input)
@@ -137,7 +145,7 @@ module _ (q n b : ℕ) (pages : List Sheet) (lines : List (List ℕ)) (cut : Lis
       read-whole (captureText q n b lines cut) few
       ∙ ap written (feed-shape q n b (r .lawful) lines cut ∙ ap (after (Nothing ∷ Nothing ∷ Nothing ∷ [])) (feed-lines lines (freshOf s) cut unbroken ∙ ap (after w) (feed-cut t cut last)))
       ∙ ap (λ (x : List ℕ). namesOutcome ++ x ++ closing t cut) (heads-text (w ++ []) ∙ ap answersText (append-nil w) ∙ answers-words (answersTo (freshOf s) lines))
-      ∙ ap (λ (x : List ℕ). namesOutcome ++ a ++ x) (closing-in t cut refl ∙ ap (λ (x : List ℕ). x ++ callsText (end .calls)) (cut-text (eqb (length cut) 0)) ∙ ap (λ (x : List ℕ). cutLine cut ++ x) (end-table s pages lines r fits))
+      ∙ ap (λ (x : List ℕ). namesOutcome ++ a ++ x) (closing-in t cut refl ∙ ap (λ (x : List ℕ). x ++ callsText (end .calls)) (cut-text (eqb (length cut) 0)) ∙ ap (λ (x : List ℕ). cutLine cut ++ x) (end-table s pages lines r fits refl))
       ∙ sym (append-assoc (namesOutcome ++ a) (cutLine cut) (ownTable pages))
 
   pub printed : Prints (standard q n b) pages lines cut (outputOf (captureText q n b lines cut))
@@ -156,12 +164,14 @@ module _ (q n b : ℕ) (pages : List Sheet) (lines : List (List ℕ)) (cut : Lis
 -- ---- the second table
 
 -- a line that begins with another byte than f is passed over
-rest-passed : (line rest : List ℕ) → Plain line → tableFrom false (line ++ newline ∷ rest) ≡ tableFrom true rest
+rest-passed : (line rest : List ℕ) → Unbroken line → tableFrom false (line ++ newline ∷ rest) ≡ tableFrom true rest
 unfolding tableFrom
 rest-passed [] rest h = refl
-rest-passed (b ∷ line) rest h = ap (λ (first : Bool). tableFrom first (line ++ newline ∷ rest)) (ne-eqb b newline (h .0)) ∙ rest-passed line rest (h .1)
+rest-passed (b ∷ line) rest h =
+    ap (λ (first : Bool). tableFrom first (line ++ newline ∷ rest)) (not-true (eqb b newline) (and-left (not (eqb b newline)) (isUnbroken line) h))
+    ∙ rest-passed line rest (and-right (not (eqb b newline)) (isUnbroken line) h)
 
-line-passed : (b : ℕ) (line rest : List ℕ) → (b ≡ 102 → ⊥) → Plain (b ∷ line) → secondTable (b ∷ (line ++ newline ∷ rest)) ≡ secondTable rest
+line-passed : (b : ℕ) (line rest : List ℕ) → (b ≡ 102 → ⊥) → Unbroken (b ∷ line) → secondTable (b ∷ (line ++ newline ∷ rest)) ≡ secondTable rest
 unfolding tableFrom
 line-passed b line rest other h =
     let text : List ℕ = line ++ newline ∷ rest in
@@ -169,19 +179,18 @@ line-passed b line rest other h =
 
 -- the first name line
 names-passed : (rest : List ℕ) → secondTable (namesOutcome ++ rest) ≡ secondTable rest
-names-passed rest = line-passed 111 (ascii "utcome page fixed") rest (λ e. omega arith) (test-plain (ascii "outcome page fixed") refl)
+names-passed rest = line-passed 111 (ascii "utcome page fixed") rest (λ e. omega arith) refl
 
 -- a line of the first table: a name that does not begin with f, and two values
 module _ (number fixed : ℕ) (rest : List ℕ) where
-  name-passed : (b : ℕ) (name : List ℕ) → (b ≡ 102 → ⊥) → plainTest (b ∷ name) ≡ true
+  name-passed : (b : ℕ) (name : List ℕ) → (b ≡ 102 → ⊥) → Unbroken (b ∷ name)
       → secondTable (b ∷ name ++ space ∷ decimal number ++ space ∷ decimal fixed ++ newline ∷ [] ++ rest) ≡ secondTable rest
   name-passed b name other plain =
       let whole : List ℕ = b ∷ name ++ space ∷ decimal number ++ space ∷ decimal fixed in
       ap secondTable (append-assoc whole (newline ∷ []) rest)
       ∙ line-passed b (name ++ space ∷ decimal number ++ space ∷ decimal fixed) rest other
-      (plain-append (b ∷ name ++ space ∷ decimal number) (space ∷ decimal fixed)
-      (plain-append (b ∷ name) (space ∷ decimal number) (test-plain (b ∷ name) plain) (space-plain, decimal-plain number))
-      (space-plain, decimal-plain fixed))
+      (unbroken-append (b ∷ name ++ space ∷ decimal number) (space ∷ decimal fixed)
+      (unbroken-append (b ∷ name) (space ∷ decimal number) plain (decimal-unbroken number)) (decimal-unbroken fixed))
 
   kind-passed : (kind : ℕ) → secondTable (outcomeText kind number fixed ++ rest) ≡ secondTable rest
   unfolding outcomeText outcomeName

@@ -13,7 +13,7 @@ use Rattle.session.specs.declared.Outcome.the-variants.{Refused}
 use Rattle.session.specs.Recording.{Arrival, arrivalAt}
 use Rattle.session.specs.Arrival.{outcomeOf}
 use Rattle.session.specs.Claim.{answerAt}
-use Rattle.judge.specs.Judge.{lineContent}
+use Rattle.capture.specs.Judge.{lineContent}
 use Rattle.capture.specs.Print.{lineAt, arrivalOf, joining, arrivalsIn}
 use Rattle.capture.proofs.Print.{replied, left, answersTo, joins, repliesTo}
 

@@ -26,10 +26,10 @@ use Rattle.lines.specs.Content.{Spelled}
 use Rattle.session.specs.Arrival.{isWay, wayOf, theWays}
 use Rattle.session.specs.Recording.{Sheet, sheetAt, symbolsOf, Recording, arrivalAt, Brings, Fits}
 use Rattle.session.proofs.Undamaged.{undamaged}
-use Rattle.judge.specs.Judge.{lineContent}
+use Rattle.capture.specs.Judge.{lineContent}
 use Rattle.capture.specs.Feed.{readLimit}
 use Rattle.capture.specs.Print.{Unbroken, lineAt, linesText, captureText, arrivalOf, arrivalsIn, Captured}
-use Rattle.capture.proofs.Print.{spell-plain, plain-unbroken, test-unbroken, word-short, word-content, each-small}
+use Rattle.capture.proofs.Print.{spell-unbroken, word-short, word-content, each-small}
 use Rattle.capture.proofs.Printed.{printed}
 
 -- different numbers below m are at most m
@@ -107,7 +107,7 @@ written s law (p ∷ pages) accepted =
     record {
       lines = spell word ∷ rest .lines;
       each = ap suc (rest .each);
-      unbroken = λ i. elim i [ zero ↦ λ l. plain-unbroken (spell word) (spell-plain word) | suc i′ ↦ λ l. rest .unbroken i′ (le-of-suc-le-suc l) ];
+      unbroken = λ i. elim i [ zero ↦ λ l. spell-unbroken word | suc i′ ↦ λ l. rest .unbroken i′ (le-of-suc-le-suc l) ];
       arrivals = rw (w .content) (ap suc (rest .arrivals));
       brings = rw (w .content) (λ i. elim i [ zero ↦ λ l. w .brings | suc i′ ↦ λ l. rest .brings i′ (le-of-suc-le-suc l) ]);
       short = rw length-append (omega (arith, w .short, rest .short));
@@ -134,5 +134,5 @@ recording-captured q n b pages r =
       unbroken = w .unbroken;
       fits = fits;
       read = read;
-      prints = printed q n b pages (w .lines) [] r (w .unbroken) (test-unbroken [] refl) fits read;
+      prints = printed q n b pages (w .lines) [] r (w .unbroken) refl fits read;
     }

@@ -2,7 +2,7 @@
 use mathlib.Core.Path.{_≡_, refl, sym, ap, _∙_}
 use mathlib.Core.List.{List, [], _∷_, _++_, map, map-id, append-assoc, append-nil}
 use mathlib.Core.Logic.{⊎-elim}
-use Prim.Native.Nat.{ℕ, _+_, _*_, _^_, _≤_, _<_}
+use Prim.Native.Nat.{ℕ, _+_, _*_, _≤_, _<_}
 use native.Mathlib.Numerals.{add-one}
 use native.Mathlib.Omega.{arith}
 use borrow.Author.Tests.{ltb-true, ltb-false, ne-eqb}
@@ -16,17 +16,15 @@ use denote.Array.{Array}
 use denote.Laws.{Is}
 use Rattle.parity.proofs.Tests.{either}
 use Rattle.lines.specs.Text.{countText, outcomeText, Put, pasted}
-use Rattle.lines.proofs.Decimals.{at-most-ten}
-use Rattle.lines.proofs.Pasting.{name-length}
 use Rattle.session.specs.declared.Outcome.{Outcome}
 use Rattle.session.specs.declared.Outcome.the-variants.{Taken, Again, Refused}
 use Rattle.session.specs.Arrival.{outcomeValues}
 use Rattle.session.specs.Steps.{Counts}
 use Rattle.session.proofs.Arrays.{counts}
-use Rattle.judge.specs.declared.Phase.{Phase}
-use Rattle.judge.specs.declared.Tally.{Tally}
-use Rattle.judge.specs.declared.Answer.{Answer}
-use Rattle.judge.specs.declared.Answer.the-variants.{Word}
+use Rattle.capture.specs.declared.Phase.{Phase}
+use Rattle.capture.specs.declared.Tally.{Tally}
+use Rattle.capture.specs.declared.Answer.{Answer}
+use Rattle.capture.specs.declared.Answer.the-variants.{Word}
 use Rattle.capture.specs.Output.{outcomeLine, answerText, answersText, callsFrom}
 use Rattle.capture.specs.Feed.{lastIn, tableIn, closing}
 use Rattle.capture.specs.Steps.{Appended, LineSoFar}
@@ -63,19 +61,8 @@ outcome-values (Taken number k) = refl
 outcome-values (Again number k) = refl
 outcome-values (Refused e) = refl
 
-pub count-short : (function calls : ℕ) → function < 2 ^ 32 → calls < 2 ^ 32 → length (countText function calls) ≤ 22
-unfolding countText
-count-short function calls l m = simp length-append (omega (arith, at-most-ten function l, at-most-ten calls m))
-
-pub outcome-short : (kind number fixed : ℕ) → number < 2 ^ 32 → fixed < 2 ^ 32 → length (outcomeText kind number fixed) ≤ 30
-unfolding outcomeText
-outcome-short kind number fixed l m = simp length-append (omega (arith, name-length kind, at-most-ten number l, at-most-ten fixed m))
-
-pub put-outcome : {old new : List ℕ} {at r : ℕ} (kind number fixed : ℕ) → number < 2 ^ 32 → fixed < 2 ^ 32 → at + 40 ≤ length old
-    → Put old at (outcomeText kind number fixed) new r → Appended old at (outcomeText kind number fixed) new r × (r ≤ at + 30)
-put-outcome kind number fixed l m fits p =
-    let short = outcome-short kind number fixed l m in
-    (put-appended (omega arith) p, omega arith)
+pub put-line : {old text new : List ℕ} {at r : ℕ} → at + 40 ≤ length old → Put old at text new r × (r ≤ at + 30) → Appended old at text new r × (r ≤ at + 30)
+put-line fits p = (put-appended (omega (arith, p .0 .next, p .1)) (p .0), p .1)
 
 -- answers one after the other
 pub answers-append : (a b : List Answer) → answersText (a ++ b) ≡ answersText a ++ answersText b
@@ -119,12 +106,10 @@ pub counting-passes : {old calls out : List ℕ} {at next f : ℕ} → f < lengt
     → Counting old at calls out next (f + 1)
 counting-passes {calls = calls} {f = f} l e h = record { size = h .size; short = omega arith; left = λ new r p. h .left new r (rw (calls-none f calls l e) p) }
 
-pub counting-writes : {old calls out out′ : List ℕ} {at next next′ f : ℕ} → f < length calls → f < 2 ^ 32 → getD calls f 0 < 2 ^ 32 → (getD calls f 0 ≡ 0 → ⊥)
-    → next + 22 ≤ length out → Put out next (countText f (getD calls f 0)) out′ next′ → Counting old at calls out next f
-    → Counting old at calls out′ next′ (f + 1)
-counting-writes {calls = calls} {f = f} l m k e fits p h =
-    let short = count-short f (getD calls f 0) m k in
-    let q = put-appended (omega arith) p in
+pub counting-writes : {old calls out out′ : List ℕ} {at next next′ f : ℕ} → f < length calls → (getD calls f 0 ≡ 0 → ⊥) → next + 22 ≤ length out
+    → Put out next (countText f (getD calls f 0)) out′ next′ → next′ ≤ next + 22 → Counting old at calls out next f → Counting old at calls out′ next′ (f + 1)
+counting-writes {calls = calls} {f = f} l e fits p few h =
+    let q = put-appended (omega (arith, p .next)) p in
     record {
       size = q .size ∙ h .size;
       short = omega arith;

@@ -1,12 +1,13 @@
 -- Answers to words, counted by kind (RULES 7.5).
-use mathlib.Core.Bool.{Bool, true, false}
+use mathlib.Core.Bool.{Bool, false}
 use mathlib.Core.List.{List, [], _∷_}
 use Prim.Native.Nat.{ℕ, _+_, _-_, _^_, min}
+use lib.Dec.{eqb}
 use Rattle.parity.specs.Count.{bit}
 use Rattle.session.specs.declared.Outcome.{Outcome}
 use Rattle.session.specs.declared.Outcome.the-variants.{Taken, Again, Refused}
-use Rattle.judge.specs.declared.Answer.{Answer}
-use Rattle.judge.specs.declared.Answer.the-variants.{Nothing, Word, Head}
+use Rattle.capture.specs.declared.Answer.{Answer}
+use Rattle.capture.specs.declared.Answer.the-variants.{Nothing, Word, Head}
 use Rattle.capture.specs.declared.Counts.{Counts}
 
 -- before the first answer
@@ -17,7 +18,7 @@ none = record { taken = 0; again = 0; refused = 0 }
 abbrev pub more : ℕ → ℕ
 more k = min (k + 1) (2 ^ 32 - 1)
 
-unfoldable pub countedBy : Counts → Outcome → Counts
+abbrev pub countedBy : Counts → Outcome → Counts
 countedBy c (Taken p k) = record { taken = more (c .taken); again = c .again; refused = c .refused }
 countedBy c (Again p k) = record { taken = c .taken; again = more (c .again); refused = c .refused }
 countedBy c (Refused e) = record { taken = c .taken; again = c .again; refused = more (c .refused) }
@@ -34,31 +35,16 @@ countedIn c (a ∷ answers) = countedIn (counted c a) answers
 
 -- ---- the same without a limit
 
-abbrev pub takes : Answer → Bool
-takes Nothing = false
-takes (Word (Taken p k)) = true
-takes (Word (Again p k)) = false
-takes (Word (Refused e)) = false
-takes (Head e) = false
+abbrev pub kindOf : Outcome → ℕ
+kindOf (Taken p k) = 0
+kindOf (Again p k) = 1
+kindOf (Refused e) = 2
 
-abbrev pub repeats : Answer → Bool
-repeats Nothing = false
-repeats (Word (Taken p k)) = false
-repeats (Word (Again p k)) = true
-repeats (Word (Refused e)) = false
-repeats (Head e) = false
-
-abbrev pub refuses : Answer → Bool
-refuses Nothing = false
-refuses (Word (Taken p k)) = false
-refuses (Word (Again p k)) = false
-refuses (Word (Refused e)) = true
-refuses (Head e) = false
-
-abbrev pub isWord : Answer → Bool
-isWord Nothing = false
-isWord (Word r) = true
-isWord (Head e) = false
+-- the answer to a word, of this kind
+abbrev pub isKind : ℕ → Answer → Bool
+isKind kind Nothing = false
+isKind kind (Word r) = eqb (kindOf r) kind
+isKind kind (Head e) = false
 
 -- how many answers pass a test
 unfoldable pub among : (Answer → Bool) → List Answer → ℕ
@@ -67,4 +53,4 @@ among test (a ∷ answers) = bit (test a) + among test answers
 
 -- how many words were answered in each way
 unfoldable pub amounts : List Answer → Counts
-amounts answers = record { taken = among takes answers; again = among repeats answers; refused = among refuses answers }
+amounts answers = record { taken = among (isKind 0) answers; again = among (isKind 1) answers; refused = among (isKind 2) answers }

@@ -7,13 +7,13 @@ use lib.ListN.{length, take}
 use Rattle.gtb.specs.declared.Refusal.{Refusal}
 use Rattle.lines.specs.Text.{newline, namesOutcome}
 use Rattle.session.specs.declared.Outcome.the-variants.{Refused}
-use Rattle.judge.specs.declared.Phase.{Phase}
-use Rattle.judge.specs.declared.Phase.the-variants.{ShapeNames, ShapeValues, WordNames, Words, Ended}
-use Rattle.judge.specs.declared.Tally.{Tally}
-use Rattle.judge.specs.declared.Answer.{Answer}
-use Rattle.judge.specs.declared.Answer.the-variants.{Nothing, Word, Head}
+use Rattle.capture.specs.declared.Phase.{Phase}
+use Rattle.capture.specs.declared.Phase.the-variants.{ShapeNames, ShapeValues, WordNames, Words, Ended}
+use Rattle.capture.specs.declared.Tally.{Tally}
+use Rattle.capture.specs.declared.Answer.{Answer}
+use Rattle.capture.specs.declared.Answer.the-variants.{Nothing, Word, Head}
 use Rattle.capture.specs.Output.{answerText, answersText, callsText}
-use Rattle.judge.specs.Judge.{judgedOf, start}
+use Rattle.capture.specs.Judge.{judgedOf, isWords, start}
 
 -- a fault ends the program
 abbrev pub isEnded : Phase → Bool
@@ -55,11 +55,7 @@ lastOf t held = lastIn (t .phase) (eqb (length held) 0)
 
 -- the second table comes once word lines are read
 abbrev pub tableIn : Phase → List ℕ → List ℕ
-tableIn ShapeNames calls = []
-tableIn ShapeValues calls = []
-tableIn WordNames calls = []
-tableIn Words calls = callsText calls
-tableIn (Ended f) calls = []
+tableIn p calls = cond (isWords p) (callsText calls) []
 
 -- the output at the end of the input
 unfoldable pub closing : Tally → List ℕ → List ℕ

@@ -1,3 +1,4 @@
+pub mod Judge
 pub mod Output
 pub mod Counting
 pub mod Feed

@@ -8,8 +8,8 @@ use Rattle.gtb.specs.Answer.{refusalNumber}
 use Rattle.lines.specs.Text.{namesCalls, outcomeText, countText}
 use Rattle.session.specs.declared.Outcome.{Outcome}
 use Rattle.session.specs.declared.Outcome.the-variants.{Taken, Again, Refused}
-use Rattle.judge.specs.declared.Answer.{Answer}
-use Rattle.judge.specs.declared.Answer.the-variants.{Nothing, Word, Head}
+use Rattle.capture.specs.declared.Answer.{Answer}
+use Rattle.capture.specs.declared.Answer.the-variants.{Nothing, Word, Head}
 
 -- outcome, page or refusal number, digits changed
 unfoldable pub outcomeLine : Outcome → List ℕ

@@ -1,6 +1,6 @@
 -- What a capture of a recording prints (RULES 7.4): demand 3 brought to the program's text.
 use mathlib.Core.Path.{_≡_}
-use mathlib.Core.Bool.{Bool, true, false, cond}
+use mathlib.Core.Bool.{Bool, true, false, cond, not, _&&_}
 use mathlib.Core.List.{List, [], _∷_, _++_}
 use Prim.Native.Nat.{ℕ, _<_, _≤_}
 use lib.Dec.{eqb}
@@ -17,14 +17,18 @@ use Rattle.session.specs.Arrival.{theWays}
 use Rattle.session.specs.Recording.{Sheet, sheetAt, tally, Arrival, TurnedDown, Brings, Fits}
 use Rattle.session.specs.Claim.{answerAt}
 use Rattle.capture.specs.Output.{outcomeLine, refusedLine, callsText}
-use Rattle.judge.specs.Judge.{lineContent}
+use Rattle.capture.specs.Judge.{lineContent}
 use Rattle.capture.specs.Feed.{readLimit, outputOf}
 
 -- ---- a capture
 
 -- any bytes but newlines
-pub record Unbroken (line : List ℕ) : Type 0 where
-  pub none : (i : ℕ) → i < length line → getD line i 0 ≡ newline → ⊥
+abbrev pub isUnbroken : List ℕ → Bool
+isUnbroken [] = true
+isUnbroken (b ∷ line) = not (eqb b newline) && isUnbroken line
+
+abbrev pub Unbroken : List ℕ → Type 0
+Unbroken line = isUnbroken line ≡ true
 
 -- line i
 abbrev pub lineAt : List (List ℕ) → ℕ → List ℕ

@@ -1,17 +1,53 @@
--- Contracts of the steps: what the lent buffers hold.
+-- Contracts of the steps: a line judged, and what the lent buffers hold.
 use mathlib.Core.Path.{_≡_}
+use mathlib.Core.Bool.{Bool, false}
 use mathlib.Core.List.{List, _++_}
 use Prim.Native.Nat.{ℕ, _+_, _≤_, _<_}
-use lib.ListN.{length, take}
+use lib.ListN.{take, drop, length}
+use Rattle.gtb.specs.declared.Shape.{Shape}
+use Rattle.lines.specs.Content.{contentOf}
 use Rattle.lines.specs.Text.{namesOutcome}
+use Rattle.session.specs.declared.Session.{Session}
+use Rattle.session.specs.Arrival.{Page}
+use Rattle.session.specs.Steps.{Readable}
 use Rattle.session.specs.Session.{Consistent}
-use Rattle.judge.specs.Judge.{judgedOf, start}
+use Rattle.capture.specs.declared.Phase.{Phase}
+use Rattle.capture.specs.declared.Phase.the-variants.{Words}
+use Rattle.capture.specs.declared.Answer.the-variants.{Word}
+use Rattle.capture.specs.declared.Judged.{Judged}
+use Rattle.capture.specs.declared.Seen.{Seen}
+use Rattle.capture.specs.declared.Seen.the-variants.{Known, New, Head}
+use Rattle.capture.specs.declared.Tally.{Tally}
 use Rattle.capture.specs.declared.Counts.{Counts}
 use Rattle.capture.specs.declared.Reader.{Reader}
+use Rattle.capture.specs.Judge.{arrived, worded, judgedOf, isWords, start}
 use Rattle.capture.specs.Output.{answerText, answersText}
 use Rattle.capture.specs.Counting.{none, counted, countedIn}
 use Rattle.capture.specs.Feed.{Fed, feed, lastOf, closing}
 
+-- what a look tells of the line: the outcome of a tally that stays, the page that arrives, or that it is no word line
+abbrev pub foreseen : Tally → List ℕ → List ℕ → Seen → Judged
+foreseen t line symbols (Known a) = record { tally = t; answer = Word a }
+foreseen t line symbols (New number c k) = arrived (t .session) (Page number (take c (drop 2 symbols)) k)
+foreseen t line symbols Head = judgedOf t line
+
+-- a page that is new may be taken; of a word line no look tells that it is none
+pub record Settleable (phase : Phase) (seen : Seen) (symbols : List ℕ) : Type 0 where
+  pub page : (number c k : ℕ) → seen ≡ New number c k → Readable number c symbols
+  pub head : seen ≡ Head → isWords phase ≡ false
+
+-- a look at a line that is right
+pub record Foretold (t : Tally) (line symbols : List ℕ) (seen : Seen) : Type 0 where
+  pub sure : judgedOf t line ≡ foreseen t line symbols seen
+  pub new : Settleable (t .phase) seen symbols
+
+-- a look at a word line, where these are the page marks
+pub record Looked (s : Shape) (taken : List Bool) (line symbols : List ℕ) (seen : Seen) : Type 0 where
+  pub sure : (σ : Session) → σ .shape ≡ s → σ .taken ≡ taken
+      → worded σ (contentOf line) ≡ foreseen (record { phase = Words; session = σ }) line symbols seen
+  pub new : Settleable Words seen symbols
+
+-- ---- buffers
 -- the text has been written at the end of the first `at` bytes
 pub record Appended (old : List ℕ) (at : ℕ) (text new : List ℕ) (r : ℕ) : Type 0 where
   pub size : length new ≡ length old

@@ -1,6 +1,6 @@
 // Answers counted as they are given.
+use crate::Answer;
 use crate::Counts;
-use judge::Answer;
 use session::Outcome;
 ghost use mathlib.Core.Path.{_≡_};
 ghost use Rattle.capture.specs.Counting.{more, countedBy, counted};

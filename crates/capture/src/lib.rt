@@ -1,26 +1,76 @@
 // The tally program without its input and output: a capture comes in blocks of bytes, and text goes out.
 mod counting;
+mod glance;
+mod head;
+mod judge;
 mod output;
 
 use crate::counting::count_answer;
 use crate::counting::count_outcome;
+use crate::glance::glance;
+use crate::judge::judge;
 use crate::output::last_answer;
 use crate::output::put_answer;
 use crate::output::put_line;
 use crate::output::put_table;
+use gtb::Refusal;
 use gtb::Shape;
-use judge::Phase;
-use judge::Seen;
-use judge::Tally;
-use judge::glance::glance;
+use session::Outcome;
 use session::Session;
 ghost use mathlib.Core.Path.{_≡_};
-ghost use Prim.Native.Nat.{_+_, _<_, _≤_, min};
+ghost use Prim.Native.Nat.{_+_, _<_, _≤_};
 ghost use lib.ListN.{length, take};
 ghost use Rattle.session.specs.Session.{Consistent};
 ghost use Rattle.capture.specs.Feed.{isEnded, readLimit};
-ghost use Rattle.judge.specs.Steps.{Foretold};
-ghost use Rattle.capture.specs.Steps.{End, Begun, Extended, LineEnded, BlockTaken, Finished};
+ghost use Rattle.capture.specs.Steps.{Foretold, End, Begun, Extended, LineEnded, BlockTaken, Finished};
+
+// What should stand in one of the first three lines. `Shape` where line 2 has three values.
+pub enum Expected {
+    ShapeNames,
+    ShapeValues,
+    Shape,
+    WordNames,
+}
+
+// One of the first three lines is at fault. `marked`: it begins with a byte order mark. `returned`: it ends with a carriage return.
+pub struct Fault {
+    pub expected: Expected,
+    pub marked: bool,
+    pub returned: bool,
+}
+
+// Which line is next: the first three, a word line, or none any more after a fault.
+pub enum Phase {
+    ShapeNames,
+    ShapeValues,
+    WordNames,
+    Words,
+    Ended(Fault),
+}
+
+pub struct Tally {
+    pub phase: Phase,
+    pub session: Session,
+}
+
+// What a line is answered with: nothing, the outcome of a word line, or the refusal of one of the first three.
+enum Answer {
+    Nothing,
+    Word(Outcome),
+    Head(Refusal),
+}
+
+struct Judged {
+    pub tally: Tally,
+    pub answer: Answer,
+}
+
+// What a look at a line tells: the outcome, where that leaves the tally as it is; a page that is new, by page number, number of marks and symbols changed; or that it is no word line.
+enum Seen {
+    Known(Outcome),
+    New(u32, u32, u32),
+    Head,
+}
 
 // Answers to words by kind. A number that is full stays so.
 pub struct Counts {
@@ -107,7 +157,7 @@ fn end_line(
     ensures { λ r. ⌜ LineEnded reader (now (line .entry)) end (now (out .entry)) (now (out .exit)) r ⌝ }
 {
     let before = reader.tally;
-    let judged = judge::judge(before, seen, &line[..end], symbols);
+    let judged = judge(before, seen, &line[..end], symbols);
     let tally = judged.tally;
     let answer = judged.answer;
     let at = put_answer(out, reader.at, answer);
@@ -157,13 +207,6 @@ pub fn take_block(
         }
         reader = end_line(reader, seen, line, end, &symbols, out);
     }
-}
-
-// How many bytes to read next, where `left` of the limit are left.
-pub fn wanted(left: usize) -> usize
-    ensures { λ r. ⌜ r ≡ min left 16384 ⌝ }
-{
-    if left < 16384 { left } else { 16384 }
 }
 
 // A fault was answered: nothing more will be.

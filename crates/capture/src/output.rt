@@ -1,7 +1,7 @@
 // Answers as text at the end of the output that waits.
+use crate::Answer;
+use crate::Phase;
 use gtb::Refusal;
-use judge::Answer;
-use judge::Phase;
 use session::Outcome;
 use session::Session;
 ghost use mathlib.Core.Path.{_≡_};

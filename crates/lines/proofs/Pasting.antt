@@ -1,15 +1,15 @@
 -- Texts written one after another into a list.
 use mathlib.Core.Path.{_≡_, refl, sym, ap, _∙_, subst}
 use mathlib.Core.List.{List, [], _∷_, _++_, append-nil, append-assoc}
-use Prim.Native.Nat.{ℕ, zero, suc, _+_, _-_, _^_, _/_, _%_, _≤_, _<_}
-use native.Mathlib.Nat.{add-assoc}
+use Prim.Native.Nat.{ℕ, zero, suc, _+_, _-_, _/_, _%_, _≤_, _<_}
+use native.Mathlib.Nat.{add-assoc, add-zero}
 use native.Mathlib.Numerals.{add-one}
 use native.Mathlib.Omega.{arith}
 use borrow.Rule.Slice.PartMut.{midOf, putMid}
-use lib.ListN.{length, take, drop, set, length-append, length-take, length-drop, length-set, drop-of-length-le}
+use lib.ListN.{length, take, drop, set, length-append, length-take, length-drop, length-set, drop-of-length-le, take-append-drop}
 use lib.Seq.{take-all, take-length, length-take-le, set-split, append-snoc, take-at, drop-at, drop-drop}
 use Rattle.lines.specs.Text.{space, newline, ascii, digit, decimal, outcomeName, countText, outcomeText, pasted, Put}
-use Rattle.lines.proofs.Decimals.{decimal-more, length-more, at-most-ten}
+use Rattle.lines.proofs.Decimals.{decimal-more}
 
 -- one byte
 pub put-one : (old : List ℕ) (at b : ℕ) → at < length old → Put old at (b ∷ []) (set old at b) (at + 1)
@@ -40,9 +40,9 @@ module _ (old text part : List ℕ) (at : ℕ) (fits : at + length text ≤ leng
         room = rw copied-written (simp (length-append, length-take, length-drop) (omega arith));
       }
 
-module _ (old a b : List ℕ) (at : ℕ) (fits : at + length a ≤ length old) where
+module _ (old a b : List ℕ) (at : ℕ) (fits : at ≤ length old) where
   head : length (take at old ++ a) ≡ at + length a
-  head = rw (length-append, length-take-le at old (omega arith))
+  head = rw (length-append, length-take-le at old fits)
 
   pasted-pasted : pasted (pasted old at a) (at + length a) b ≡ pasted old at (a ++ b)
   unfolding pasted
@@ -57,37 +57,35 @@ module _ (old a b : List ℕ) (at : ℕ) (fits : at + length a ≤ length old) w
         append-assoc (take at old) a b,
       )
 
+-- a text begins within the list
+put-within : {old mid a : List ℕ} {at m : ℕ} → Put old at a mid m → at ≤ length old
+unfolding pasted
+put-within p = omega (arith, p .next, simp (length-append, length-take, length-drop) at (rw (p .written) at (p .room)))
+
 -- one text and then another
-pub put-both : {old mid new a b : List ℕ} {at m r : ℕ} → at + length a ≤ length old → Put old at a mid m → Put mid m b new r → Put old at (a ++ b) new r
-put-both {old} {mid} {new} {a} {b} {at} {m} {r} fits p q =
+pub put-both : {old mid new a b : List ℕ} {at m r : ℕ} → Put old at a mid m → Put mid m b new r → Put old at (a ++ b) new r
+put-both {old} {mid} {new} {a} {b} {at} {m} {r} p q =
     record {
-      written = q .written ∙ rw (p .written, p .next) (pasted-pasted old a b at fits);
+      written = q .written ∙ rw (p .written, p .next) (pasted-pasted old a b at (put-within p));
       next = rw (q .next, p .next, length-append) (omega arith);
       room = q .room;
     }
 
+-- no text
+pub put-none : (old : List ℕ) (at : ℕ) → at ≤ length old → Put old at [] old at
+unfolding pasted
+put-none old at l = record { written = simp (append-nil, add-zero, take-append-drop); next = omega arith; room = l }
+
 -- a number's last digit after the others
-pub put-more : {old mid new : List ℕ} {at m r n : ℕ} → 10 ≤ n → at + length (decimal n) ≤ length old → Put old at (decimal (n / 10)) mid m
+pub put-more : {old mid new : List ℕ} {at m r n : ℕ} → 10 ≤ n → Put old at (decimal (n / 10)) mid m
     → Put mid m (digit (n % 10) ∷ []) new r → Put old at (decimal n) new r
-put-more {n = n} l fits p q = rw (decimal-more n l) (put-both (omega (arith, length-more n l)) p q)
+put-more {n = n} l p q = rw (decimal-more n l) (put-both p q)
 
 -- ---- the lines of the output
-pub put-pair : {old text₁ text₂ text₃ new : List ℕ} {at r₁ r₂ r₃ r : ℕ} (a b : ℕ) → a < 2 ^ 32 → b < 2 ^ 32 → at + 22 ≤ length old
-    → Put old at (decimal a) text₁ r₁ → Put text₁ r₁ (space ∷ []) text₂ r₂ → Put text₂ r₂ (decimal b) text₃ r₃ → Put text₃ r₃ (newline ∷ []) new r
-    → Put old at (countText a b) new r
+pub put-pair : {old text₁ text₂ text₃ new : List ℕ} {at r₁ r₂ r₃ r : ℕ} (a b : ℕ) → Put old at (decimal a) text₁ r₁ → Put text₁ r₁ (space ∷ []) text₂ r₂
+    → Put text₂ r₂ (decimal b) text₃ r₃ → Put text₃ r₃ (newline ∷ []) new r → Put old at (countText a b) new r
 unfolding countText
-put-pair {at = at} a b la lb fits p q s t =
-    let x = at-most-ten a la in
-    let y = at-most-ten b lb in
-    rw (← append-snoc (decimal a) space (decimal b))
-    (put-both (simp length-append (omega arith)) (put-both (simp length-append (omega arith)) (put-both (omega arith) p q) s) t)
-
--- the outcomes' names have at most seven letters
-pub name-length : (kind : ℕ) → length (outcomeName kind) ≤ 7
-unfolding outcomeName
-name-length zero = omega arith
-name-length (suc zero) = omega arith
-name-length (suc (suc k)) = omega arith
+put-pair a b p q s t = rw (← append-snoc (decimal a) space (decimal b)) (put-both (put-both (put-both p q) s) t)
 
 pub name-refused : (kind : ℕ) → (kind ≡ 0 → ⊥) → (kind ≡ 1 → ⊥) → outcomeName kind ≡ ascii "refused"
 unfolding outcomeName
@@ -95,11 +93,9 @@ name-refused zero p q = absurd (p refl)
 name-refused (suc zero) p q = absurd (q refl)
 name-refused (suc (suc k)) p q = refl
 
-pub put-named : {old text₁ text₂ new : List ℕ} {at r₁ r₂ r : ℕ} (kind number fixed : ℕ) → at + 40 ≤ length old → Put old at (outcomeName kind) text₁ r₁
-    → Put text₁ r₁ (space ∷ []) text₂ r₂ → Put text₂ r₂ (countText number fixed) new r → Put old at (outcomeText kind number fixed) new r
+pub put-named : {old text₁ text₂ new : List ℕ} {at r₁ r₂ r : ℕ} (kind number fixed : ℕ) → Put old at (outcomeName kind) text₁ r₁ → Put text₁ r₁ (space ∷ []) text₂ r₂
+    → Put text₂ r₂ (countText number fixed) new r → Put old at (outcomeText kind number fixed) new r
 unfolding outcomeText countText
-put-named {old} {new = new} {at = at} {r = r} kind number fixed fits p q s =
-    let x = name-length kind in
+put-named {old} {new = new} {at = at} {r = r} kind number fixed p q s =
     let same : outcomeName kind ++ (space ∷ []) ++ countText number fixed ≡ outcomeText kind number fixed = simp append-assoc in
-    subst (λ (t : List ℕ). Put old at t new r) same
-    (put-both (simp length-append (omega arith)) (put-both (omega arith) p q) s)
+    subst (λ (t : List ℕ). Put old at t new r) same (put-both (put-both p q) s)

@@ -89,23 +89,23 @@ pub fn parse(line: &[u8], values: &mut [u32; 1024]) -> Parsed
     }
 }
 
-// Whether the line is the text.
-fn is_line(line: &[u8], text: &[u8]) -> bool
-    ensures { λ r. ⌜ r ≡ sameBytes (now (line .entry)) (now (text .entry)) ⌝ }
+// Whether the bytes are the text.
+pub fn is_text(bytes: &[u8], text: &[u8]) -> bool
+    ensures { λ r. ⌜ r ≡ sameBytes (now (bytes .entry)) (now (text .entry)) ⌝ }
 {
-    check::same(line, text)
+    check::same(bytes, text)
 }
 
 pub fn is_shape_names(line: &[u8]) -> bool
     ensures { λ r. ⌜ r ≡ sameBytes (now (line .entry)) namesShape ⌝ }
 {
-    is_line(line, b"q n b")
+    is_text(line, b"q n b")
 }
 
 pub fn is_word_names(line: &[u8]) -> bool
     ensures { λ r. ⌜ r ≡ sameBytes (now (line .entry)) namesWord ⌝ }
 {
-    is_line(line, b"word")
+    is_text(line, b"word")
 }
 
 // The first place in from..to with a newline, or `to`.
@@ -146,7 +146,7 @@ fn put_digits(out: &mut [u8], at: usize, value: u32) -> usize
 
 pub fn put_number(out: &mut [u8], at: usize, value: u32) -> usize
     requires { ⌜ at + 10 ≤ length (now out) ⌝ }
-    ensures { λ r. ⌜ Put (now (out .entry)) at (decimal value) (now (out .exit)) r ⌝ }
+    ensures { λ r. ⌜ Put (now (out .entry)) at (decimal value) (now (out .exit)) r × (r ≤ at + 10) ⌝ }
 {
     put_digits(out, at, value)
 }
@@ -154,7 +154,7 @@ pub fn put_number(out: &mut [u8], at: usize, value: u32) -> usize
 // A line of the output's second table.
 pub fn put_count(out: &mut [u8], at: usize, function: u32, calls: u32) -> usize
     requires { ⌜ at + 22 ≤ length (now out) ⌝ }
-    ensures { λ r. ⌜ Put (now (out .entry)) at (countText function calls) (now (out .exit)) r ⌝ }
+    ensures { λ r. ⌜ Put (now (out .entry)) at (countText function calls) (now (out .exit)) r × (r ≤ at + 22) ⌝ }
 {
     let a = put_number(out, at, function);
     let b = put_byte(out, a, b' ');
@@ -165,7 +165,7 @@ pub fn put_count(out: &mut [u8], at: usize, function: u32, calls: u32) -> usize
 // The outcome's name.
 fn put_kind(out: &mut [u8], at: usize, kind: u32) -> usize
     requires { ⌜ at + 7 ≤ length (now out) ⌝ }
-    ensures { λ r. ⌜ Put (now (out .entry)) at (outcomeName kind) (now (out .exit)) r ⌝ }
+    ensures { λ r. ⌜ Put (now (out .entry)) at (outcomeName kind) (now (out .exit)) r × (r ≤ at + 7) ⌝ }
 {
     if kind == 0 {
         return put_text(out, at, b"taken");
@@ -178,8 +178,8 @@ fn put_kind(out: &mut [u8], at: usize, kind: u32) -> usize
 
 // A line of the output's first table.
 pub fn put_outcome(out: &mut [u8], at: usize, kind: u32, number: u32, fixed: u32) -> usize
-    requires { ⌜ at + 40 ≤ length (now out) ⌝ }
-    ensures { λ r. ⌜ Put (now (out .entry)) at (outcomeText kind number fixed) (now (out .exit)) r ⌝ }
+    requires { ⌜ at + 30 ≤ length (now out) ⌝ }
+    ensures { λ r. ⌜ Put (now (out .entry)) at (outcomeText kind number fixed) (now (out .exit)) r × (r ≤ at + 30) ⌝ }
 {
     let a = put_kind(out, at, kind);
     let b = put_byte(out, a, b' ');

@@ -1,10 +1,7 @@
-pub mod Choices
 pub mod Texts
-pub mod Equations
 pub mod Moves
-pub mod Faults
 pub mod Stands
+pub mod Worlds
+pub mod Comes
 pub mod Runs
 pub mod Remarks
-pub mod Worlds
-pub mod Blames

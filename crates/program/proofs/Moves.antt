@@ -1,16 +1,20 @@
--- Every step keeps a state within its bounds, and its measure falls.
+-- Every step keeps a state within its bounds, and its measure falls; after a fault, and at the end of the input, nothing more is read.
 use mathlib.Core.Path.{_≡_, refl, sym, ap, subst}
-use mathlib.Core.Bool.{Bool, true, false, cond, not, _&&_}
+use mathlib.Core.Bool.{Bool, true, false, cond, not}
 use mathlib.Core.Logic.{⊎-elim}
-use Prim.Native.Nat.{ℕ, _+_, _-_, _≤_, _<_}
+use Prim.Native.Nat.{ℕ, _+_, _≤_, _<_}
 use native.Mathlib.Omega.{arith}
 use borrow.Author.Tests.{ltb-true, eqb-true, eqb-false, not-true, not-false, lt-ltb}
 use lib.Dec.{eqb, ltb}
-use Rattle.parity.proofs.Tests.{either, clash, and-left, and-right}
+use Rattle.parity.proofs.Tests.{either, clash, and-right}
+use Rattle.capture.specs.declared.Fault.{Fault}
+use Rattle.capture.specs.declared.Phase.the-variants.{Ended}
+use Rattle.capture.specs.Feed.{isEnded, readLimit}
 use Rattle.program.specs.declared.Action.{Action}
-use Rattle.program.specs.declared.Action.the-variants.{Read, Take, Write, Look, Draw, Close, Say, BlameInput, BlameOutput, Stop}
+use Rattle.program.specs.declared.Action.the-variants.{Read, Take, Write, Look, Draw, Close, Say}
 use Rattle.program.specs.declared.State.{State}
-use Rattle.program.specs.Moves.{begun, towardOf, receivedOf, isMore, takenOf, closedOf, afterWrite, writtenOf, lookedOf}
+use Rattle.program.specs.declared.Watch.{Watch}
+use Rattle.program.specs.Moves.{towardOf, receivedOf, isMore, takenOf, closedOf, writtenOf, lookedOf}
 use Rattle.program.specs.Steps.{rank, goesOn, measureOf, most, Going, Sound, Went, Stepped}
 
 -- by either value of a test
@@ -21,21 +25,13 @@ pick P false t f = f refl
 pub goes-rank : (a : Action) → goesOn a ≡ true → 0 < rank a
 goes-rank a e = ltb-true 0 (rank a) e
 
-most-all : (a : Action) → most a ≤ 500000
-most-all Take = omega arith
-most-all Close = omega arith
-most-all Write = omega arith
-most-all Look = omega arith
-most-all Draw = omega arith
-most-all Read = omega arith
-most-all Say = omega arith
-most-all BlameInput = omega arith
-most-all BlameOutput = omega arith
-most-all Stop = omega arith
+pub most-all : (a : Action) → most a ≤ 500000
+most-all a =
+    pick (λ (n : ℕ). n ≤ 500000) (ltb (rank a) 4) (λ e. omega arith)
+    (λ e. pick (λ (n : ℕ). n ≤ 500000) (eqb (rank a) 7) (λ f. omega arith) (λ f. pick (λ (n : ℕ). n ≤ 500000) (eqb (rank a) 8) (λ g. omega arith) (λ g. omega arith)))
 
-pub begun-sound : (error output : Bool) (second : ℕ) → Sound (begun 19 error output second)
-unfolding begun
-begun-sound error output second =
+pub begun-sound : (w : Watch) → Sound (record { action = Read; input = record { more = true; left = readLimit; count = 0 }; size = 19; watch = w })
+begun-sound w =
     record {
       going = record { there = λ e. absurd (omega arith); more = λ l m. refl; some = λ o l m. omega arith; shut = λ e. absurd (omega arith) };
       limit = omega arith;
@@ -70,7 +66,7 @@ module _ (s : State) (h : Going s) where
       }
 
   pub received-went : (k : ℕ) → s .action ≡ Read → k ≤ s .input .left → Went s (receivedOf s k)
-  unfolding receivedOf measureOf
+  unfolding measureOf
   received-went k is few =
       let r = ap rank is in
       let o = h .more (omega arith) (omega arith) in
@@ -82,7 +78,7 @@ module _ (s : State) (h : Going s) where
       (either (not (eqb k 0)))
 
   pub taken-went : (ended : Bool) (size : ℕ) → s .action ≡ Take → Went s (takenOf s ended size)
-  unfolding takenOf measureOf
+  unfolding measureOf
   taken-went ended size is =
       let r = ap rank is in
       ⊎-elim
@@ -100,14 +96,14 @@ module _ (s : State) (h : Going s) where
       }))
       (either (isMore ended (s .input .left)))
 
-  pub closed-went : (size : ℕ) → s .action ≡ Close → s .input .more ≡ false → Went s (closedOf s size)
-  unfolding closedOf measureOf
-  closed-went size is shut =
+  pub closed-went : (size : ℕ) → s .action ≡ Close → Went s (closedOf s size)
+  unfolding measureOf
+  closed-went size is =
       let r = ap rank is in
-      record { going = record { there = λ e. absurd (omega arith); more = λ x y. absurd (omega arith); some = λ o x y. absurd (clash o shut); shut = λ e. absurd (omega arith) }; less = omega arith }
+      record { going = record { there = λ e. absurd (omega arith); more = λ x y. absurd (omega arith); some = λ o x y. absurd (clash o (h .shut r)); shut = λ e. absurd (omega arith) }; less = omega arith }
 
   pub written-went : s .action ≡ Write → Went s (writtenOf s)
-  unfolding writtenOf afterWrite measureOf
+  unfolding measureOf
   written-went is =
       let r = ap rank is in
       ⊎-elim
@@ -124,7 +120,7 @@ module _ (s : State) (h : Going s) where
       (either (s .input .more))
 
   pub looked-went : (second : ℕ) → s .action ≡ Look → Went s (lookedOf s second)
-  unfolding lookedOf measureOf
+  unfolding measureOf
   looked-went second is =
       let r = ap rank is in
       pick (Went s) (eqb second (s .watch .second))
@@ -139,8 +135,8 @@ module _ (s : State) (h : Going s) where
 stepped : {s r : State} → Sound s → Went s r → r .input .left ≤ s .input .left → r .input .count ≤ 16384 → r .size ≤ most (r .action) → Stepped s r
 stepped h w l b o = record { sound = record { going = w .going; limit = omega (arith, h .limit); block = b; out = o }; less = w .less }
 
-size-at : (s : State) → Sound s → {a : Action} → s .action ≡ a → s .size ≤ most a
-size-at s h is = subst (λ (a : Action). s .size ≤ most a) is (h .out)
+pub size-at : {s : State} {a : Action} → Sound s → s .action ≡ a → s .size ≤ most a
+size-at {s} h is = subst (λ (a : Action). s .size ≤ most a) is (h .out)
 
 -- a state that is another one
 pub stepped-by : {s r t : State} → r ≡ t → Stepped s t → Stepped s r
@@ -153,65 +149,46 @@ module _ (s : State) (h : Sound s) where
       stepped h (toward-went s (h .going) a l (omega arith) (λ e. absurd (omega arith))) (omega arith) (h .block)
       (rw (lt-ltb (rank a) 4 (omega arith)) (omega (arith, h .out, most-all (s .action))))
 
-  received-bounds : (k : ℕ) → s .action ≡ Read → (receivedOf s k .input .left ≤ s .input .left) × (receivedOf s k .size ≤ most (receivedOf s k .action))
-  unfolding receivedOf
-  received-bounds k is = (
-    omega arith,
-    pick (λ (a : Action). s .size ≤ most a) (not (eqb k 0)) (λ b. size-at s h is) (λ b. omega (arith, size-at s h is)),
-  )
-
-  received-count : (k : ℕ) → receivedOf s k .input .count ≡ k
-  unfolding receivedOf
-  received-count k = refl
-
   pub received-stepped : (k : ℕ) → s .action ≡ Read → k ≤ s .input .left → k ≤ 16384 → Stepped s (receivedOf s k)
   received-stepped k is few fits =
-      let b = received-bounds k is in
-      stepped h (received-went s (h .going) k is few) (b .0) (rw (received-count k) fits) (b .1)
-
-  taken-bounds : (ended : Bool) (size : ℕ) → size ≤ 491539
-      → (takenOf s ended size .input .left ≤ s .input .left) × (takenOf s ended size .input .count ≤ 16384) × (takenOf s ended size .size ≤ most (takenOf s ended size .action))
-  unfolding takenOf
-  taken-bounds ended size l = (
-    omega arith,
-    omega arith,
-    pick (λ (a : Action). size ≤ most a) (isMore ended (s .input .left)) (λ b. omega arith) (λ b. omega arith),
-  )
+      let size : s .size ≤ 19 = size-at h is in
+      stepped h (received-went s (h .going) k is few) (omega arith) fits
+      (pick (λ (a : Action). s .size ≤ most a) (not (eqb k 0)) (λ b. size) (λ b. omega arith))
 
   pub taken-stepped : (ended : Bool) (size : ℕ) → s .action ≡ Take → size ≤ s .size + 491520 → Stepped s (takenOf s ended size)
   taken-stepped ended size is l =
-      let b = taken-bounds ended size (omega (arith, size-at s h is)) in
-      stepped h (taken-went s (h .going) ended size is) (b .0) (b .1) (b .2)
-
-  closed-bounds : (size : ℕ) → size ≤ 500000 → (closedOf s size .input .left ≤ s .input .left) × (closedOf s size .input .count ≤ 16384) × (closedOf s size .size ≤ most (closedOf s size .action))
-  unfolding closedOf
-  closed-bounds size l = (omega arith, h .block, omega arith)
+      let before : s .size ≤ 19 = size-at h is in
+      stepped h (taken-went s (h .going) ended size is) (omega arith) (omega arith)
+      (pick (λ (a : Action). size ≤ most a) (isMore ended (s .input .left)) (λ b. omega arith) (λ b. omega arith))
 
   pub closed-stepped : (size : ℕ) → s .action ≡ Close → size ≤ s .size + 5687 → Stepped s (closedOf s size)
   closed-stepped size is l =
-      let b = closed-bounds size (omega (arith, size-at s h is)) in
-      stepped h (closed-went s (h .going) size is (h .going .shut (ap rank is))) (b .0) (b .1) (b .2)
-
-  written-bounds : (writtenOf s .input .left ≤ s .input .left) × (writtenOf s .input .count ≤ 16384) × (writtenOf s .size ≤ most (writtenOf s .action))
-  unfolding writtenOf
-  written-bounds = (omega arith, h .block, omega arith)
+      let before : s .size ≤ 491539 = size-at h is in
+      stepped h (closed-went s (h .going) size is) (omega arith) (h .block) (omega arith)
 
   pub written-stepped : s .action ≡ Write → Stepped s (writtenOf s)
-  written-stepped is = stepped h (written-went s (h .going) is) (written-bounds .0) (written-bounds .1) (written-bounds .2)
-
-  looked-bounds : (second : ℕ) → s .action ≡ Look
-      → (lookedOf s second .input .left ≤ s .input .left) × (lookedOf s second .input .count ≤ 16384) × (lookedOf s second .size ≤ most (lookedOf s second .action))
-  unfolding lookedOf
-  looked-bounds second is =
-      pick (λ (r : State). (r .input .left ≤ s .input .left) × (r .input .count ≤ 16384) × (r .size ≤ most (r .action))) (eqb second (s .watch .second))
-      (λ e. (omega arith, h .block, size-at s h is)) (λ e. (omega arith, h .block, size-at s h is))
+  written-stepped is = stepped h (written-went s (h .going) is) (omega arith) (h .block) (omega arith)
 
   pub looked-stepped : (second : ℕ) → s .action ≡ Look → Stepped s (lookedOf s second)
   looked-stepped second is =
-      let b = looked-bounds second is in
-      stepped h (looked-went s (h .going) second is) (b .0) (b .1) (b .2)
+      pick (λ (r : State). Went s r → Stepped s r) (eqb second (s .watch .second))
+      (λ e w. stepped h w (omega arith) (h .block) (size-at h is)) (λ e w. stepped h w (omega arith) (h .block) (size-at h is))
+      (looked-went s (h .going) second is)
 
   pub drawn-stepped : s .action ≡ Draw → Stepped s (towardOf Read s)
   drawn-stepped is =
       let r = ap rank is in
-      stepped h (toward-went s (h .going) Read (omega arith) (omega arith) (λ e. omega arith)) (omega arith) (h .block) (size-at s h is)
+      stepped h (toward-went s (h .going) Read (omega arith) (omega arith) (λ e. omega arith)) (omega arith) (h .block) (size-at h is)
+
+-- ---- after a fault in the first three lines, and at the end of the input, nothing more is read: the output is closed and written, and then the last things are said
+-- what is next from here on, however long the output gets
+pub record Unread (s : State) : Type 0 where
+  pub closes : s .action ≡ Close
+  pub writes : (size : ℕ) → closedOf s size .action ≡ Write
+  pub says : (size : ℕ) → writtenOf (closedOf s size) .action ≡ Say
+
+pub fault-unread : (s : State) (f : Fault) (size : ℕ) → Unread (takenOf s (isEnded (Ended f)) size)
+fault-unread s f size = record { closes = refl; writes = λ k. refl; says = λ k. refl }
+
+pub end-unread : (s : State) → Unread (receivedOf s 0)
+end-unread s = record { closes = refl; writes = λ k. refl; says = λ k. refl }

@@ -1,13 +1,10 @@
 -- What the code's steps promise is what the configurations say: each step leads from what stands for one to what stands for the next.
 use mathlib.Core.Path.{_≡_, refl, sym, ap, _∙_, subst}
 use mathlib.Core.Bool.{Bool}
-use mathlib.Core.List.{List, [], _∷_, _++_}
-use Prim.Native.Nat.{ℕ, _+_, _≤_}
+use mathlib.Core.List.{List, _++_}
+use Prim.Native.Nat.{ℕ, _+_}
 use native.Mathlib.Omega.{arith}
 use lib.ListN.{length, take}
-use Rattle.judge.specs.declared.Phase.{Phase}
-use Rattle.judge.specs.declared.Tally.{Tally}
-use Rattle.capture.specs.declared.Counts.{Counts}
 use Rattle.capture.specs.declared.Reader.{Reader}
 use Rattle.capture.specs.Output.{answersText}
 use Rattle.capture.specs.Counting.{counted, countedIn}
@@ -22,7 +19,6 @@ use Rattle.program.specs.Run.{Config, Stands, moved, received, fedTo, cl
 -- at the beginning
 pub begin-stands : {out out′ : List ℕ} {r : Reader} (error output : Bool) (second : ℕ) (block line : List ℕ) → length line ≡ 16384 → Begun out out′ r
     → Stands (beginning error output second) (begun (r .at) error output second) r block line out′
-unfolding begun
 begin-stands {out} {out′} {r} error output second block line full b =
     record {
       state = ap (λ (n : ℕ). begun n error output second) (b .at);
@@ -47,7 +43,6 @@ module _ {c : Config} {s : State} {reader : Reader} {block line out : List ℕ} 
       }
 
   pub received-stands : (bytes block′ : List ℕ) → take (length bytes) block′ ≡ bytes → Stands (received c bytes) (receivedOf s (length bytes)) reader block′ line out
-  unfolding receivedOf
   received-stands bytes block′ same =
       record {
         state = ap (λ (x : State). receivedOf x (length bytes)) (h .state);
@@ -59,13 +54,11 @@ module _ {c : Config} {s : State} {reader : Reader} {block line out : List ℕ} 
       }
 
   pub written-stands : Stands (written c) (writtenOf s) reader block line out
-  unfolding writtenOf
   written-stands =
       record { state = ap writtenOf (h .state); tally = h .tally; held = h .held; counts = h .counts; block = h .block; text = refl }
 
   pub took-stands : {line′ out′ : List ℕ} {r : Taken} → Took s reader line (take (c .state .input .count) block) out line′ out′ r
       → Stands (fedTo c (feed (c .tally) (c .held) (c .block))) (r .state) (r .reader) block line′ out′
-  unfolding takenOf
   took-stands {line′} {out′} {r} t =
       let fed = feed (reader .tally) (c .held) (take (c .state .input .count) block) in
       let same : fed ≡ feed (c .tally) (c .held) (c .block) = (λ i. feed (h .tally i) (c .held) (h .block i)) in
@@ -83,7 +76,6 @@ module _ {c : Config} {s : State} {reader : Reader} {block line out : List ℕ} 
       }
 
   pub closed-stands : {out′ : List ℕ} {r : Taken} → Closing s reader out out′ r → Stands (closed c) (r .state) (r .reader) block line out′
-  unfolding closedOf
   closed-stands {out′} {r} t =
       let size : s .size ≡ c .state .size = ap (λ (x : State). x .size) (h .state) in
       let output = t .finished .output line (c .held) (h .held) in

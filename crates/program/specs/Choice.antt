@@ -5,8 +5,8 @@ use Prim.Native.Nat.{ℕ}
 use lib.Dec.{eqb, ltb}
 use lib.ListN.{getD}
 use Rattle.lines.specs.Text.{ascii, sameBytes}
-use Rattle.program.specs.declared.Choice.{Choice}
-use Rattle.program.specs.declared.Choice.the-variants.{Standard, File, Help, Version, Unknown, TooMany}
+use Rattle.program.specs.declared.argument.Choice.{Choice}
+use Rattle.program.specs.declared.argument.Choice.the-variants.{Standard, File, Help, Version, Unknown, TooMany}
 
 abbrev pub dash : ℕ
 dash = 45

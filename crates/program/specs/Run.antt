@@ -1,25 +1,25 @@
 -- A whole run of the program: one step after another, with what was read, what was written and what was said.
 use mathlib.Core.Path.{_≡_}
-use mathlib.Core.Bool.{Bool, true, false, _&&_}
+use mathlib.Core.Bool.{Bool, true, false, cond, _&&_}
 use mathlib.Core.List.{List, [], _∷_, _++_}
-use Prim.Native.Nat.{ℕ, _+_, _≤_, min}
+use Prim.Native.Nat.{ℕ, zero, suc, _+_, min}
 use lib.Dec.{eqb}
-use lib.ListN.{length, take}
+use lib.ListN.{length, take, drop}
 use Rattle.lines.specs.Text.{namesOutcome}
-use Rattle.judge.specs.declared.Tally.{Tally}
-use Rattle.judge.specs.Judge.{start}
+use Rattle.capture.specs.declared.Tally.{Tally}
+use Rattle.capture.specs.Judge.{start}
 use Rattle.capture.specs.declared.Counts.{Counts}
 use Rattle.capture.specs.declared.Reader.{Reader}
 use Rattle.capture.specs.Output.{answersText}
 use Rattle.capture.specs.Counting.{none, counted, countedIn}
 use Rattle.capture.specs.Feed.{Fed, isEnded, feed, lastOf, closing}
 use Rattle.capture.specs.Steps.{LineSoFar}
+use Rattle.program.specs.declared.Action.{Action}
 use Rattle.program.specs.declared.Action.the-variants.{Read, Take, Write, Look, Draw, Close, Say, BlameInput, BlameOutput, Stop}
 use Rattle.program.specs.declared.State.{State}
 use Rattle.program.specs.Shown.{clearText}
 use Rattle.program.specs.Said.{complaintText}
 use Rattle.program.specs.Moves.{begun, towardOf, receivedOf, takenOf, closedOf, writtenOf, lookedOf, progressOf, endingOf}
-use Rattle.program.specs.Steps.{rank}
 
 -- the state, and what the reader and the buffers stand for: the tally, the line so far, the answers so far, the block, the output that waits
 pub record Config : Type 0 where
@@ -80,33 +80,69 @@ pub data Remark : Type 0 where
   Progress : ℕ → List ℕ → Remark
   Told : List ℕ → Remark
 
--- one step, with this input before it: what is written and said, whether the call went well, and what is left of the input
-pub data Step : Config → List ℕ → List ℕ → List Remark → Bool → Config → List ℕ → Type 0 where
-  -- a block comes, no longer than asked for; no byte comes only at the end of the input
-  Received : (c : Config) (bytes rest : List ℕ) → c .state .action ≡ Read → length bytes ≤ min (c .state .input .left) 16384
-      → (length bytes ≡ 0 → rest ≡ []) → Step c (bytes ++ rest) [] [] true (received c bytes) rest
-  ReadFailed : (c : Config) (input : List ℕ) → c .state .action ≡ Read → Step c input [] [] false (moved c (towardOf BlameInput (c .state))) input
-  Taken : (c : Config) (input : List ℕ) → c .state .action ≡ Take → Step c input [] [] true (fedTo c (feed (c .tally) (c .held) (c .block))) input
-  Closed : (c : Config) (input : List ℕ) → c .state .action ≡ Close → Step c input [] [] true (closed c) input
-  Written : (c : Config) (input : List ℕ) → c .state .action ≡ Write → Step c input (c .text) [] true (written c) input
-  -- of a write that fails any first part may stand there
-  WriteFailed : (c : Config) (input part rest : List ℕ) → c .state .action ≡ Write → c .text ≡ part ++ rest
-      → Step c input part [] false (moved c (towardOf BlameOutput (c .state))) input
-  Looked : (c : Config) (input : List ℕ) (second : ℕ) → c .state .action ≡ Look → Step c input [] [] true (moved c (lookedOf (c .state) second)) input
-  Drawn : (c : Config) (input : List ℕ) → c .state .action ≡ Draw
-      → Step c input [] (Progress (c .state .watch .second) (progressOf (c .state) (c .tally .session)) ∷ []) true (moved c (towardOf Read (c .state))) input
-  Said : (c : Config) (input : List ℕ) → c .state .action ≡ Say
-      → Step c input [] (Told (endingOf (c .state) (c .tally .phase) (c .counts)) ∷ []) true (moved c (towardOf Stop (c .state))) input
-  InputBlamed : (c : Config) (input : List ℕ) → c .state .action ≡ BlameInput
-      → Step c input [] (Told (complaintText (c .state .watch .drawn)) ∷ []) true (moved c (towardOf Stop (c .state))) input
-  OutputBlamed : (c : Config) (input : List ℕ) → c .state .action ≡ BlameOutput
-      → Step c input [] (Told (complaintText (c .state .watch .drawn)) ∷ []) true (moved c (towardOf Stop (c .state))) input
+-- how the call of a step may end: whether it fails, how many bytes come or are written, and what the clock shows
+pub record Way : Type 0 where
+  pub fails : Bool
+  pub bytes : ℕ
+  pub second : ℕ
 
--- all steps up to the last: what was written and said, whether all calls went well, how it ended, and what of the input was not read
-pub data Run : Config → List ℕ → List ℕ → List Remark → Bool → Config → List ℕ → Type 0 where
-  End : (c : Config) (input : List ℕ) → c .state .action ≡ Stop → Run c input [] [] true c input
-  On : (c c₁ c₂ : Config) (input input₁ input₂ text output : List ℕ) (remarks later : List Remark) (ok well : Bool) → Step c input text remarks ok c₁ input₁
-      → Run c₁ input₁ output later well c₂ input₂ → Run c input (text ++ output) (remarks ++ later) (ok && well) c₂ input₂
+-- what comes of some steps: where they lead, what was read, what is left of the input, what was written and said, whether all calls went well
+pub record Made : Type 0 where
+  pub config : Config
+  pub read : List ℕ
+  pub left : List ℕ
+  pub text : List ℕ
+  pub remarks : List Remark
+  pub well : Bool
+
+-- nothing is read or written
+abbrev pub quiet : List ℕ → List Remark → Config → Made
+quiet input remarks c = record { config = c; read = []; left = input; text = []; remarks = remarks; well = true }
+
+-- a call has failed, after these bytes were written
+abbrev pub failed : List ℕ → List ℕ → Config → Made
+failed input text c = record { config = c; read = []; left = input; text = text; remarks = []; well = false }
+
+-- a read brings at most so many bytes as were asked for, and one at least, unless the input is at its end
+abbrev pub came : Way → Config → ℕ
+came w c = min (suc (w .bytes)) (min (c .state .input .left) 16384)
+
+-- a step, with this input before it; of a write that fails any first part may stand there
+abbrev pub stepIn : Action → Way → Config → List ℕ → Made
+stepIn Read w c input =
+    cond (w .fails) (failed input [] (moved c (towardOf BlameInput (c .state))))
+    (record { config = received c (take (came w c) input); read = take (came w c) input; left = drop (came w c) input; text = []; remarks = []; well = true })
+stepIn Take w c input = quiet input [] (fedTo c (feed (c .tally) (c .held) (c .block)))
+stepIn Close w c input = quiet input [] (closed c)
+stepIn Write w c input =
+    cond (w .fails) (failed input (take (w .bytes) (c .text)) (moved c (towardOf BlameOutput (c .state))))
+    (record { config = written c; read = []; left = input; text = c .text; remarks = []; well = true })
+stepIn Look w c input = quiet input [] (moved c (lookedOf (c .state) (w .second)))
+stepIn Draw w c input = quiet input (Progress (c .state .watch .second) (progressOf (c .state) (c .tally .session)) ∷ []) (moved c (towardOf Read (c .state)))
+stepIn Say w c input = quiet input (Told (endingOf (c .state) (c .tally .phase) (c .counts)) ∷ []) (moved c (towardOf Stop (c .state)))
+stepIn BlameInput w c input = quiet input (Told (complaintText (c .state .watch .drawn)) ∷ []) (moved c (towardOf Stop (c .state)))
+stepIn BlameOutput w c input = quiet input (Told (complaintText (c .state .watch .drawn)) ∷ []) (moved c (towardOf Stop (c .state)))
+stepIn Stop w c input = quiet input [] c
+
+abbrev pub step : Way → Config → List ℕ → Made
+step w c input = stepIn (c .state .action) w c input
+
+abbrev pub joined : Made → Made → Made
+joined m r = record { config = r .config; read = m .read ++ r .read; left = r .left; text = m .text ++ r .text; remarks = m .remarks ++ r .remarks; well = m .well && r .well }
+
+-- one step after another, whose calls end in these ways
+abbrev pub runOf : List Way → Config → List ℕ → Made
+runOf [] c input = quiet input [] c
+runOf (w ∷ ways) c input = joined (step w c input) (runOf ways (step w c input .config) (step w c input .left))
+
+-- the program has stopped
+abbrev pub Stopped : Made → Type 0
+Stopped m = m .config .state .action ≡ Stop
+
+-- ways one after the other, as many as are needed
+abbrev pub first : ℕ → (ℕ → Way) → List Way
+first zero ways = []
+first (suc n) ways = ways 0 ∷ first n (λ i. ways (suc i))
 
 -- where `main` begins: the first name line waits
 abbrev pub beginning : Bool → Bool → ℕ → Config
@@ -124,10 +160,3 @@ abbrev pub Fair : Bool → Bool → ℕ → List Remark → Type 0
 Fair may stands second [] = Unit {0}
 Fair may stands second (Progress k text ∷ remarks) = (may ≡ true) × (eqb k second ≡ false) × Begins clearText text × Fair may true k remarks
 Fair may stands second (Told text ∷ remarks) = (stands ≡ true → Begins clearText text) × Fair may false second remarks
-
--- the last thing said
-abbrev pub lastSaid : List Remark → List ℕ
-lastSaid [] = []
-lastSaid (Progress k text ∷ []) = text
-lastSaid (Told text ∷ []) = text
-lastSaid (r ∷ (s ∷ remarks)) = lastSaid (s ∷ remarks)

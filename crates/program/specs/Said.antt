@@ -3,11 +3,11 @@ use mathlib.Core.Bool.{Bool, cond}
 use mathlib.Core.List.{List, [], _++_}
 use Prim.Native.Nat.{ℕ}
 use Rattle.lines.specs.Text.{ascii}
-use Rattle.judge.specs.declared.Expected.{Expected}
-use Rattle.judge.specs.declared.Expected.the-variants.{ShapeNames, ShapeValues, Shape, WordNames}
-use Rattle.judge.specs.declared.Fault.{Fault}
-use Rattle.judge.specs.declared.Phase.{Phase}
-use Rattle.judge.specs.declared.Phase.the-variants as phase
+use Rattle.capture.specs.declared.Expected.{Expected}
+use Rattle.capture.specs.declared.Expected.the-variants.{ShapeNames, ShapeValues, Shape, WordNames}
+use Rattle.capture.specs.declared.Fault.{Fault}
+use Rattle.capture.specs.declared.Phase.{Phase}
+use Rattle.capture.specs.declared.Phase.the-variants as phase
 use Rattle.capture.specs.declared.Counts.{Counts}
 use Rattle.program.specs.Shown.{clearText, numbered, summaryText}
 
@@ -58,8 +58,8 @@ unfoldable pub complaintText : Bool → List ℕ
 complaintText drawn = cond drawn clearText [] ++ ascii "tally: "
 
 -- the ends of two complaints, about an argument
-unfoldable pub unknownText : List ℕ
+abbrev pub unknownText : List ℕ
 unknownText = ascii ": no such option; tally --help says how it is used\n"
 
-unfoldable pub tooManyText : List ℕ
+abbrev pub tooManyText : List ℕ
 tooManyText = ascii ": one argument too many; tally --help says how it is used\n"

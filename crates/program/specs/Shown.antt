@@ -14,7 +14,7 @@ pub record Held (t : Text) (text : List ℕ) : Type 0 where
   pub within : t .size ≤ length (t .bytes)
   pub holds : take (t .size) (t .bytes) ≡ text
 
-unfoldable pub usageText : List ℕ
+abbrev pub usageText : List ℕ
 usageText =
     ascii "usage: tally [FILE]\n"
     ++ ascii "Reads a capture, FILE or standard input (none or -), and writes what came of it.\n"
@@ -26,7 +26,7 @@ usageText =
     ++ ascii "or the input could not be read to its end. More: man tally.\n"
 
 -- name and version
-unfoldable pub versionText : List ℕ
+abbrev pub versionText : List ℕ
 versionText = ascii "tally 0.1.0\n"
 
 -- the terminal's line emptied, with the cursor at its start: a carriage return, and ESC [ K

@@ -1,23 +1,32 @@
 // What the program's arguments mean, and what it says of itself.
-use crate::Choice;
 ghost use mathlib.Core.Path.{_≡_};
 ghost use Rattle.program.specs.Choice.{choiceOf, meaningOf};
 ghost use Rattle.program.specs.Shown.{usageText, versionText};
+
+// What to do: read standard input, or the file that is named, or say how the program is used, or its version. The last two are faults.
+pub enum Choice {
+    Standard,
+    File,
+    Help,
+    Version,
+    Unknown,
+    TooMany,
+}
 
 // One argument.
 fn meaning(argument: &[u8]) -> Choice
     ensures { λ r. ⌜ r ≡ meaningOf (now (argument .entry)) ⌝ }
 {
-    if check::same(argument, b"-") {
+    if lines::is_text(argument, b"-") {
         return Choice::Standard;
     }
-    if check::same(argument, b"--help") {
+    if lines::is_text(argument, b"--help") {
         return Choice::Help;
     }
-    if check::same(argument, b"-h") {
+    if lines::is_text(argument, b"-h") {
         return Choice::Help;
     }
-    if check::same(argument, b"--version") {
+    if lines::is_text(argument, b"--version") {
         return Choice::Version;
     }
     if argument.len() == 0 {

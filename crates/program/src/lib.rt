@@ -3,6 +3,7 @@ mod argument;
 mod said;
 mod shown;
 
+pub use argument::Choice;
 pub use argument::choose;
 pub use argument::usage;
 pub use argument::version;
@@ -18,18 +19,8 @@ ghost use Prim.Native.Nat.{_+_, _≤_, min};
 ghost use lib.Dec.{eqb};
 ghost use lib.ListN.{length};
 ghost use Rattle.session.specs.Session.{Consistent};
-ghost use Rattle.program.specs.Moves.{begun, towardOf, receivedOf, takenOf, closedOf, afterWrite, writtenOf, lookedOf};
+ghost use Rattle.program.specs.Moves.{begun, towardOf, onwardOf, receivedOf, takenOf, afterWrite, writtenOf, lookedOf};
 ghost use Rattle.program.specs.Steps.{Took, Closing, goesOn};
-
-// What to do: read standard input, or the file that is named, or say how the program is used, or its version. The last two are faults.
-pub enum Choice {
-    Standard,
-    File,
-    Help,
-    Version,
-    Unknown,
-    TooMany,
-}
 
 // A short text: the first `size` bytes.
 pub struct Text {
@@ -138,26 +129,18 @@ pub fn wanted(state: State) -> usize
     ensures { λ r. ⌜ r ≡ min (state .input .left) 16384 ⌝ }
 {
     let input = state.input;
-    capture::wanted(input.left)
+    let left = input.left;
+    if left < 16384 { left } else { 16384 }
 }
 
-// So many bytes were read, none at the end of the input.
-pub fn received(state: State, count: usize) -> State
-    requires { ⌜ count ≤ state .input .left ⌝ }
-    ensures { λ r. ⌜ r ≡ receivedOf state count ⌝ }
+// On with this where there may be more to read, and to the last output where there is not.
+fn onward(state: State, input: Input, next: Action, size: usize) -> State
+    ensures { λ r. ⌜ r ≡ onwardOf state input next size ⌝ }
 {
     let watch = state.watch;
-    let size = state.size;
-    let before = state.input;
-    let more = count != 0;
-    let input = Input {
-        more,
-        left: before.left - count,
-        count,
-    };
-    if more {
+    if input.more {
         return State {
-            action: Action::Take,
+            action: next,
             input,
             size,
             watch,
@@ -169,6 +152,20 @@ pub fn received(state: State, count: usize) -> State
         size,
         watch,
     }
+}
+
+// So many bytes were read, none at the end of the input.
+pub fn received(state: State, count: usize) -> State
+    requires { ⌜ count ≤ state .input .left ⌝ }
+    ensures { λ r. ⌜ r ≡ receivedOf state count ⌝ }
+{
+    let before = state.input;
+    let input = Input {
+        more: count != 0,
+        left: before.left - count,
+        count,
+    };
+    onward(state, input, Action::Take, state.size)
 }
 
 // The read failed.
@@ -192,29 +189,14 @@ fn is_more(ended: bool, left: usize) -> bool
 fn moved(state: State, ended: bool, size: usize) -> State
     ensures { λ r. ⌜ r ≡ takenOf state ended size ⌝ }
 {
-    let watch = state.watch;
     let before = state.input;
     let left = before.left;
-    let more = is_more(ended, left);
     let input = Input {
-        more,
+        more: is_more(ended, left),
         left,
         count: 0,
     };
-    if more {
-        return State {
-            action: Action::Write,
-            input,
-            size,
-            watch,
-        };
-    }
-    State {
-        action: Action::Close,
-        input,
-        size,
-        watch,
-    }
+    onward(state, input, Action::Write, size)
 }
 
 // Takes the block.

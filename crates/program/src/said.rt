@@ -3,14 +3,14 @@ use crate::State;
 use crate::Text;
 use crate::shown::put_numbered;
 use capture::Counts;
+use capture::Expected;
+use capture::Fault;
+use capture::Phase;
 use capture::Reader;
-use judge::Expected;
-use judge::Fault;
-use judge::Phase;
 ghost use mathlib.Core.Bool.{cond};
 ghost use mathlib.Core.List.{[]};
 ghost use mathlib.Core.Path.{_≡_};
-ghost use Prim.Native.Nat.{_+_, _≤_, _<_};
+ghost use Prim.Native.Nat.{_+_, _≤_};
 ghost use lib.ListN.{length};
 ghost use Rattle.lines.specs.Text.{Put};
 ghost use Rattle.program.specs.Shown.{summaryText, Held};
@@ -20,7 +20,7 @@ ghost use Rattle.program.specs.Moves.{endingOf};
 // A text, where it is wanted.
 fn put_if(out: &mut [u8], at: usize, wanted: bool, text: &[u8]) -> usize
     requires { ⌜ at + length (now text) ≤ length (now out) ⌝ }
-    ensures { λ r. ⌜ Put (now (out .entry)) at (cond wanted (now (text .entry)) []) (now (out .exit)) r ⌝ }
+    ensures { λ r. ⌜ Put (now (out .entry)) at (cond wanted (now (text .entry)) []) (now (out .exit)) r × (r ≤ at + length (now (text .entry))) ⌝ }
 {
     if wanted {
         return lines::put_text(out, at, text);
@@ -31,7 +31,7 @@ fn put_if(out: &mut [u8], at: usize, wanted: bool, text: &[u8]) -> usize
 // What should stand in the line at fault.
 fn put_expected(out: &mut [u8], at: usize, expected: Expected) -> usize
     requires { ⌜ at + 130 ≤ length (now out) ⌝ }
-    ensures { λ r. ⌜ Put (now (out .entry)) at (expectedText expected) (now (out .exit)) r ⌝ }
+    ensures { λ r. ⌜ Put (now (out .entry)) at (expectedText expected) (now (out .exit)) r × (r ≤ at + 121) ⌝ }
 {
     match expected {
         Expected::ShapeNames => lines::put_text(out, at, b"tally: line 1: expected 'q n b'\n"),
@@ -69,7 +69,7 @@ fn line_number(expected: Expected) -> u32
 // What else there is to say of a line, where it is so.
 fn put_noted(out: &mut [u8], at: usize, wanted: bool, number: u32, text: &[u8]) -> usize
     requires { ⌜ at + 22 + length (now text) ≤ length (now out) ⌝ }
-    ensures { λ r. ⌜ Put (now (out .entry)) at (cond wanted (notedText number (now (text .entry))) []) (now (out .exit)) r ⌝ }
+    ensures { λ r. ⌜ Put (now (out .entry)) at (cond wanted (notedText number (now (text .entry))) []) (now (out .exit)) r × (r ≤ at + 22 + length (now (text .entry))) ⌝ }
 {
     if wanted {
         let next = lines::put_text(out, at, b"tally: line ");
@@ -81,7 +81,7 @@ fn put_noted(out: &mut [u8], at: usize, wanted: bool, number: u32, text: &[u8]) 
 // What is wrong with a line.
 fn put_fault(out: &mut [u8], at: usize, fault: Fault) -> usize
     requires { ⌜ at + 250 ≤ length (now out) ⌝ }
-    ensures { λ r. ⌜ Put (now (out .entry)) at (faultText fault) (now (out .exit)) r ⌝ }
+    ensures { λ r. ⌜ Put (now (out .entry)) at (faultText fault) (now (out .exit)) r × (r ≤ at + 225) ⌝ }
 {
     let expected = fault.expected;
     let number = line_number(expected);
@@ -105,7 +105,7 @@ fn put_fault(out: &mut [u8], at: usize, fault: Fault) -> usize
 // Which of the first three lines is at fault or missing, by the line that is next.
 fn put_blame(out: &mut [u8], at: usize, phase: Phase) -> usize
     requires { ⌜ at + 250 ≤ length (now out) ⌝ }
-    ensures { λ r. ⌜ Put (now (out .entry)) at (blameText phase) (now (out .exit)) r ⌝ }
+    ensures { λ r. ⌜ Put (now (out .entry)) at (blameText phase) (now (out .exit)) r × (r ≤ at + 225) ⌝ }
 {
     match phase {
         Phase::ShapeNames => put_expected(out, at, Expected::ShapeNames),

@@ -12,7 +12,7 @@ ghost use Rattle.program.specs.Moves.{progressOf};
 // A number and what it counts.
 pub fn put_numbered(out: &mut [u8], at: usize, value: u32, text: &[u8]) -> usize
     requires { ⌜ at + 10 + length (now text) ≤ length (now out) ⌝ }
-    ensures { λ r. ⌜ Put (now (out .entry)) at (numbered value (now (text .entry))) (now (out .exit)) r ⌝ }
+    ensures { λ r. ⌜ Put (now (out .entry)) at (numbered value (now (text .entry))) (now (out .exit)) r × (r ≤ at + 10 + length (now (text .entry))) ⌝ }
 {
     let next = lines::put_number(out, at, value);
     lines::put_text(out, next, text)

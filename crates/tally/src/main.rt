@@ -13,7 +13,6 @@ ghost use lib.ListN.{length};
 ghost use Rattle.program.specs.declared.Action.the-variants as action;
 ghost use Rattle.program.specs.Moves.{towardOf};
 ghost use Rattle.program.specs.Steps.{rank, Sound, Stepped};
-ghost use Rattle.tally.specs.Read.{Acted};
 
 // Room for a block, or for a line.
 fn buffer() -> [u8; 16384]
@@ -73,7 +72,7 @@ fn second() -> u64 {
 // Reads a block.
 fn read(fd: i32, state: State, block: &mut [u8]) -> State
     requires { ⌜ Sound state × (state .action ≡ action.Read) × (length (now block) ≡ 16384) ⌝ }
-    ensures { λ r. ⌜ Acted state (now (block .exit)) r ⌝ }
+    ensures { λ r. ⌜ Stepped state r × (length (now (block .exit)) ≡ 16384) ⌝ }
 {
     let want = program::wanted(state);
     let got = libc::read(fd, &mut block[..want]);
@@ -108,7 +107,7 @@ fn blame(state: State, name: &[u8]) -> State
 // What is to be done, where the reader stays as it is. Of the others there is nothing to do here.
 fn act(fd: i32, name: &[u8], state: State, reader: Reader, block: &mut [u8], out: &[u8]) -> State
     requires { ⌜ Sound state × (length (now block) ≡ 16384) × (length (now out) ≡ 500000) ⌝ }
-    ensures { λ r. ⌜ (0 < rank (state .action) → Acted state (now (block .exit)) r) ⌝ }
+    ensures { λ r. ⌜ (0 < rank (state .action) → Stepped state r × (length (now (block .exit)) ≡ 16384)) ⌝ }
 {
     let action = state.action;
     let size = state.size;

@@ -33,7 +33,7 @@ use Rattle.lines.specs.Content.{valuesIn, contentOf}
 use Rattle.lines.specs.Content as content
 use Rattle.host.specs.Bytes.{symbolsOf, bytesOf}
 use Rattle.host.specs.Crossing.{shapeIn, shapeValues, sessionOf}
-use Rattle.judge.specs.Judge.{lineContent, passed, fault, judgedOf, start}
+use Rattle.capture.specs.Judge.{keptOf, lineContent, passed, fault, judgedOf, start}
 use Rattle.capture.specs.Output.{outcomeLine, answersText}
 use Rattle.capture.specs.Feed.{feed, closing, outputOf}
 use Rattle.vectors.specs.Pinned.{Orders, Limits, Scratch, Refusals, Layout}
@@ -65,7 +65,7 @@ orders-of-tests = record {
 }
 
 pub limits : Limits
-unfolding outcomeOf overflows countOf valuesOf allValues lawful regular sloped fitsSlope isOrder orders any all pageOf narrow functions zeros countedOf sessionStatus consistent pagesOf lowestOf bit sum count lowestNot millis tabulate wholeRun readOf acceptedBy changesBy restoredBy votedAt majority shows firstValue mended silentTest syndrome xorSum when lineOf slopeOf _⊕_ statusOf scratchLength keptChecks reach symbolsOf bytesOf contentOf valuesIn content.small sameBytes spell decimal lineContent outputOf closing answersText feed start judgedOf fault passed outcomeLine outcomeText outcomeName freshStatus freshOf shapeRefusal
+unfolding outcomeOf overflows countOf valuesOf allValues lawful regular sloped fitsSlope isOrder orders any all pageOf narrow functions zeros countedOf sessionStatus consistent pagesOf lowestOf bit sum count lowestNot millis tabulate wholeRun readOf acceptedBy changesBy restoredBy votedAt majority shows firstValue mended silentTest syndrome xorSum when lineOf slopeOf _⊕_ statusOf scratchLength keptChecks reach symbolsOf bytesOf contentOf valuesIn content.small sameBytes spell decimal keptOf outputOf closing answersText feed start judgedOf outcomeLine outcomeText outcomeName freshStatus freshOf shapeRefusal
 limits = record {
   falling-slopes = refl;
   full-page = refl;

@@ -41,7 +41,7 @@ use Rattle.lines.specs.Content.{Spelled, Unreadable, contentOf}
 use Rattle.host.specs.Bytes.{symbolsOf, bytesOf}
 use Rattle.host.specs.Crossing.{shapeIn, shapeValues, isYes, sessionOf}
 use Rattle.host.specs.Entries.{freshIn, sessionIn}
-use Rattle.judge.specs.Judge.{lineContent}
+use Rattle.capture.specs.Judge.{lineContent}
 use Rattle.capture.specs.Feed.{readLimit, outputOf}
 
 -- the smallest shape, of eight bits, and one of eleven

@@ -1,7 +1,7 @@
 -- `capture::begin` meets its contract: the first name line waits.
 use mathlib.Core.Path.{refl}
 use native.Mathlib.Omega.{arith}
-use Rattle.judge.specs.Judge.{start}
+use Rattle.capture.specs.Judge.{start}
 use Rattle.capture.proofs.Texts.{put-appended}
 use borrow.Author.Needs.{needs}
 use Rattle.capture.proofs.begin.Statement.{statement}

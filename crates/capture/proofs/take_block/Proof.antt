@@ -6,7 +6,7 @@ use native.Mathlib.Omega.{arith}
 use lib.ListN.{length, length-replicate}
 use borrow.Author.Needs.{needs}
 use Rattle.capture.proofs.Frames.{end-few, line-ended, Reading, reading-begins, block-taken, reading-on}
-use Rattle.judge.proofs.Looks.{foretold-known}
+use Rattle.capture.proofs.Looks.{foretold-known}
 use Rattle.capture.proofs.take_block.Statement.{statement}
 use Rattle.capture.proofs.take_block.Tie as tie
 

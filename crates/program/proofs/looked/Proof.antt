@@ -1,16 +1,13 @@
 -- `program::looked` meets its contract.
 use borrow.Author.Tests.{eq-eqb, ne-eqb}
-use Rattle.program.specs.Moves.{lookedOf}
 use borrow.Author.Needs.{needs}
 use Rattle.program.proofs.looked.Statement.{statement}
 use Rattle.program.proofs.looked.Tie as tie
 
 returns : tie.Need-returns
-unfolding lookedOf
 returns c = rw (eq-eqb _ _ (c .before .if1 .taken)) (c .toward .ensures)
 
 returns-2 : tie.Need-returns-2
-unfolding lookedOf
 returns-2 c = rw (ne-eqb _ _ (c .before .if1 .left))
 
 pub looked-spec : {M : Type 1} → statement M

@@ -25,7 +25,7 @@ loop-again c =
     let inv = c .before .before .loop .inv .1 in (
       omega arith,
       ⊎-elim
-          (λ w. rw (w .5, w .6) (counting-writes (omega arith) (omega arith) (all .below f) (w .0 .taken) (omega arith) (w .2 .ensures) inv))
+          (λ w. rw (w .5, w .6) (counting-writes (omega arith) (w .0 .taken) (omega arith) (w .2 .ensures .0) (w .2 .ensures .1) inv))
           (λ w. rw (w .1, w .2) (counting-passes (omega arith) (w .0 .left) inv))
           (c .if1 .came),
     )

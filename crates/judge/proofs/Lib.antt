@@ -1,4 +1,0 @@
-pub mod Judges
-pub mod Looks
-pub mod Figures
-pub mod Standards
