@@ -212,18 +212,16 @@ module _ (w : Way) (c : Config) (input : List ℕ) (h : Going (c .state)) where
   -- a failed write has written a first part of what waits
   write-part : c .state .action ≡ Write → (more : List ℕ) → Begins (take (w .bytes) (c .text)) (endOf c more .text)
   write-part is more =
-      let fed = feed (c .tally) (c .held) (take (c .state .input .left) more) in
-      let a = answersText (fed .answers) in
-      let b = closing (fed .tally) (fed .held) in
       let part = take (w .bytes) (c .text) in
       let rest = drop (w .bytes) (c .text) in
-      let same : c .text ≡ part ++ rest = sym (take-append-drop (w .bytes) (c .text)) in
-      let start = ap (λ (x : Ended). x .text) (at is more) in
-      ⊎-elim
-      (λ (o : c .state .input .more ≡ true).
-      record { rest = (rest ++ a) ++ b; is = start ∙ ap (λ (x : Bool). cond x (openOf c more) (stayOf (c .text) c) .text) o ∙ ap (λ (x : List ℕ). (x ++ a) ++ b) same ∙ ap (λ (x : List ℕ). x ++ b) (append-assoc part rest a) ∙ append-assoc part (rest ++ a) b })
-      (λ (o : c .state .input .more ≡ false). record { rest = rest; is = start ∙ ap (λ (x : Bool). cond x (openOf c more) (stayOf (c .text) c) .text) o ∙ same })
-      (either (c .state .input .more))
+      let later = endOf (written c) more .text in
+      record {
+        rest = rest ++ later;
+        is =
+            ap (λ (x : Ended). x .text) (at is more ∙ after-comes more (c .state .input .more) (c .state .watch .progress))
+            ∙ ap (λ (x : List ℕ). x ++ later) (sym (take-append-drop (w .bytes) (c .text)))
+            ∙ append-assoc part rest later;
+      }
 
   pub step-comes : (a : Action) → c .state .action ≡ a → Comes c (stepIn a w c input) ⊎ Fails c (stepIn a w c input)
   step-comes Read is =

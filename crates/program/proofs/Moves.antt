@@ -2,19 +2,18 @@
 use mathlib.Core.Path.{_≡_, refl, sym, ap, subst}
 use mathlib.Core.Bool.{Bool, true, false, cond, not}
 use mathlib.Core.Logic.{⊎-elim}
-use Prim.Native.Nat.{ℕ, _+_, _≤_, _<_}
+use Prim.Native.Nat.{ℕ, zero, suc, _+_, _≤_, _<_}
 use native.Mathlib.Omega.{arith}
 use borrow.Author.Tests.{ltb-true, eqb-true, eqb-false, not-true, not-false, lt-ltb}
 use lib.Dec.{eqb, ltb}
-use Rattle.parity.proofs.Tests.{either, clash, and-right}
+use Rattle.parity.proofs.Tests.{either, clash}
 use Rattle.capture.specs.declared.Fault.{Fault}
 use Rattle.capture.specs.declared.Phase.the-variants.{Ended}
-use Rattle.capture.specs.Feed.{isEnded, readLimit}
+use Rattle.capture.specs.Feed.{isEnded}
 use Rattle.program.specs.declared.Action.{Action}
 use Rattle.program.specs.declared.Action.the-variants.{Read, Take, Write, Look, Draw, Close, Say}
 use Rattle.program.specs.declared.State.{State}
-use Rattle.program.specs.declared.Watch.{Watch}
-use Rattle.program.specs.Moves.{towardOf, receivedOf, isMore, takenOf, closedOf, writtenOf, lookedOf}
+use Rattle.program.specs.Moves.{begun, towardOf, receivedOf, isMore, takenOf, closedOf, writtenOf, lookedOf}
 use Rattle.program.specs.Steps.{rank, goesOn, measureOf, most, Going, Sound, Went, Stepped}
 
 -- by either value of a test
@@ -30,8 +29,9 @@ most-all a =
     pick (λ (n : ℕ). n ≤ 500000) (ltb (rank a) 4) (λ e. omega arith)
     (λ e. pick (λ (n : ℕ). n ≤ 500000) (eqb (rank a) 7) (λ f. omega arith) (λ f. pick (λ (n : ℕ). n ≤ 500000) (eqb (rank a) 8) (λ g. omega arith) (λ g. omega arith)))
 
-pub begun-sound : (w : Watch) → Sound (record { action = Read; input = record { more = true; left = readLimit; count = 0 }; size = 19; watch = w })
-begun-sound w =
+pub begun-sound : (error output : Bool) (second : ℕ) → Sound (begun 19 error output second)
+unfolding begun
+begun-sound error output second =
     record {
       going = record { there = λ e. absurd (omega arith); more = λ l m. refl; some = λ o l m. omega arith; shut = λ e. absurd (omega arith) };
       limit = omega arith;
@@ -41,7 +41,9 @@ begun-sound w =
 
 -- the loop's test of what was read, and of what may be read
 more-left : (ended : Bool) (left : ℕ) → isMore ended left ≡ true → 0 < left
-more-left ended left o = omega (arith, eqb-false left 0 (not-true (eqb left 0) (and-right (not ended) (not (eqb left 0)) o)))
+more-left true zero o = absurd (clash o refl)
+more-left false zero o = absurd (clash o refl)
+more-left ended (suc left) o = omega arith
 
 pub some-bytes : (k : ℕ) → not (eqb k 0) ≡ true → 0 < k
 some-bytes k o = omega (arith, eqb-false k 0 (not-true (eqb k 0) o))

@@ -17,7 +17,7 @@ use Rattle.program.specs.declared.State.{State}
 use Rattle.program.specs.declared.Watch.{Watch}
 use Rattle.program.specs.Shown.{clearText, numbered, lowestText, progressText, summaryText}
 use Rattle.program.specs.Said.{limitText, blameText, endingText, complaintText}
-use Rattle.program.specs.Moves.{towardOf, isMore, endingOf}
+use Rattle.program.specs.Moves.{begun, towardOf, isMore, endingOf}
 use Rattle.program.specs.Steps.{rank}
 use Rattle.program.specs.Run.{Config, moved, Remark, Told, Way, Made, came, stepIn, step, runOf, beginning, Begins, Fair}
 use Rattle.program.proofs.Moves.{pick}
@@ -143,6 +143,7 @@ run-fair (w ∷ ways) c input stands second k =
 
 -- whatever goes wrong: from the beginning on, progress lines only where standard error is a terminal and standard output is none
 pub fair-remarks : (error output : Bool) (second : ℕ) (ways : List Way) (input : List ℕ) → Fair (error && not output) false second (runOf ways (beginning error output second) input .remarks)
+unfolding begun
 fair-remarks error output second ways input =
     run-fair ways (beginning error output second) input false second
     (record { shown = refl; drawn = λ e. absurd (clash e refl); same = λ n. refl; other = λ e. absurd (omega arith); looks = λ l m. absurd (omega arith) })

@@ -22,7 +22,7 @@ use Rattle.program.specs.declared.Action.{Action}
 use Rattle.program.specs.declared.Action.the-variants.{Read, Take, Write, Look, Draw, Close, Say, BlameInput, BlameOutput, Stop}
 use Rattle.program.specs.declared.State.{State}
 use Rattle.program.specs.Said.{endingText}
-use Rattle.program.specs.Moves.{towardOf, endingOf}
+use Rattle.program.specs.Moves.{begun, towardOf, endingOf}
 use Rattle.program.specs.Steps.{rank, Going}
 use Rattle.program.specs.Run.{Config, moved, Remark, Told, Way, Made, quiet, joined, came, stepIn, step, runOf, Stopped, beginning, Begins}
 use Rattle.program.proofs.Moves.{pick, begun-sound, toward-went}
@@ -152,7 +152,7 @@ pub record Shown (error : Bool) (input : List ℕ) (r : Made) : Type 0 where
       ≡ earlier ++ (Told (endingText (r .config .state .watch .drawn) (eqb (r .config .state .input .left) 0) error (fedBy input .tally .phase) (amounts (answersOf input))) ∷ [])
 
 begin-ends : (error output : Bool) (second : ℕ) (input : List ℕ) → endOf (beginning error output second) input .text ≡ outputOf input
-unfolding outputOf
+unfolding begun outputOf
 begin-ends error output second input = append-assoc namesOutcome (answersText (fedBy input .answers)) (closing (fedBy input .tally) (fedBy input .held))
 
 module _ (error output : Bool) (second : ℕ) (input : List ℕ) where
@@ -160,14 +160,15 @@ module _ (error output : Bool) (second : ℕ) (input : List ℕ) where
   start = beginning error output second
 
   going : Going (start .state)
-  going = begun-sound (beginning error output second .state .watch) .going
+  going = begun-sound error output second .going
 
   begin-counts : endOf start input .counts ≡ amounts (answersOf input)
-  unfolding countedIn
+  unfolding begun countedIn
   begin-counts = sym (counted-append none (fedBy input .answers) (lastOf (fedBy input .tally) (fedBy input .held) ∷ [])) ∙ counts-exact input
 
   -- (d) if the first call fails, which is a read, nothing is written
   pub failed-first : (w : Way) (ways : List Way) → w .fails ≡ true → runOf (w ∷ ways) start input .text ≡ []
+  unfolding begun
   failed-first w ways f =
       let c = moved start (towardOf BlameInput (start .state)) in
       let h = toward-went (start .state) going BlameInput (omega arith) (omega arith) (λ e. absurd (omega arith)) .going in
@@ -181,6 +182,7 @@ module _ (error output : Bool) (second : ℕ) (input : List ℕ) where
 
     -- (a) at most so many bytes are read, a first part of the input, whatever goes wrong; and the state knows how many
     pub read-bytes : (input ≡ made .read ++ made .left) × (length (made .read) + made .config .state .input .left ≡ readLimit)
+    unfolding begun
     read-bytes = let k = run-kept ways start input in (k .parts, k .limit)
 
     -- (a) whatever fails: what was written is a first part of the output of the input that was read, and of the whole input
@@ -206,6 +208,7 @@ module _ (error output : Bool) (second : ℕ) (input : List ℕ) where
       whole-run = sym (ap (λ (x : Ended). x .text) run-ends) ∙ begin-ends error output second input
 
       pub shown-run : Shown error input made
+      unfolding begun
       shown-run =
           let (earlier, is) = run-says ways start input going (omega arith) well stop in
           record {

@@ -19,6 +19,7 @@ use Rattle.program.specs.Run.{Config, Stands, moved, received, fedTo, cl
 -- at the beginning
 pub begin-stands : {out out′ : List ℕ} {r : Reader} (error output : Bool) (second : ℕ) (block line : List ℕ) → length line ≡ 16384 → Begun out out′ r
     → Stands (beginning error output second) (begun (r .at) error output second) r block line out′
+unfolding begun
 begin-stands {out} {out′} {r} error output second block line full b =
     record {
       state = ap (λ (n : ℕ). begun n error output second) (b .at);

@@ -60,4 +60,4 @@ runs (suc fuel) ways c input h l =
 pub every-run : (ways : ℕ → Way) (error output : Bool) (second : ℕ) (input : List ℕ) → (n : ℕ) × Stopped (runOf (first n ways) (beginning error output second) input)
 every-run ways error output second input =
     let c = beginning error output second in
-    runs (suc (measureOf (c .state))) ways c input (begun-sound (beginning error output second .state .watch) .going) (omega arith)
+    runs (suc (measureOf (c .state))) ways c input (begun-sound error output second .going) (omega arith)

@@ -15,7 +15,7 @@ use Rattle.program.specs.Shown.{progressText}
 use Rattle.program.specs.Said.{endingText}
 
 -- the first block is read before anything is written
-abbrev pub begun : ℕ → Bool → Bool → ℕ → State
+unfoldable pub begun : ℕ → Bool → Bool → ℕ → State
 begun size error output second =
     record {
       action = Read;

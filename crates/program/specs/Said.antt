@@ -12,7 +12,7 @@ use Rattle.capture.specs.declared.Counts.{Counts}
 use Rattle.program.specs.Shown.{clearText, numbered, summaryText}
 
 -- what should stand in the line at fault
-unfoldable pub expectedText : Expected → List ℕ
+abbrev pub expectedText : Expected → List ℕ
 expectedText ShapeNames = ascii "tally: line 1: expected 'q n b'\n"
 expectedText ShapeValues = ascii "tally: line 2: expected the three values of q, n and b\n"
 expectedText Shape =

@@ -1,18 +1,17 @@
 -- What was asked for and came, and steps by what they promise.
 use mathlib.Core.Path.{_≡_}
-use mathlib.Core.Bool.{true}
+use mathlib.Core.Bool.{Bool}
 use mathlib.Core.List.{List}
 use Prim.Native.Nat.{ℕ, _+_, _≤_, _<_, min}
 use native.Mathlib.Omega.{arith}
 use lib.ListN.{length, take, length-take}
 use lib.Seq.{length-take-le}
 use Rattle.capture.specs.declared.Reader.{Reader}
-use Rattle.capture.specs.Feed.{isEnded, readLimit}
-use Rattle.program.specs.declared.Action.the-variants.{Read, Take, Close, Stop}
+use Rattle.capture.specs.Feed.{isEnded}
+use Rattle.program.specs.declared.Action.the-variants.{Take, Close, Stop}
 use Rattle.program.specs.declared.State.{State}
-use Rattle.program.specs.declared.Watch.{Watch}
 use Rattle.program.specs.declared.Taken.{Taken}
-use Rattle.program.specs.Moves.{towardOf}
+use Rattle.program.specs.Moves.{begun, towardOf}
 use Rattle.program.specs.Steps.{rank, Sound, Stepped, Took, Closing}
 use Rattle.program.proofs.Moves.{most-all, size-at, stepped-by, begun-sound, ended-stepped, taken-stepped, closed-stepped}
 
@@ -22,8 +21,8 @@ asked left want count block w e c =
     let h = length-take-le want block (omega arith) in
     (omega arith, omega arith)
 
-pub begun-there : {r : State} {at : ℕ} (w : Watch) → r ≡ record { action = Read; input = record { more = true; left = readLimit; count = 0 }; size = at; watch = w } → at ≡ 19 → Sound r
-begun-there w e a = rw (e, a) (begun-sound w)
+pub begun-there : {r : State} {at : ℕ} (error output : Bool) (second : ℕ) → r ≡ begun at error output second → at ≡ 19 → Sound r
+begun-there error output second e a = rw (e, a) (begun-sound error output second)
 
 -- ---- the output that waits has room
 pub room-out : {s : State} → Sound s → s .size ≤ 500000

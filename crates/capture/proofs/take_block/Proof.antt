@@ -46,25 +46,16 @@ loop-holds c =
     let asked = c .before .before .before .pre in
     (reading-begins _ _ _ _ (asked .0) (asked .2), length-replicate {A = ℕ} 1024 0, length-replicate {A = ℕ} 900 0)
 
-append-requires : tie.Need-append-requires Inv-loop μ-loop
-append-requires c κs = c .before .before .before .loop .inv .0 .buffer-size
-
 returns : tie.Need-returns Inv-loop μ-loop
 returns c =
     let found = c .before .before .before .before .before .before in
     let taken = block-taken (found .before .loop .inv .0) (found .find-newline .ensures) (c .before .before .before .append .ensures) (c .if1 .taken) (found .before .before .before .before .before .pre .1) in
     record { fed = taken .fed; figures = taken .figures; within = taken .within; line = taken .line; size = taken .size }
 
-add-from : tie.Need-add-from Inv-loop μ-loop
-add-from c = omega (arith, more c, start c .pre .1)
-
 glance-requires : tie.Need-glance-requires Inv-loop μ-loop
 glance-requires c κs =
     let at = c .before .before .before .before .before .before .before in
     (refl, at .before .before .before .append .ensures .size, end-few (c .before .before .before .before .before .before .line-end .ensures), at-find at .before .loop .inv .1, at-find at .before .loop .inv .2)
-
-put-line-requires : tie.Need-put-line-requires Inv-loop μ-loop
-put-line-requires c κs = room (at-end (c .before .before .before .before .before) .before)
 
 -- the outcome was known
 loop-again : tie.Need-loop-again Inv-loop μ-loop
@@ -92,4 +83,4 @@ loop-again-2 c =
     (reading-on (inv .0) (at-find at .find-newline .ensures) (at .before .before .before .append .ensures) (more at) (ended .line-end .ensures) (c .before .before .end-line .ensures), glance .ensures .1, glance .kept .1 .1 .1 .1 .1 .0 ∙ inv .2)
 
 pub take-block-spec : {M : Type 1} → statement M
-take-block-spec = tie.close (tie.spec Inv-loop μ-loop loop-holds (λ c κs. (c .loop .inv .0 .low, le-refl _)) (λ c. search needs) (λ c. search needs) (λ c. search needs) append-requires (λ c. search needs) (λ c. c .before .before .before .before .before .before .before .loop .inv .0 .out-size) returns add-from (λ c κs. search needs) (λ c. search needs) glance-requires (λ c. search needs) put-line-requires (λ c κs. search needs) (λ c. less (at-end (c .before .before .before .before .before .before .before .before .before) .before)) loop-again (λ c. search needs) end-line-requires (λ c. less (at-end (c .before .before .before .before .before .before .before) .before)) loop-again-2)
+take-block-spec = tie.close (tie.spec Inv-loop μ-loop loop-holds (λ c κs. (c .loop .inv .0 .low, le-refl _)) (λ c. search needs) (λ c. search needs) (λ c. search needs) (λ c κs. c .before .before .before .loop .inv .0 .buffer-size) (λ c. search needs) (λ c. c .before .before .before .before .before .before .before .loop .inv .0 .out-size) returns (λ c. omega (arith, more c, start c .pre .1)) (λ c κs. search needs) (λ c. search needs) glance-requires (λ c. search needs) (λ c κs. room (at-end (c .before .before .before .before .before) .before)) (λ c κs. search needs) (λ c. less (at-end (c .before .before .before .before .before .before .before .before .before) .before)) loop-again (λ c. search needs) end-line-requires (λ c. less (at-end (c .before .before .before .before .before .before .before) .before)) loop-again-2)

@@ -20,7 +20,7 @@ abbrev μ-loop : tie.MeasureT-loop
 μ-loop fd name block₀ line₀ out₀ reader₀ error output state₀ block line out reader state = measureOf state
 
 loop-holds : tie.Need-loop-holds Inv-loop μ-loop
-loop-holds c = (c .before .before .before .before .before .before .before .before .before .buffer .ensures, c .before .before .before .before .before .before .before .before .buffer2 .ensures, c .before .before .before .before .before .begin .ensures .output .size ∙ c .before .before .before .before .before .before .before .output-buffer .ensures, rw (c .before .before .before .before .before .begin .ensures .tally) start-consistent, begun-there _ (c .begin2 .ensures) (c .before .before .before .before .before .begin .ensures .at))
+loop-holds c = (c .before .before .before .before .before .before .before .before .before .buffer .ensures, c .before .before .before .before .before .before .before .before .buffer2 .ensures, c .before .before .before .before .before .begin .ensures .output .size ∙ c .before .before .before .before .before .before .before .output-buffer .ensures, rw (c .before .before .before .before .before .begin .ensures .tally) start-consistent, begun-there _ _ _ (c .begin2 .ensures) (c .before .before .before .before .before .begin .ensures .at))
 
 slice-aggregate-take : tie.Need-slice-aggregate-take Inv-loop μ-loop
 slice-aggregate-take c = sym (length-take-le _ _ (omega (arith, c .before .before .before .before .before .before .loop .inv .0, c .before .before .before .before .before .before .loop .inv .4 .block)))

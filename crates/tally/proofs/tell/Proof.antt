@@ -5,8 +5,5 @@ use borrow.Author.Needs.{needs}
 use Rattle.tally.proofs.tell.Statement.{statement}
 use Rattle.tally.proofs.tell.Tie as tie
 
-slice-aggregate-write-all : tie.Need-slice-aggregate-write-all
-slice-aggregate-write-all c = sym (length-take-le _ _ (c .before .before .pre))
-
 pub tell-spec : {M : Type 1} → statement M
-tell-spec = tie.close (tie.spec (λ c. search needs) slice-aggregate-write-all (λ c κs. search needs) (λ c. search needs))
+tell-spec = tie.close (tie.spec (λ c. search needs) (λ c. sym (length-take-le _ _ (c .before .before .pre))) (λ c κs. search needs) (λ c. search needs))

@@ -19,8 +19,5 @@ take-head-requires c κs = (c .before .before .before .before .pre .2 .head (c .
 returns-2 : tie.Need-returns-2
 returns-2 c = rw (c .before .before .before .seen2 .given .1, ← marks-part _ (c .before .before .before .before .before .before .before .args .symbols .now)) (c .take-page .ensures)
 
-returns-3 : tie.Need-returns-3
-returns-3 c = rw (c .before .enum-told .given .1) (c .take-head .ensures)
-
 pub judge-spec : {M : Type 1} → statement M
-judge-spec = tie.close (tie.spec (λ c. search needs) (λ c. search needs) (λ c. search needs) (λ c. search needs) (λ c. search needs) (λ c. search needs) part-take-page-end take-page-requires (λ c. search needs) take-head-requires (λ c. rw (c .before .seen .given .1)) returns-2 returns-3)
+judge-spec = tie.close (tie.spec (λ c. search needs) (λ c. search needs) (λ c. search needs) (λ c. search needs) (λ c. search needs) (λ c. search needs) part-take-page-end take-page-requires (λ c. search needs) take-head-requires (λ c. rw (c .before .seen .given .1)) returns-2 (λ c. rw (c .before .enum-told .given .1) (c .take-head .ensures)))

@@ -5,9 +5,6 @@ use borrow.Author.Needs.{needs}
 use Rattle.capture.proofs.output.put_answer.Statement.{statement}
 use Rattle.capture.proofs.output.put_answer.Tie as tie
 
-returns : tie.Need-returns
-returns c = rw (c .enum-told .given .1) (appended-none _ _, omega arith)
-
 returns-2 : tie.Need-returns-2
 returns-2 c = rw (c .before .before .before .before .before .answer .given .1) (c .before .before .put-line .ensures)
 
@@ -15,4 +12,4 @@ returns-3 : tie.Need-returns-3
 returns-3 c = rw (c .before .before .before .before .before .answer2 .given .1) (c .before .before .put-line2 .ensures)
 
 pub put-answer-spec : {M : Type 1} → statement M
-put-answer-spec = tie.close (tie.spec (λ c. search needs) (λ c. search needs) (λ c κs. search needs) (λ c. search needs) (λ c κs. search needs) returns (λ c. search needs) returns-2 (λ c. search needs) returns-3)
+put-answer-spec = tie.close (tie.spec (λ c. search needs) (λ c. search needs) (λ c κs. search needs) (λ c. search needs) (λ c κs. search needs) (λ c. rw (c .enum-told .given .1) (appended-none _ _, omega arith)) (λ c. search needs) returns-2 (λ c. search needs) returns-3)

@@ -13,8 +13,5 @@ returns c =
     rw (first .before .before .before .if1 .taken)
     (put-both (put-both (first .put-numbered .ensures .0) (c .before .before .before .before .before .before .before .put-numbered2 .ensures .0)) (c .before .before .put-numbered3 .ensures .0))
 
-returns-2 : tie.Need-returns-2
-returns-2 c = rw (c .if1 .left) (put-none _ _ (omega (arith, c .before .before .pre)))
-
 pub put-summary-spec : {M : Type 1} → statement M
-put-summary-spec = tie.close (tie.spec (λ c. search needs) (λ c κs. search needs) (λ c. search needs) (λ c κs. search needs) (λ c. search needs) (λ c κs. search needs) (λ c. search needs) returns returns-2)
+put-summary-spec = tie.close (tie.spec (λ c. search needs) (λ c κs. search needs) (λ c. search needs) (λ c κs. search needs) (λ c. search needs) (λ c κs. search needs) (λ c. search needs) returns (λ c. rw (c .if1 .left) (put-none _ _ (omega (arith, c .before .before .pre)))))
