@@ -54,13 +54,13 @@ pub struct Tally {
 }
 
 // What a line is answered with: nothing, the outcome of a word line, or the refusal of one of the first three.
-enum Answer {
+pub enum Answer {
     Nothing,
     Word(Outcome),
     Head(Refusal),
 }
 
-struct Judged {
+pub struct Judged {
     pub tally: Tally,
     pub answer: Answer,
 }

@@ -14,9 +14,9 @@ use Rattle.paper.specs.Paper as paper
 use Rattle.gtb.specs.declared.Shape.{Shape}
 use Rattle.session.specs.declared.Session.{Session}
 use Rattle.session.specs.Session.{pagesOf, lowestOf, consistent}
-use Rattle.conformance.proofs.Judging.{passes, Passed, judged-elim, judged-map, judged-once}
-use Rattle.conformance.proofs.Shapes.{to, lawful-of}
-use Rattle.conformance.proofs.Sessions.{decides-figures}
+use Rattle.gtb.proofs.Judging.{passes, Passed, judged-elim, judged-map, judged-once}
+use Rattle.gtb.proofs.Conditions.{to, lawful-of}
+use Rattle.session.proofs.Paper.{decides-figures}
 use Rattle.conformance.proofs.Once.{word-of, read-once, digits-once}
 
 -- our session of the paper's

@@ -25,13 +25,15 @@ use Rattle.page.specs.Page.{most, writeStatus, pageSymbols}
 use Rattle.page.proofs.Pages.{page-length}
 use Rattle.session.specs.Arrival.{isWay, wayOf, theWays}
 use Rattle.session.specs.Recording.{Sheet, Arrival, Brings}
-use Rattle.conformance.proofs.Judging.{passes}
-use Rattle.conformance.proofs.Shapes.{of, decides-width}
-use Rattle.conformance.proofs.Words.{word-digits, digits-word, codeword-stored, stored-codeword}
-use Rattle.conformance.proofs.Scratches.{scratch-length}
-use Rattle.conformance.proofs.Pages.{decides-below, decides-upto, decides-functions, page-digits}
-use Rattle.conformance.proofs.Readings.{on-check}
-use Rattle.conformance.proofs.Writes.{extracted}
+use Rattle.gtb.proofs.Judging.{passes}
+use Rattle.gtb.specs.Shape.{of}
+use Rattle.gtb.proofs.Conditions.{decides-width}
+use Rattle.gtb.proofs.Stored.{word-digits, digits-word, codeword-stored, stored-codeword}
+use Rattle.gtb.proofs.Scratches.{scratch-length}
+use Rattle.gtb.proofs.Judging.{decides-below, decides-upto}
+use Rattle.page.proofs.Paper.{decides-functions, page-digits}
+use Rattle.correction.proofs.Paper.{on-check}
+use Rattle.gtb.proofs.Places.{extracted}
 use Rattle.conformance.proofs.Rising.{data-digits}
 
 -- our page and our arrival of the paper's

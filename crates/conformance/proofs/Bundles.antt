@@ -28,12 +28,16 @@ use Rattle.batch.specs.Batch.{wordsIn, wholeRun, wordAt, batchStatus, arrivalsO
 use Rattle.batch.proofs.Runs.{run-words}
 use Rattle.batch.proofs.Outcomes.{all-values-size, values-size}
 use Rattle.batch.proofs.Demand.{arrivals-number, arrivals-at}
-use Rattle.conformance.proofs.Judging.{Decides, decides-eqb, decides-both, test}
-use Rattle.conformance.proofs.Shapes.{of, to, shape-tests}
-use Rattle.conformance.proofs.Pages.{decides-below}
-use Rattle.conformance.proofs.Readings.{clean-named, vote-named, two-named}
-use Rattle.conformance.proofs.Sessions.{session-of, decides-figures}
-use Rattle.conformance.proofs.Arrivals.{arrival}
+use Rattle.gtb.proofs.Judging.{Decides, decides-eqb, decides-both, test}
+use Rattle.gtb.specs.Shape.{of}
+use Rattle.gtb.proofs.Conditions.{to, shape-tests}
+use Rattle.gtb.proofs.Judging.{decides-below}
+use Rattle.decoder.proofs.Paper.{clean-named}
+use Rattle.majority.proofs.Paper.{vote-named}
+use Rattle.double.proofs.Paper.{two-named}
+use Rattle.session.specs.Session.{plain}
+use Rattle.session.proofs.Paper.{decides-figures}
+use Rattle.session.proofs.Arriving.{arrival}
 use Rattle.conformance.proofs.Arrived.{Kept, kept-on}
 use Rattle.conformance.proofs.Runs.{listed, listed-at, listed-length, steps-run}
 
@@ -107,7 +111,7 @@ module _ (σ : Session) (size : length (σ .taken) ≡ 1024) (k : ℕ) (words sc
 
   abbrev left : ℕ → paper.Arrived
   left i = record {
-    session = session-of (tau (suc i));
+    session = plain (tau (suc i));
     word = wordAfter (wordAt s words i) (theWays .named k .word (tau i .shape) (wordAt s words i)) (out i);
     scratch = outcomeScratch scratch (out i);
     answer = outcomeValues (out i);
@@ -119,7 +123,7 @@ module _ (σ : Session) (size : length (σ .taken) ≡ 1024) (k : ℕ) (words sc
   abbrev word-arrival : ℕ → paper.Arrival
   word-arrival i = record { way = k; word = wordAt s words i; scratch = scratch }
 
-  paper-step : (i : ℕ) → length (tau i .taken) ≡ 1024 → paper.Arriving (session-of (tau i)) (word-arrival i) (left i)
+  paper-step : (i : ℕ) → length (tau i .taken) ≡ 1024 → paper.Arriving (plain (tau i)) (word-arrival i) (left i)
   paper-step i long = arrival (tau i) long (wordAt s words i) scratch k (our-step i)
 
   our-run : Run theWays σ (arrivalsOf s k words scratch) (listed (length (arrivalsOf s k words scratch)) out) (tau (length (arrivalsOf s k words scratch)))
@@ -127,8 +131,8 @@ module _ (σ : Session) (size : length (σ .taken) ≡ 1024) (k : ℕ) (words sc
       steps-run (arrivalsOf s k words scratch) tau out
       (record { each = λ j l. (left j .word, left j .scratch, rw (arrivals-at s k words scratch j (rw (arrivals-number s k words scratch) at l)) (our-step j)) })
 
-  module _ (right : ¬ paper.WrongFigures (session-of σ)) where
-    keeps : (i : ℕ) → Kept (of s) (session-of (tau i))
+  module _ (right : ¬ paper.WrongFigures (plain σ)) where
+    keeps : (i : ℕ) → Kept (of s) (plain (tau i))
     keeps zero = record { shape = refl; size = size; figures = right }
     keeps (suc i) = kept-on (word-arrival i) (keeps i) (paper-step i (keeps i .size))
 
@@ -136,7 +140,7 @@ module _ (σ : Session) (size : length (σ .taken) ≡ 1024) (k : ℕ) (words sc
     same-shape i = ap to (keeps i .shape)
 
     delivered : {words′ scratch′ outcomes′ : List ℕ} {end : Session} → Lawful s → wholeRun s words ≡ true → Arrivals σ k words scratch words′ scratch′ outcomes′ end
-        → paper.Delivered (session-of σ) k words scratch (session-of end) words′ scratch′ outcomes′
+        → paper.Delivered (plain σ) k words scratch (plain end) words′ scratch′ outcomes′
     delivered {words′} {scratch′} {outcomes′} {end} law whole a =
         let w = run-words s law words whole in
         let n = arrivals-number s k words scratch in
@@ -147,12 +151,12 @@ module _ (σ : Session) (size : length (σ .taken) ≡ 1024) (k : ℕ) (words sc
         record {
           number = wordsIn s words;
           run = (w .some, w .few, w .size);
-          before = λ i. session-of (tau i);
+          before = λ i. plain (tau i);
           left = left;
           first = refl;
           each = λ i l. paper-step i (keeps i .size);
           next = λ i l. refl;
-          last = ap (λ (i : ℕ). session-of (tau i)) (sym n) ∙ ap session-of (sym end-is);
+          last = ap (λ (i : ℕ). plain (tau i)) (sym n) ∙ ap plain (sym end-is);
           size = a .size;
           word = λ i l.
               a .word i l
@@ -168,10 +172,10 @@ module _ (σ : Session) (size : length (σ .taken) ≡ 1024) (k : ℕ) (words sc
   -- ---- the call
   module _ {outcomes words′ scratch′ outcomes′ : List ℕ} {r : Delivered} (x : Batching σ k words scratch outcomes words′ scratch′ outcomes′ r) where
     turn : (e : Refusal) → r .status ≡ Refused e
-        → (statusNumber (r .status) ≡ paper.refusal (refusalNumber e)) × (session-of (r .session) ≡ session-of σ) × (words′ ≡ words) × (scratch′ ≡ scratch) × (outcomes′ ≡ outcomes)
-    turn e h = let (kept, same, used, list) = x .refused e h in (ap statusNumber h, ap session-of kept, same, used, list)
+        → (statusNumber (r .status) ≡ paper.refusal (refusalNumber e)) × (plain (r .session) ≡ plain σ) × (words′ ≡ words) × (scratch′ ≡ scratch) × (outcomes′ ≡ outcomes)
+    turn e h = let (kept, same, used, list) = x .refused e h in (ap statusNumber h, ap plain kept, same, used, list)
 
-    pub bundling : paper.Bundling (session-of σ) k words scratch outcomes (session-of (r .session)) words′ scratch′ outcomes′ (statusNumber (r .status))
+    pub bundling : paper.Bundling (plain σ) k words scratch outcomes (plain (r .session)) words′ scratch′ outcomes′ (statusNumber (r .status))
     unfolding batchStatus arrivalStatus sessionStatus scratchLength keptChecks
     bundling =
         test (isWay k) _ _ (decides-way k) (turn Refusal.Shape) (λ known.

@@ -9,8 +9,8 @@ use lib.ListN.{getD, drop}
 use lib.Seq.{ext-getD, getD-take, getD-drop}
 use Rattle.paper.specs.Paper as paper
 use Rattle.batch.proofs.Runs.{word-positive}
-use Rattle.conformance.proofs.Judging.{judged-once}
-use Rattle.conformance.proofs.Shapes.{to, lawful-of}
+use Rattle.gtb.proofs.Judging.{judged-once}
+use Rattle.gtb.proofs.Conditions.{to, lawful-of}
 use Rattle.conformance.proofs.Arrived.{arrival-once}
 
 -- a digit of a run stands in one of its words

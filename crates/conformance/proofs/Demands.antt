@@ -30,9 +30,10 @@ use Rattle.session.specs.Claim.{hasNumber, come, answerTo, isTaken, Demand3}
 use Rattle.session.proofs.Demand.{made, made-begins, demand3-ways}
 use Rattle.session.proofs.Ways.{all-sound}
 use Rattle.session.proofs.Fits.{sheet-opened}
-use Rattle.conformance.proofs.Shapes.{of, to}
-use Rattle.conformance.proofs.Sessions.{session-of}
-use Rattle.conformance.proofs.Arrivals.{marks-for}
+use Rattle.gtb.specs.Shape.{of}
+use Rattle.gtb.proofs.Conditions.{to}
+use Rattle.session.specs.Session.{plain}
+use Rattle.session.proofs.Taken.{marks-for}
 use Rattle.conformance.proofs.Bringing.{to-sheet, accepted-page, brings-to, brings-from}
 use Rattle.conformance.proofs.Runs as runs
 
@@ -164,7 +165,7 @@ module _ (s : Shape) (arrivals : List paper.Arrival) (session : ℕ → paper.Se
     long : (m : ℕ) → m ≤ length arrivals → length (take m arrivals′) ≡ m
     long m lm = length-take-le m arrivals′ (rw size lm)
 
-    same : (m : ℕ) → m ≤ length arrivals → session m ≡ session-of (runs.σ s arrivals m)
+    same : (m : ℕ) → m ≤ length arrivals → session m ≡ plain (runs.σ s arrivals m)
     same = runs.same-session s arrivals session answer run
 
     same-answer : (j : ℕ) → j < length arrivals → answer j ≡ outcomeValues (out j)
@@ -181,7 +182,7 @@ module _ (s : Shape) (arrivals : List paper.Arrival) (session : ℕ → paper.Se
     figures m lm =
         let (pages-are, lowest-is) = runs.ours s arrivals session answer run .figures m (rw size lm) _ _ (runs.first-run s arrivals m lm) in
         let low = lowest-right 1024 (has m) in
-        let here : session m ≡ session-of (runs.σ s arrivals (length (take m arrivals′))) = same m lm ∙ ap (λ (n : ℕ). session-of (runs.σ s arrivals n)) (sym (long m lm)) in (
+        let here : session m ≡ plain (runs.σ s arrivals (length (take m arrivals′))) = same m lm ∙ ap (λ (n : ℕ). plain (runs.σ s arrivals n)) (sym (long m lm)) in (
           ap (λ (τ : paper.Session). τ .pages) here ∙ pages-are,
           subst (paper.Lowest (has m)) (sym (ap (λ (τ : paper.Session). τ .lowest) here ∙ lowest-is)) (record { upto = low .upto; below = low .below; fails = low .fails }),
         )

@@ -1,4 +1,4 @@
--- What the documents say follows: how far stored words are apart, when 14 never comes, and which proposals get yes (N2, N10, N14).
+-- What the documents say follows: how far stored words are apart, when 13 and 14 never come, and which proposals get yes (N2, N10, N14).
 use mathlib.Core.Path.{_≡_, refl, sym, _∙_}
 use mathlib.Core.List.{List}
 use mathlib.Core.Logic.{inl, inr, ⊎-elim, _≢_}
@@ -15,10 +15,12 @@ use Rattle.distance.specs.Distance.{differences, minimumDistance}
 use Rattle.distance.proofs.Distance.{distance, few-unambiguous}
 use Rattle.erasure.specs.Fill.{isListed}
 use Rattle.erasure.proofs.Lists.{rising-places, listed-count}
-use Rattle.conformance.proofs.Judging.{passes, judged-elim}
-use Rattle.conformance.proofs.Shapes.{to, lawful-of}
-use Rattle.conformance.proofs.Words.{stored-codeword, changed-same}
-use Rattle.conformance.proofs.Fills.{decides-places, paper-agrees}
+use Rattle.erasure.proofs.Examples.{zeros, zeros-codeword}
+use Rattle.gtb.proofs.Judging.{passes, judged-elim}
+use Rattle.gtb.proofs.Conditions.{to, lawful-of}
+use Rattle.gtb.proofs.Stored.{codeword-stored, stored-codeword}
+use Rattle.distance.proofs.Within.{changed-same}
+use Rattle.erasure.proofs.Paper.{decides-places, paper-agrees}
 
 module _ (s : paper.Shape) (listed : ¬ (¬ paper.InLists s)) (right : ¬ paper.WrongSlopes s) where
   law : Lawful (to s)
@@ -45,26 +47,41 @@ most-changed : (s : paper.Shape) (word w : List ℕ) → paper.changed s word w 
 unfolding changed
 most-changed s word w = count-bound (paper.N s) _
 
+-- the number of digits changed is no refusal
+no-refusal : (s : paper.Shape) → ¬ (¬ paper.InLists s) → ¬ paper.WrongSlopes s → (word w : List ℕ) {r : ℕ} (k : ℕ) → r ≡ paper.changed s word w → r ≡ paper.refusal k → ⊥
+no-refusal s listed right word w {r} k h e =
+    let most : paper.changed s word w ≤ wordLength (to s) = most-changed s word w in
+    let all = sizes (to s) (lawful-of (to s) listed right) .word in
+    let big : r ≡ 2 ^ 31 + k = e in
+    omega arith
+
+other : {r : ℕ} (k m : ℕ) → (k ≡ m → ⊥) → r ≡ paper.refusal k → r ≡ paper.refusal m → ⊥
+other k m differ h e = let a : _ ≡ 2 ^ 31 + k = h in let b : _ ≡ 2 ^ 31 + m = e in differ (omega arith)
+
 -- with fewer than 2 n places 14 never comes: n places are (N2), and three or five (N14)
 pub never-14 : (s : paper.Shape) (word places scratch : List ℕ) {w x : List ℕ} {r : ℕ} → length places < 2 * s .n → paper.Filling s word places scratch w x r → r ≢ paper.refusal 14
-never-14 s word places scratch few (inl (c, p)) e = let h : _ ≡ 2 ^ 31 + 1 = p .0 in omega arith
-never-14 s word places scratch few (inr (listed, inl (c, p))) e = let h : _ ≡ 2 ^ 31 + 18 = p .0 in omega arith
-never-14 s word places scratch few (inr (listed, inr (right, inl (c, p)))) e = let h : _ ≡ 2 ^ 31 + 2 = p .0 in omega arith
-never-14 s word places scratch few (inr (listed, inr (right, inr (size, inl (c, p))))) e = let h : _ ≡ 2 ^ 31 + 3 = p .0 in omega arith
-never-14 s word places scratch few (inr (listed, inr (right, inr (size, inr (slim, inl (c, p)))))) e = let h : _ ≡ 2 ^ 31 + 12 = p .0 in omega arith
-never-14 s word places scratch few (inr (listed, inr (right, inr (size, inr (slim, inr (up, inl (c, p))))))) e = let h : _ ≡ 2 ^ 31 + 13 = p .0 in omega arith
+never-14 s word places scratch few (inl (c, p)) e = other 1 14 (λ z. omega arith) (p .0) e
+never-14 s word places scratch few (inr (listed, inl (c, p))) e = other 18 14 (λ z. omega arith) (p .0) e
+never-14 s word places scratch few (inr (listed, inr (right, inl (c, p)))) e = other 2 14 (λ z. omega arith) (p .0) e
+never-14 s word places scratch few (inr (listed, inr (right, inr (size, inl (c, p))))) e = other 3 14 (λ z. omega arith) (p .0) e
+never-14 s word places scratch few (inr (listed, inr (right, inr (size, inr (slim, inl (c, p)))))) e = other 12 14 (λ z. omega arith) (p .0) e
+never-14 s word places scratch few (inr (listed, inr (right, inr (size, inr (slim, inr (up, inl (c, p))))))) e = other 13 14 (λ z. omega arith) (p .0) e
 never-14 s word places scratch few (inr (listed, inr (right, inr (size, inr (slim, inr (up, inr (some, inl (two, p)))))))) e =
     let (v, w, a, b, differ) = two in
     differ (one-agrees s listed right word places few up a b)
-never-14 s word places scratch {w} few (inr (listed, inr (right, inr (size, inr (slim, inr (up, inr (some, inr (single, p)))))))) e =
-    small s listed right word w (p .1) e
-  where
-    small : (s : paper.Shape) → ¬ (¬ paper.InLists s) → ¬ paper.WrongSlopes s → (word w : List ℕ) {r : ℕ} → r ≡ paper.changed s word w → r ≡ paper.refusal 14 → ⊥
-    small s listed right word w {r} h e =
-        let most : paper.changed s word w ≤ wordLength (to s) = most-changed s word w in
-        let all = sizes (to s) (lawful-of (to s) listed right) .word in
-        let big : r ≡ 2 ^ 31 + 14 = e in
-        omega arith
+never-14 s word places scratch {w} few (inr (listed, inr (right, inr (size, inr (slim, inr (up, inr (some, inr (single, p)))))))) e = no-refusal s listed right word w 14 (p .1) e
+
+-- with every place listed 13 never comes: the zero word agrees
+pub never-13 : (s : paper.Shape) (word places scratch : List ℕ) {w x : List ℕ} {r : ℕ} → ((j : ℕ) → j < paper.N s → paper._∈_ j places) → paper.Filling s word places scratch w x r → r ≢ paper.refusal 13
+never-13 s word places scratch every (inl (c, p)) e = other 1 13 (λ z. omega arith) (p .0) e
+never-13 s word places scratch every (inr (listed, inl (c, p))) e = other 18 13 (λ z. omega arith) (p .0) e
+never-13 s word places scratch every (inr (listed, inr (right, inl (c, p)))) e = other 2 13 (λ z. omega arith) (p .0) e
+never-13 s word places scratch every (inr (listed, inr (right, inr (size, inl (c, p))))) e = other 3 13 (λ z. omega arith) (p .0) e
+never-13 s word places scratch every (inr (listed, inr (right, inr (size, inr (slim, inl (c, p)))))) e = other 12 13 (λ z. omega arith) (p .0) e
+never-13 s word places scratch every (inr (listed, inr (right, inr (size, inr (slim, inr (up, inl (none, p))))))) e =
+    none (zeros (to s)) (record { stored = codeword-stored (to s) (zeros-codeword (to s)); same = λ j l out. absurd (out (every j l)) })
+never-13 s word places scratch every (inr (listed, inr (right, inr (size, inr (slim, inr (up, inr (some, inl (two, p)))))))) e = other 14 13 (λ z. omega arith) (p .0) e
+never-13 s word places scratch {w} every (inr (listed, inr (right, inr (size, inr (slim, inr (up, inr (some, inr (single, p)))))))) e = no-refusal s listed right word w 13 (p .1) e
 
 -- ---- yes exactly for the word that clean reading gives (N10)
 module _ (s : paper.Shape) (word proposal : List ℕ) where

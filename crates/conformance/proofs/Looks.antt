@@ -1,56 +1,13 @@
--- How many checks of a digit are looked at is what the paper asks, and is determined.
-use mathlib.Core.Path.{_≡_, sym, ap, _∙_, subst}
-use mathlib.Core.Bool.{_&&_}
+-- How many checks of a digit are looked at is determined.
+use mathlib.Core.Path.{_≡_, sym, _∙_}
 use mathlib.Core.List.{List}
-use Prim.Native.Nat.{ℕ, _+_, _-_, _^_, _<_, _≤_}
+use Prim.Native.Nat.{ℕ, _-_, _<_, _≤_}
 use native.Mathlib.Omega.{arith}
 use native.Mathlib.Decide.{decLt}
-use lib.Dec.{eqb}
-use lib.ListN.{length, getD}
 use lib.Seq.{ext-getD}
-use Rattle.parity.proofs.Lists.{length-tabulate, at-tabulate}
 use Rattle.paper.specs.Paper as paper
-use Rattle.gtb.specs.declared.Shape.{Shape}
-use Rattle.gtb.specs.declared.Refusal.{Refusal}
-use Rattle.gtb.specs.declared.Status.{Status}
-use Rattle.gtb.specs.declared.Status.the-variants as status
-use Rattle.gtb.specs.Shape.{Lawful, wordLength}
-use Rattle.gtb.specs.Square.{at, narrow}
-use Rattle.gtb.specs.Answer.{refusalNumber, statusNumber}
-use Rattle.decoder.specs.Looking.{lookedAt, lookingOf, lookedLeft, Looking}
-use Rattle.decoder.proofs.Judging.{looked-bounds, located-looked}
-use Rattle.conformance.proofs.Judging.{decides-eqb, decides-both, test, judged-once}
-use Rattle.conformance.proofs.Shapes.{of, shape-tests, decides-width}
-use Rattle.conformance.proofs.Readings.{on-check}
+use Rattle.gtb.proofs.Judging.{judged-once}
 
-module _ (s : Shape) (w : List ℕ) where
-  looked-at : Lawful s → (j : ℕ) → paper.Looked (of s) w j (lookedAt s (at w) j)
-  looked-at law j =
-      let l = located-looked s (at w) j in
-      record {
-        some = looked-bounds s (at w) j law;
-        loud = λ t lt none. l .before t (omega arith) (on-check s w t j ∙ none);
-        silent = λ lt. sym (on-check s w (lookedAt s (at w) j - 1) j) ∙ l .short lt;
-      }
-
-  module _ {list list′ : List ℕ} {r : Status} (x : Looking s w list list′ r) where
-    turn : (e : Refusal) → r ≡ status.Refused e → (statusNumber r ≡ 2 ^ 31 + refusalNumber e) × (list′ ≡ list)
-    turn e h = (ap statusNumber h, x .left ∙ ap (lookedLeft s w list) h)
-
-    pub looking : paper.Looking (of s) w list list′ (statusNumber r)
-    unfolding lookingOf
-    looking =
-        shape-tests s status.Refused _ (turn Refusal.Shape) (turn Refusal.Slope) (λ law.
-        test (eqb (length w) (wordLength s) && eqb (length list) (wordLength s)) _ _ (decides-both _ _ (decides-eqb _ _) (decides-eqb _ _)) (turn Refusal.Length) (λ _.
-        test (narrow (s .b) w) _ _ (decides-width s w) (turn Refusal.Width) (λ _ h.
-        let left = x .left ∙ ap (lookedLeft s w list) h in (
-          ap statusNumber h,
-          ap length left ∙ length-tabulate (wordLength s) _,
-          λ j l. subst (paper.Looked (of s) w j) (sym (ap (λ (xs : List ℕ). getD xs j 0) left ∙ at-tabulate (wordLength s) (lookedAt s (at w)) j l)) (looked-at law j),
-        ))))
-        (x .answer)
-
--- ---- one number, so one outcome
 fewer : {s : paper.Shape} {w : List ℕ} {j a b : ℕ} → paper.Looked s w j a → paper.Looked s w j b → a < b → ⊥
 fewer {s} {w} {j} {a} {b} x y l =
     let some = x .some .0 in

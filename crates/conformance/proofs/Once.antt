@@ -20,10 +20,14 @@ use Rattle.correction.proofs.Readings.{Meant}
 use Rattle.decoder.proofs.Meaning.{clean-meant}
 use Rattle.majority.proofs.Meaning.{vote-meant}
 use Rattle.double.proofs.Meaning.{two-meant}
-use Rattle.conformance.proofs.Judging.{passes, equal, judged-once}
-use Rattle.conformance.proofs.Shapes.{of, to, lawful-of, decides-width}
-use Rattle.conformance.proofs.Words.{stored-codeword}
-use Rattle.conformance.proofs.Readings.{Named, clean-named, vote-named, two-named}
+use Rattle.gtb.proofs.Judging.{passes, equal, judged-once}
+use Rattle.gtb.specs.Shape.{of}
+use Rattle.gtb.proofs.Conditions.{to, lawful-of, decides-width}
+use Rattle.gtb.proofs.Stored.{stored-codeword}
+use Rattle.correction.proofs.Paper.{Named}
+use Rattle.decoder.proofs.Paper.{clean-named}
+use Rattle.majority.proofs.Paper.{vote-named}
+use Rattle.double.proofs.Paper.{two-named}
 use Rattle.conformance.proofs.Rising.{data-digits}
 use Rattle.conformance.proofs.Bringing.{page-unique}
 

@@ -13,8 +13,8 @@ use Rattle.gtb.specs.Shape.{Lawful, infoLength}
 use Rattle.gtb.specs.Square.{at}
 use Rattle.gtb.specs.Positions.{infoPosition, extractOf}
 use Rattle.gtb.proofs.Positions.{information-positions}
-use Rattle.conformance.proofs.Writes.{dependent-place, place-dependent}
-use Rattle.conformance.proofs.Shapes.{of}
+use Rattle.gtb.proofs.Places.{dependent-place, place-dependent}
+use Rattle.gtb.specs.Shape.{of}
 
 pub record Rises (a : ℕ) (f : ℕ → ℕ) : Type 0 where
   pub up : (i k : ℕ) → i < k → k < a → f i < f k

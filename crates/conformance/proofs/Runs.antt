@@ -24,18 +24,14 @@ use Rattle.session.specs.Recording.{Arrival, arrivalAt}
 use Rattle.session.specs.Claim.{Run, stop, step, EveryList}
 use Rattle.session.proofs.Progress.{fresh-consistent}
 use Rattle.session.proofs.Demand.{every-list-ways}
-use Rattle.conformance.proofs.Judging.{judged-elim}
-use Rattle.conformance.proofs.Shapes.{of, lawful-of, shape-tests}
-use Rattle.conformance.proofs.Sessions.{session-of, decides-figures}
-use Rattle.conformance.proofs.Arrivals.{arrival}
+use Rattle.gtb.proofs.Judging.{judged-elim}
+use Rattle.gtb.specs.Shape.{of}
+use Rattle.gtb.proofs.Conditions.{lawful-of, shape-tests}
+use Rattle.session.specs.Session.{plain}
+use Rattle.session.proofs.Paper.{decides-figures}
+use Rattle.session.proofs.Arriving.{arrival}
 use Rattle.conformance.proofs.Bringing.{to-arrival}
 use Rattle.conformance.proofs.Arrived.{Kept, kept-on, arrival-once, turned-arriving, arriving-turned}
-
--- ---- the fresh session
-pub beginning : (s : Shape) (r : Fresh) → Beginning s r → paper.Beginning (of s) (session-of (r .session)) (statusNumber (r .status))
-unfolding freshStatus freshOf
-beginning s r x =
-    shape-tests s status.Refused _ (ap statusNumber) (ap statusNumber) (λ _ h. (ap statusNumber h, ap session-of (x .session))) (x .status)
 
 -- ---- answers by their values
 pub starts-refused : (r : Outcome) → getD (outcomeValues r) 0 0 ≡ 2 → (e : Refusal) × (r ≡ Refused e)
@@ -102,7 +98,7 @@ module _ (s : Shape) (arrivals : List paper.Arrival) where
   -- what arrival j leaves
   abbrev left : ℕ → paper.Arrived
   left j = record {
-    session = session-of (σ (suc j));
+    session = plain (σ (suc j));
     word = wordAfter (paper.arrivalAt arrivals j .word) (theWays .named (paper.arrivalAt arrivals j .way) .word (σ j .shape) (paper.arrivalAt arrivals j .word)) (out j);
     scratch = outcomeScratch (paper.arrivalAt arrivals j .scratch) (out j);
     answer = outcomeValues (out j);
@@ -112,14 +108,14 @@ module _ (s : Shape) (arrivals : List paper.Arrival) where
       → Arriving theWays (σ j) (paper.arrivalAt arrivals j .way) (paper.arrivalAt arrivals j .word) (paper.arrivalAt arrivals j .scratch) (left j .word) (left j .scratch) (record { session = σ (suc j); outcome = out j })
   our-step j = record { outcome = refl; session = refl; wordLeft = refl; scratchLeft = refl }
 
-  paper-step : (j : ℕ) → length (σ j .taken) ≡ 1024 → paper.Arriving (session-of (σ j)) (paper.arrivalAt arrivals j) (left j)
+  paper-step : (j : ℕ) → length (σ j .taken) ≡ 1024 → paper.Arriving (plain (σ j)) (paper.arrivalAt arrivals j) (left j)
   paper-step j size = arrival (σ j) size (paper.arrivalAt arrivals j .word) (paper.arrivalAt arrivals j .scratch) (paper.arrivalAt arrivals j .way) (our-step j)
 
-  fresh-kept : Kept (of s) (session-of (freshOf s))
+  fresh-kept : Kept (of s) (plain (freshOf s))
   unfolding freshOf
   fresh-kept = record { shape = refl; size = refl; figures = decides-figures (freshOf s) .fails (fresh-consistent s) }
 
-  pub keeps : (j : ℕ) → Kept (of s) (session-of (σ j))
+  pub keeps : (j : ℕ) → Kept (of s) (plain (σ j))
   keeps zero = fresh-kept
   keeps (suc j) = kept-on (paper.arrivalAt arrivals j) (keeps j) (paper-step j (keeps j .size))
 
@@ -139,15 +135,15 @@ module _ (s : Shape) (arrivals : List paper.Arrival) where
   first-run m lm = steps-run (take m arrivals′) σ out (steps-first m arrivals′ σ out (rw size lm) steps)
 
   -- an arrival that is turned down by what was handed in is answered so
-  pub turned-out : (j k : ℕ) → paper.TurnedDown (of s) (paper.arrivalAt arrivals j) k → (outcomeValues (out j) ≡ 2 ∷ k ∷ 0 ∷ []) × (session-of (σ (suc j)) ≡ session-of (σ j))
+  pub turned-out : (j k : ℕ) → paper.TurnedDown (of s) (paper.arrivalAt arrivals j) k → (outcomeValues (out j) ≡ 2 ∷ k ∷ 0 ∷ []) × (plain (σ (suc j)) ≡ plain (σ j))
   turned-out j k down =
-      turned-arriving (session-of (σ j)) (paper.arrivalAt arrivals j) (keeps j .figures)
+      turned-arriving (plain (σ j)) (paper.arrivalAt arrivals j) (keeps j .figures)
       (subst (λ (z : paper.Shape). paper.TurnedDown z (paper.arrivalAt arrivals j) k) (sym (keeps j .shape)) down) (paper-step j (keeps j .size))
 
   out-turned : (j k : ℕ) → k ≢ 9 → outcomeValues (out j) ≡ 2 ∷ k ∷ 0 ∷ [] → paper.TurnedDown (of s) (paper.arrivalAt arrivals j) k
   out-turned j k other is =
       subst (λ (z : paper.Shape). paper.TurnedDown z (paper.arrivalAt arrivals j) k) (keeps j .shape)
-      (arriving-turned (session-of (σ j)) (paper.arrivalAt arrivals j) (keeps j .figures) k other is (paper-step j (keeps j .size)))
+      (arriving-turned (plain (σ j)) (paper.arrivalAt arrivals j) (keeps j .figures) k other is (paper-step j (keeps j .size)))
 
   pub answer-at : (j : ℕ) → j < length arrivals′ → getD (listed (length arrivals′) out) j (Refused Refusal.Shape) ≡ out j
   answer-at j l = listed-at (length arrivals′) out j _ l
@@ -160,18 +156,18 @@ module _ (s : Shape) (arrivals : List paper.Arrival) where
     pub law : Lawful s
     law = judged-elim (paper.freshTests (of s)) (λ k. 0 ≡ paper.refusal k) _ (Lawful s) (λ k h. refused-not k h) (λ passed _. let (listed, (right, none)) = passed in lawful-of s listed right) (run .first)
 
-    at-first : session 0 ≡ session-of (freshOf s)
+    at-first : session 0 ≡ plain (freshOf s)
     unfolding freshOf
     at-first = judged-elim (paper.freshTests (of s)) (λ k. 0 ≡ paper.refusal k) _ (session 0 ≡ paper.fresh (of s)) (λ k h. refused-not k h) (λ _ x. x .1) (run .first)
 
-    at-next : (j : ℕ) → j < length arrivals → session j ≡ session-of (σ j) → (session (suc j) ≡ session-of (σ (suc j))) × (answer j ≡ outcomeValues (out j))
+    at-next : (j : ℕ) → j < length arrivals → session j ≡ plain (σ j) → (session (suc j) ≡ plain (σ (suc j))) × (answer j ≡ outcomeValues (out j))
     at-next j l same =
         let (word′, scratch′, h) = run .next j l in
         let x : paper.Arrived = record { session = session (suc j); word = word′; scratch = scratch′; answer = answer j } in
-        let e : x ≡ left j = arrival-once (session-of (σ j)) (paper.arrivalAt arrivals j) (subst (λ (τ : paper.Session). paper.Arriving τ (paper.arrivalAt arrivals j) x) same h) (paper-step j (keeps j .size)) in
+        let e : x ≡ left j = arrival-once (plain (σ j)) (paper.arrivalAt arrivals j) (subst (λ (τ : paper.Session). paper.Arriving τ (paper.arrivalAt arrivals j) x) same h) (paper-step j (keeps j .size)) in
         (ap (λ (y : paper.Arrived). y .session) e, ap (λ (y : paper.Arrived). y .answer) e)
 
-    pub same-session : (m : ℕ) → m ≤ length arrivals → session m ≡ session-of (σ m)
+    pub same-session : (m : ℕ) → m ≤ length arrivals → session m ≡ plain (σ m)
     same-session zero l = at-first
     same-session (suc j) l = at-next j l (same-session j (le-of-lt l)) .0
 

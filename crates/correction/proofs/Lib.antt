@@ -11,3 +11,4 @@ pub mod Readings
 pub mod Near
 pub mod Guessing
 pub mod Slopes
+pub mod Paper

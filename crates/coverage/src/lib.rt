@@ -8,7 +8,9 @@ ghost use mathlib.Core.Path.{_≡_};
 ghost use lib.Dec.{ltb};
 ghost use lib.ListN.{length};
 ghost use Rattle.parity.specs.Count.{bit};
-ghost use Rattle.coverage.specs.Coverage.{Covering};
+ghost use Rattle.paper.specs.Requests as paper;
+ghost use Rattle.session.specs.Session.{plain};
+ghost use Rattle.coverage.specs.Coverage.{coveredNumber, Covering};
 ghost use Rattle.coverage.specs.Steps.{Marking};
 
 // The answer of the viewer: how many functions were called.
@@ -19,7 +21,8 @@ pub enum Covered {
 
 // Tests 1, 18, 11, then 2; only after these is the slice written to: a yes or no for each function.
 pub fn cover(session: Session, bytes: &mut [u8]) -> Covered
-    ensures { λ r. ⌜ Covering session (now (bytes .entry)) (now (bytes .exit)) r ⌝ }
+    ensures covered { λ r. ⌜ Covering session (now (bytes .entry)) (now (bytes .exit)) r ⌝ }
+    ensures paper { λ r. ⌜ paper.Covering (plain session) (now (bytes .entry)) (now (bytes .exit)) (coveredNumber r) ⌝ }
 {
     if let Status::Refused(e) = session.status() {
         return Covered::Refused(e);

@@ -7,3 +7,4 @@ pub mod Clean
 pub mod Meaning
 pub mod Judging
 pub mod Alikes
+pub mod Paper

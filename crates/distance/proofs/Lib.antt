@@ -9,3 +9,4 @@ pub mod Sharp
 pub mod Near
 pub mod Between
 pub mod Examples
+pub mod Within

@@ -8,3 +8,4 @@ pub mod Finding
 pub mod Trials
 pub mod Alikes
 pub mod Examples
+pub mod Paper

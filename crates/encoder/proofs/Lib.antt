@@ -12,3 +12,4 @@ pub mod Stacks
 pub mod Upper
 pub mod Codewords
 pub mod Alikes
+pub mod Paper

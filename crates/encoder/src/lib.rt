@@ -13,7 +13,9 @@ ghost use mathlib.Core.Path.{_≡_};
 ghost use mathlib.Core.Bool.{true, _&&_};
 ghost use lib.Dec.{eqb};
 ghost use lib.ListN.{length};
-ghost use Rattle.gtb.specs.Shape.{Lawful, wordLength, infoLength, scratchLength};
+ghost use Rattle.paper.specs.Writing as paper;
+ghost use Rattle.gtb.specs.Answer.{statusNumber};
+ghost use Rattle.gtb.specs.Shape.{of, Lawful, wordLength, infoLength, scratchLength};
 ghost use Rattle.gtb.specs.Square.{narrow};
 ghost use Rattle.gtb.specs.Positions.{Encodes};
 ghost use Rattle.encoder.specs.Contract.{Encoding, Extraction};
@@ -76,7 +78,8 @@ fn write(shape: Shape, symbols: &[u32], word: &mut [u32])
 
 // Writing: the codeword with these information symbols. The scratch is only cleared.
 pub fn encode(shape: Shape, symbols: &[u32], scratch: &mut [u32], word: &mut [u32]) -> Status
-    ensures { λ r. ⌜ Encoding shape (now (symbols .entry)) (now (scratch .entry)) (now (word .entry)) (now (scratch .exit)) (now (word .exit)) r ⌝ }
+    ensures written { λ r. ⌜ Encoding shape (now (symbols .entry)) (now (scratch .entry)) (now (word .entry)) (now (scratch .exit)) (now (word .exit)) r ⌝ }
+    ensures paper { λ r. ⌜ paper.Writing (of shape) (now (symbols .entry)) (now (scratch .entry)) (now (word .entry)) (now (scratch .exit)) (now (word .exit)) (statusNumber r) ⌝ }
 {
     if !gtb::is_lawful(shape) {
         return Status::Refused(gtb::shape_refusal(shape));
@@ -93,7 +96,8 @@ pub fn encode(shape: Shape, symbols: &[u32], scratch: &mut [u32], word: &mut [u3
 
 // Data extraction, of any word. The scratch is only cleared.
 pub fn extract(shape: Shape, word: &[u32], scratch: &mut [u32], symbols: &mut [u32]) -> Status
-    ensures { λ r. ⌜ Extraction shape (now (word .entry)) (now (scratch .entry)) (now (symbols .entry)) (now (scratch .exit)) (now (symbols .exit)) r ⌝ }
+    ensures extracted { λ r. ⌜ Extraction shape (now (word .entry)) (now (scratch .entry)) (now (symbols .entry)) (now (scratch .exit)) (now (symbols .exit)) r ⌝ }
+    ensures paper { λ r. ⌜ paper.Extraction (of shape) (now (word .entry)) (now (scratch .entry)) (now (symbols .entry)) (now (scratch .exit)) (now (symbols .exit)) (statusNumber r) ⌝ }
 {
     if !gtb::is_lawful(shape) {
         return Status::Refused(gtb::shape_refusal(shape));

@@ -1,3 +1,4 @@
 pub mod Sums
 pub mod Examples
 pub mod Recording
+pub mod Paper

@@ -7,7 +7,9 @@ use session::Session;
 ghost use mathlib.Core.Path.{_≡_};
 ghost use Prim.Native.Nat.{_*_};
 ghost use lib.ListN.{length, getD};
-ghost use Rattle.energy.specs.Energy.{millis, roundedUp, due, billOf};
+ghost use Rattle.paper.specs.Requests.{Billing};
+ghost use Rattle.session.specs.Session.{plain};
+ghost use Rattle.energy.specs.Energy.{millis, roundedUp, due, billOf, billedNumber};
 
 // The answer of a bill.
 pub enum Billed {
@@ -17,7 +19,8 @@ pub enum Billed {
 
 // Tests 1, 18, 11, 2, then 19. A price is in thousandths of a picojoule a call; that of function 0 has no bearing.
 pub fn bill(session: Session, prices: &[u32]) -> Billed
-    ensures { λ r. ⌜ r ≡ billOf session (now (prices .entry)) ⌝ }
+    ensures billed { λ r. ⌜ r ≡ billOf session (now (prices .entry)) ⌝ }
+    ensures paper { λ r. ⌜ Billing (plain session) (now (prices .entry)) (billedNumber r) ⌝ }
 {
     if let Status::Refused(e) = session.status() {
         return Billed::Refused(e);

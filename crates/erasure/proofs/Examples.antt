@@ -38,13 +38,13 @@ use Rattle.erasure.proofs.Lists.{rising-places, listed-count}
 use Rattle.erasure.proofs.Filling.{tests-pass}
 
 -- ---- zeros with a 1 at position j
-abbrev zeros : Shape → List ℕ
+abbrev pub zeros : Shape → List ℕ
 zeros s = tabulate (wordLength s) (λ i. 0)
 
 abbrev oneAt : Shape → ℕ → List ℕ
 oneAt s j = tabulate (wordLength s) (λ i. bit (eqb i j))
 
-zeros-codeword : (s : Shape) → Codeword s (zeros s)
+pub zeros-codeword : (s : Shape) → Codeword s (zeros s)
 unfolding syndrome
 zeros-codeword s = record {
   word = tabulate-word s (λ i. 0) (λ i l. pow-pos (s .b));

@@ -8,3 +8,4 @@ pub mod Answers
 pub mod Filling
 pub mod Alikes
 pub mod Examples
+pub mod Paper

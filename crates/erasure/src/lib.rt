@@ -19,8 +19,10 @@ ghost use mathlib.Core.Path.{_≡_};
 ghost use mathlib.Core.List.{List};
 ghost use Prim.Native.Nat.{ℕ};
 ghost use lib.ListN.{length};
-ghost use Rattle.gtb.specs.Shape.{Lawful, wordLength, scratchLength};
+ghost use Rattle.paper.specs.DeadCells as paper;
+ghost use Rattle.gtb.specs.Shape.{of, Lawful, wordLength, scratchLength};
 ghost use Rattle.gtb.specs.Square.{Word, Syndromes};
+ghost use Rattle.correction.specs.Answer.{decodedNumber};
 ghost use Rattle.erasure.specs.Fill.{Decision, Filling};
 ghost use Rattle.erasure.specs.Steps.{Places, Solution, PlacesTested};
 
@@ -88,8 +90,10 @@ fn judge(shape: Shape, word: &mut [u32], places: &[u32], scratch: &mut [u32]) ->
 
 // Filling in: tests 1, 18, 2, then the others. From test 3 on the scratch ends as zeros.
 pub fn fill(shape: Shape, word: &mut [u32], places: &[u32], scratch: &mut [u32]) -> Decoded
-    ensures { λ r.
+    ensures filled { λ r.
         ⌜ Filling shape (now (word .entry)) (now (places .entry)) (now (scratch .entry)) (now (word .exit)) (now (scratch .exit)) r ⌝ }
+    ensures paper { λ r.
+        ⌜ paper.Filling (of shape) (now (word .entry)) (now (places .entry)) (now (scratch .entry)) (now (word .exit)) (now (scratch .exit)) (decodedNumber r) ⌝ }
 {
     if !gtb::is_lawful(shape) {
         return Decoded::Refused(gtb::shape_refusal(shape));

@@ -18,3 +18,8 @@ pub mod Positions
 pub mod Gathers
 pub mod Kept
 pub mod Crossing
+pub mod Judging
+pub mod Conditions
+pub mod Stored
+pub mod Scratches
+pub mod Places

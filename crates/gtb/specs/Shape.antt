@@ -6,8 +6,13 @@ use Prim.Native.Nat.{ℕ, _+_, _-_, _*_, _/_, _%_}
 use lib.Dec.{leb, ltb, eqb}
 use lib.ListN.{getD}
 use Rattle.parity.specs.Count.{any, all}
+use Rattle.paper.specs.Square as paper
 use Rattle.gtb.specs.declared.Shape.{Shape}
 use Rattle.gtb.specs.declared.Refusal.{Refusal}
+
+-- a shape in the paper's numbers
+abbrev pub of : Shape → paper.Shape
+of s = record { q = s .q; n = s .n; b = s .b; slopes = s .slopes }
 
 -- the slopes 0, 1, 2, ..
 abbrev pub standardSlopes : List ℕ

@@ -7,3 +7,4 @@ pub mod Answers
 pub mod Room
 pub mod Values
 pub mod Boundary
+pub mod Paper

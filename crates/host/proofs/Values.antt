@@ -36,10 +36,10 @@ module _ (σ : Session) (h : Sized σ) where
   unfolding valuesOf
   rest = drop-at (shapeValues (σ .shape)) _ 10 ten
 
-  many : length (map bit (σ .taken)) ≡ 1024
+  pub many : length (map bit (σ .taken)) ≡ 1024
   many = length-map (σ .taken) bit ∙ h .taken
 
-  lists : drop 12 (valuesOf σ) ≡ map bit (σ .taken) ++ σ .calls
+  pub lists : drop 12 (valuesOf σ) ≡ map bit (σ .taken) ++ σ .calls
   lists = sym (drop-drop 2 10 (valuesOf σ)) ∙ ap (drop 2) rest
 
   pub values-back : sessionOf (valuesOf σ) ≡ σ

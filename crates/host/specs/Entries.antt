@@ -1,18 +1,15 @@
 -- What the entries answer and leave once numbers and u32 values stand for shapes, answers and sessions.
 use mathlib.Core.Path.{_≡_}
 use mathlib.Core.Bool.{cond}
-use mathlib.Core.List.{List, _++_}
+use mathlib.Core.List.{List}
 use Prim.Native.Nat.{ℕ}
 use lib.Dec.{eqb}
-use lib.ListN.{length, drop}
 use Rattle.gtb.specs.declared.Shape.{Shape}
-use Rattle.gtb.specs.declared.Refusal.{Refusal}
 use Rattle.gtb.specs.declared.Status.{Status}
 use Rattle.gtb.specs.declared.Status.the-variants.{Done}
 use Rattle.gtb.specs.declared.Status.the-variants as status
 use Rattle.gtb.specs.Shape.{lawful}
 use Rattle.gtb.specs.Answer.{statusNumber}
-use Rattle.page.specs.Page.{marksOf}
 use Rattle.session.specs.declared.Session.{Session}
 use Rattle.session.specs.declared.Outcome.{Outcome}
 use Rattle.session.specs.declared.Outcome.the-variants.{Taken, Again, Refused}
@@ -23,20 +20,9 @@ use Rattle.batch.specs.declared.Delivered.{Delivered}
 use Rattle.batch.specs.Batch.{Batching}
 use Rattle.host.specs.Crossing.{shapeIn, sessionOf, valuesOf}
 
--- an answer with what its entry promises crosses as its number
-pub record Crosses {A : Type 0} (number : A → ℕ) (Promise : A → Type 0) (r : ℕ) : Type 0 where
-  pub answer : A
-  pub holds : Promise answer
-  pub crossed : r ≡ number answer
-
 -- a length of the shape in the values, 0 where that is refused by 1 or 18
 abbrev pub lengthIn : (Shape → ℕ) → List ℕ → ℕ
 lengthIn size shape = cond (lawful (shapeIn shape)) (size (shapeIn shape)) 0
-
--- the marks are copied to the front of a list as long as the symbols; one of another length is turned down
-pub record MarksCrossing (s : Shape) (symbols marks marks′ : List ℕ) (r : ℕ) : Type 0 where
-  pub right : length marks ≡ length symbols → (r ≡ length (marksOf s symbols)) × (marks′ ≡ marksOf s symbols ++ drop (length (marksOf s symbols)) marks)
-  pub wrong : (length marks ≡ length symbols → ⊥) → (r ≡ statusNumber (status.Refused Refusal.Length)) × (marks′ ≡ marks)
 
 -- a fresh session is written; a refusal leaves the values as they were
 abbrev pub freshIn : Shape → List ℕ → Status → List ℕ

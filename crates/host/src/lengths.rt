@@ -3,9 +3,9 @@ use crate::crossing::load_shape;
 use gtb::size::info_length;
 use gtb::size::scratch_length;
 use gtb::size::word_length;
-ghost use mathlib.Core.Path.{_≡_};
-ghost use Rattle.gtb.specs.Shape.{wordLength, infoLength, scratchLength};
-ghost use Rattle.host.specs.Entries.{lengthIn};
+ghost use Rattle.paper.specs.Square.{N};
+ghost use Rattle.paper.specs.Writing.{K, scratchLength};
+ghost use Rattle.paper.specs.Boundary.{shapeIn, LengthOf};
 
 struct Sizes {
     word: u32,
@@ -14,7 +14,7 @@ struct Sizes {
 }
 
 fn sizes_in(values: &[u32; 10]) -> Sizes
-    ensures { λ r. ⌜ (r .word ≡ lengthIn wordLength (now (values .entry))) × (r .info ≡ lengthIn infoLength (now (values .entry))) × (r .scratch ≡ lengthIn scratchLength (now (values .entry))) ⌝ }
+    ensures { λ r. ⌜ LengthOf N (shapeIn (now (values .entry))) (r .word) × LengthOf K (shapeIn (now (values .entry))) (r .info) × LengthOf scratchLength (shapeIn (now (values .entry))) (r .scratch) ⌝ }
 {
     let shape = load_shape(values);
     if !gtb::is_lawful(shape) {
@@ -33,21 +33,21 @@ fn sizes_in(values: &[u32; 10]) -> Sizes
 
 #[no_mangle]
 pub extern "C" fn shaftglimmer_word_length(shape: &[u32; 10]) -> u32
-    ensures { λ r. ⌜ r ≡ lengthIn wordLength (now (shape .entry)) ⌝ }
+    ensures { λ r. ⌜ LengthOf N (shapeIn (now (shape .entry))) r ⌝ }
 {
     sizes_in(shape).word
 }
 
 #[no_mangle]
 pub extern "C" fn shaftglimmer_data_length(shape: &[u32; 10]) -> u32
-    ensures { λ r. ⌜ r ≡ lengthIn infoLength (now (shape .entry)) ⌝ }
+    ensures { λ r. ⌜ LengthOf K (shapeIn (now (shape .entry))) r ⌝ }
 {
     sizes_in(shape).info
 }
 
 #[no_mangle]
 pub extern "C" fn shaftglimmer_scratch_length(shape: &[u32; 10]) -> u32
-    ensures { λ r. ⌜ r ≡ lengthIn scratchLength (now (shape .entry)) ⌝ }
+    ensures { λ r. ⌜ LengthOf scratchLength (shapeIn (now (shape .entry))) r ⌝ }
 {
     sizes_in(shape).scratch
 }

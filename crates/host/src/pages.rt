@@ -1,16 +1,13 @@
 // Pages over u32: reading, marks, writing.
 use crate::crossing::load_shape;
 use gtb::Refusal;
-ghost use mathlib.Core.Path.{_≡_};
-ghost use Rattle.gtb.specs.Answer.{statusNumber};
-ghost use Rattle.page.specs.Page.{readNumber, pageOf, Writing};
-ghost use Rattle.host.specs.Crossing.{shapeIn};
-ghost use Rattle.host.specs.Entries.{Crosses, MarksCrossing};
+ghost use Rattle.paper.specs.Paper as paper;
+ghost use Rattle.paper.specs.Boundary.{shapeIn, MarksCopied};
 
 // Page number and number of marks.
 #[no_mangle]
 pub extern "C" fn shaftglimmer_parse_page(shape: &[u32; 10], data: &[u32]) -> u32
-    ensures { λ r. ⌜ r ≡ readNumber (pageOf (shapeIn (now (shape .entry))) (now («data» .entry))) ⌝ }
+    ensures { λ r. ⌜ paper.PageReading (shapeIn (now (shape .entry))) (now («data» .entry)) r ⌝ }
 {
     page::number::read(page::read_page(load_shape(shape), data))
 }
@@ -18,7 +15,7 @@ pub extern "C" fn shaftglimmer_parse_page(shape: &[u32; 10], data: &[u32]) -> u3
 // The marks, copied to the front of a list as long as the symbols, and how many they are.
 #[no_mangle]
 pub extern "C" fn shaftglimmer_marks(shape: &[u32; 10], data: &[u32], marks: &mut [u32]) -> u32
-    ensures { λ r. ⌜ MarksCrossing (shapeIn (now (shape .entry))) (now («data» .entry)) (now (marks .entry)) (now (marks .exit)) r ⌝ }
+    ensures { λ r. ⌜ MarksCopied (shapeIn (now (shape .entry))) (now («data» .entry)) (now (marks .entry)) (now (marks .exit)) r ⌝ }
 {
     if marks.len() != data.len() {
         return gtb::number::refused(Refusal::Length);
@@ -35,7 +32,7 @@ pub extern "C" fn shaftglimmer_write_page(
     marks: &[u32],
     data: &mut [u32],
 ) -> u32
-    ensures { λ r. ⌜ Crosses statusNumber (Writing (shapeIn (now (shape .entry))) page (now (marks .entry)) (now («data» .entry)) (now («data» .exit))) r ⌝ }
+    ensures { λ r. ⌜ paper.PageWriting (shapeIn (now (shape .entry))) page (now (marks .entry)) (now («data» .entry)) (now («data» .exit)) r ⌝ }
 {
     gtb::number::status(page::write_page(load_shape(shape), page, marks, data))
 }

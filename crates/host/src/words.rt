@@ -1,18 +1,7 @@
 // Words over u32: writing, extraction, the ways of reading, filling in, restoring, checking.
 use crate::crossing::load_shape;
-ghost use Rattle.gtb.specs.Answer.{statusNumber};
-ghost use Rattle.encoder.specs.Contract.{Encoding, Extraction};
-ghost use Rattle.correction.specs.Answer.{decodedNumber};
-ghost use Rattle.decoder.specs.Decode.{Decoding};
-ghost use Rattle.decoder.specs.Looking.{Looking};
-ghost use Rattle.majority.specs.Majority.{Voting};
-ghost use Rattle.double.specs.Double.{ReadingTwo};
-ghost use Rattle.nearest.specs.Nearest.{Restoring};
-ghost use Rattle.erasure.specs.Fill.{Filling};
-ghost use Rattle.restore.specs.Restore.{Recovering};
-ghost use Rattle.verify.specs.Verify.{verdictNumber, Checking};
-ghost use Rattle.host.specs.Crossing.{shapeIn};
-ghost use Rattle.host.specs.Entries.{Crosses};
+ghost use Rattle.paper.specs.Paper as paper;
+ghost use Rattle.paper.specs.Boundary.{shapeIn};
 
 #[no_mangle]
 pub extern "C" fn shaftglimmer_encode(
@@ -21,7 +10,7 @@ pub extern "C" fn shaftglimmer_encode(
     scratch: &mut [u32],
     word: &mut [u32],
 ) -> u32
-    ensures { λ r. ⌜ Crosses statusNumber (Encoding (shapeIn (now (shape .entry))) (now («data» .entry)) (now (scratch .entry)) (now (word .entry)) (now (scratch .exit)) (now (word .exit))) r ⌝ }
+    ensures { λ r. ⌜ paper.Writing (shapeIn (now (shape .entry))) (now («data» .entry)) (now (scratch .entry)) (now (word .entry)) (now (scratch .exit)) (now (word .exit)) r ⌝ }
 {
     gtb::number::status(encoder::encode(load_shape(shape), data, scratch, word))
 }
@@ -33,35 +22,35 @@ pub extern "C" fn shaftglimmer_extract(
     scratch: &mut [u32],
     word: &[u32],
 ) -> u32
-    ensures { λ r. ⌜ Crosses statusNumber (Extraction (shapeIn (now (shape .entry))) (now (word .entry)) (now (scratch .entry)) (now («data» .entry)) (now (scratch .exit)) (now («data» .exit))) r ⌝ }
+    ensures { λ r. ⌜ paper.Extraction (shapeIn (now (shape .entry))) (now (word .entry)) (now (scratch .entry)) (now («data» .entry)) (now (scratch .exit)) (now («data» .exit)) r ⌝ }
 {
     gtb::number::status(encoder::extract(load_shape(shape), word, scratch, data))
 }
 
 #[no_mangle]
 pub extern "C" fn shaftglimmer_decode(shape: &[u32; 10], word: &mut [u32]) -> u32
-    ensures { λ r. ⌜ Crosses decodedNumber (Decoding (shapeIn (now (shape .entry))) (now (word .entry)) (now (word .exit))) r ⌝ }
+    ensures { λ r. ⌜ paper.Reading (shapeIn (now (shape .entry))) 0 (now (word .entry)) (now (word .exit)) r ⌝ }
 {
     correction::number::decoded(decoder::decode(load_shape(shape), word))
 }
 
 #[no_mangle]
 pub extern "C" fn shaftglimmer_decode_majority(shape: &[u32; 10], word: &mut [u32]) -> u32
-    ensures { λ r. ⌜ Crosses decodedNumber (Voting (shapeIn (now (shape .entry))) (now (word .entry)) (now (word .exit))) r ⌝ }
+    ensures { λ r. ⌜ paper.Reading (shapeIn (now (shape .entry))) 1 (now (word .entry)) (now (word .exit)) r ⌝ }
 {
     correction::number::decoded(majority::decode_majority(load_shape(shape), word))
 }
 
 #[no_mangle]
 pub extern "C" fn shaftglimmer_decode_two(shape: &[u32; 10], word: &mut [u32]) -> u32
-    ensures { λ r. ⌜ Crosses decodedNumber (ReadingTwo (shapeIn (now (shape .entry))) (now (word .entry)) (now (word .exit))) r ⌝ }
+    ensures { λ r. ⌜ paper.Reading (shapeIn (now (shape .entry))) 2 (now (word .entry)) (now (word .exit)) r ⌝ }
 {
     correction::number::decoded(double::decode_two(load_shape(shape), word))
 }
 
 #[no_mangle]
 pub extern "C" fn shaftglimmer_decode_nearest(shape: &[u32; 10], word: &mut [u32]) -> u32
-    ensures { λ r. ⌜ Crosses decodedNumber (Restoring (shapeIn (now (shape .entry))) (now (word .entry)) (now (word .exit))) r ⌝ }
+    ensures { λ r. ⌜ paper.Nearest (shapeIn (now (shape .entry))) (now (word .entry)) (now (word .exit)) r ⌝ }
 {
     correction::number::decoded(nearest::decode_nearest(load_shape(shape), word))
 }
@@ -73,7 +62,7 @@ pub extern "C" fn shaftglimmer_fill(
     word: &mut [u32],
     scratch: &mut [u32],
 ) -> u32
-    ensures { λ r. ⌜ Crosses decodedNumber (Filling (shapeIn (now (shape .entry))) (now (word .entry)) (now (places .entry)) (now (scratch .entry)) (now (word .exit)) (now (scratch .exit))) r ⌝ }
+    ensures { λ r. ⌜ paper.Filling (shapeIn (now (shape .entry))) (now (word .entry)) (now (places .entry)) (now (scratch .entry)) (now (word .exit)) (now (scratch .exit)) r ⌝ }
 {
     correction::number::decoded(erasure::fill(load_shape(shape), word, places, scratch))
 }
@@ -85,7 +74,7 @@ pub extern "C" fn shaftglimmer_restore(
     word: &mut [u32],
     scratch: &mut [u32],
 ) -> u32
-    ensures { λ r. ⌜ Crosses decodedNumber (Recovering (shapeIn (now (shape .entry))) (now (word .entry)) (now (places .entry)) (now (scratch .entry)) (now (word .exit)) (now (scratch .exit))) r ⌝ }
+    ensures { λ r. ⌜ paper.Restoring (shapeIn (now (shape .entry))) (now (word .entry)) (now (places .entry)) (now (scratch .entry)) (now (word .exit)) (now (scratch .exit)) r ⌝ }
 {
     correction::number::decoded(restore::restore(load_shape(shape), word, places, scratch))
 }
@@ -93,7 +82,7 @@ pub extern "C" fn shaftglimmer_restore(
 // A proposal checked; both words are only read.
 #[no_mangle]
 pub extern "C" fn shaftglimmer_check(shape: &[u32; 10], received: &[u32], proposed: &[u32]) -> u32
-    ensures { λ r. ⌜ Crosses verdictNumber (Checking (shapeIn (now (shape .entry))) (now (received .entry)) (now (proposed .entry))) r ⌝ }
+    ensures { λ r. ⌜ paper.Checking (shapeIn (now (shape .entry))) (now (received .entry)) (now (proposed .entry)) r ⌝ }
 {
     verify::number::verdict(verify::check(load_shape(shape), received, proposed))
 }
@@ -101,7 +90,7 @@ pub extern "C" fn shaftglimmer_check(shape: &[u32; 10], received: &[u32], propos
 // How many checks of each symbol decoding looks at.
 #[no_mangle]
 pub extern "C" fn shaftglimmer_looked(shape: &[u32; 10], word: &[u32], looked: &mut [u32]) -> u32
-    ensures { λ r. ⌜ Crosses statusNumber (Looking (shapeIn (now (shape .entry))) (now (word .entry)) (now (looked .entry)) (now (looked .exit))) r ⌝ }
+    ensures { λ r. ⌜ paper.Looking (shapeIn (now (shape .entry))) (now (word .entry)) (now (looked .entry)) (now (looked .exit)) r ⌝ }
 {
     gtb::number::status(decoder::looked(load_shape(shape), word, looked))
 }

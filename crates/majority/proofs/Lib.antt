@@ -4,3 +4,4 @@ pub mod Meaning
 pub mod Reading
 pub mod Alikes
 pub mod Examples
+pub mod Paper

@@ -7,3 +7,4 @@ pub mod Changing
 pub mod Guessing
 pub mod Searching
 pub mod Finding
+pub mod Paper

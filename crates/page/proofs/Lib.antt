@@ -3,3 +3,4 @@ pub mod Pages
 pub mod Parts
 pub mod Alikes
 pub mod Refusals
+pub mod Paper

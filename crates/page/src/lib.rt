@@ -10,9 +10,11 @@ ghost use mathlib.Core.List.{List, _∷_};
 ghost use mathlib.Core.Path.{_≡_};
 ghost use Prim.Native.Nat.{ℕ, _≤_};
 ghost use lib.ListN.{length};
-ghost use Rattle.gtb.specs.Shape.{Lawful, infoLength};
+ghost use Rattle.paper.specs.Page.{PageReading, Marks, PageWriting};
+ghost use Rattle.gtb.specs.Answer.{statusNumber};
+ghost use Rattle.gtb.specs.Shape.{of, Lawful, infoLength};
 ghost use Rattle.gtb.specs.Square.{narrow};
-ghost use Rattle.page.specs.Page.{functions, zeros, pageOf, MarksPart, writeStatus, pageSymbols, most, Writing};
+ghost use Rattle.page.specs.Page.{functions, zeros, readNumber, pageOf, MarksPart, writeStatus, pageSymbols, most, Writing};
 ghost use Rattle.page.specs.Steps.{Sized};
 
 // The answer of the page reader: page number and number of marks, or a refusal.
@@ -61,7 +63,8 @@ pub fn read_narrow(shape: Shape, symbols: &[u32]) -> PageRead
 
 // Page number and number of marks.
 pub fn read_page(shape: Shape, symbols: &[u32]) -> PageRead
-    ensures { λ r. ⌜ r ≡ pageOf shape (now (symbols .entry)) ⌝ }
+    ensures read { λ r. ⌜ r ≡ pageOf shape (now (symbols .entry)) ⌝ }
+    ensures paper { λ r. ⌜ PageReading (of shape) (now (symbols .entry)) (readNumber r) ⌝ }
 {
     if !gtb::is_lawful(shape) {
         return PageRead::Refused(gtb::shape_refusal(shape));
@@ -77,7 +80,8 @@ pub fn read_page(shape: Shape, symbols: &[u32]) -> PageRead
 
 // The marks, as a part of the symbols; empty where the page reader refuses.
 pub fn marks(shape: Shape, symbols: &[u32]) -> &[u32]
-    ensures { λ r. ⌜ MarksPart shape (symbols .entry) r ⌝ }
+    ensures part { λ r. ⌜ MarksPart shape (symbols .entry) r ⌝ }
+    ensures paper { λ r. ⌜ Marks (of shape) (now (symbols .entry)) (now r) ⌝ }
 {
     match read_page(shape, symbols) {
         PageRead::Page(_, count) => {
@@ -140,7 +144,8 @@ fn fill(shape: Shape, number: u32, marks: &[u32], symbols: &mut [u32])
 
 // Fills the lent symbols with the page, or refuses and leaves them.
 pub fn write_page(shape: Shape, number: u32, marks: &[u32], symbols: &mut [u32]) -> Status
-    ensures { λ r. ⌜ Writing shape number (now (marks .entry)) (now (symbols .entry)) (now (symbols .exit)) r ⌝ }
+    ensures written { λ r. ⌜ Writing shape number (now (marks .entry)) (now (symbols .entry)) (now (symbols .exit)) r ⌝ }
+    ensures paper { λ r. ⌜ PageWriting (of shape) number (now (marks .entry)) (now (symbols .entry)) (now (symbols .exit)) (statusNumber r) ⌝ }
 {
     if !gtb::is_lawful(shape) {
         return Status::Refused(gtb::shape_refusal(shape));

@@ -9,4 +9,6 @@ pub mod Recording
 pub mod Requests
 pub mod Bundle
 pub mod Beyond
+pub mod Program
+pub mod Boundary
 pub mod Paper

@@ -17,6 +17,10 @@ pub record Shape : Type 0 where
   pub b : ℕ
   pub slopes : List ℕ
 
+-- with the slopes 0, 1, 2, ..
+abbrev pub standard : ℕ → ℕ → ℕ → Shape
+standard q n b = record { q = q; n = n; b = b; slopes = 0 ∷ 1 ∷ 2 ∷ 3 ∷ 4 ∷ 5 ∷ 6 ∷ [] }
+
 -- what test 1 asks of the three numbers
 pub record InLists (s : Shape) : Type 0 where
   pub order : s .q ∈ (3 ∷ 5 ∷ 7 ∷ 11 ∷ 13 ∷ 17 ∷ 19 ∷ 23 ∷ 29 ∷ 31 ∷ [])

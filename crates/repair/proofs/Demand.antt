@@ -34,7 +34,7 @@ use Rattle.session.specs.Claim.{Run, Demand3}
 use Rattle.session.proofs.NoDamage.{noDamage, no-damage-word, no-damage-clean, no-damage-weight, no-damage-same}
 use Rattle.session.proofs.Asked.{Asked, asked}
 use Rattle.session.proofs.Demand.{demand3-ways}
-use Rattle.repair.specs.Repair.{ByNearest, ByRestore, Repaired, RepairedFits}
+use Rattle.repair.specs.Repair.{ByNearest, ByRestore, Repaired, Brought, RepairedFits}
 use Rattle.repair.proofs.Empty.{nearest-restore}
 
 -- ---- the clean way and no damage
@@ -72,10 +72,14 @@ repaired-brings {s} {a} {p} law x = record {
   scratch = x .scratch;
 }
 
+brought : {s : Shape} {a : Arrival} {p : Sheet} → Lawful s → Brought s a p → (k : ℕ) × Brings theWays s a p k
+brought law (inl x) = x
+brought law (inr x) = (0, repaired-brings law x)
+
 repaired-fits : {s : Shape} {pages : List Sheet} {arrivals : List Arrival} → Lawful s → RepairedFits s pages arrivals → Fits theWays s pages arrivals
 repaired-fits law f = record {
-  each = λ j l. ⊎-elim (λ t. inl t) (λ b. inr (b .0, b .1, 0, repaired-brings law (b .2))) (f .each j l);
-  every = λ i l. let b = f .every i l in (b .0, b .1, 0, repaired-brings law (b .2));
+  each = λ j l. ⊎-elim (λ t. inl t) (λ b. let (k, y) = brought law (b .2) in inr (b .0, b .1, k, y)) (f .each j l);
+  every = λ i l. let b = f .every i l in let (k, y) = brought law (b .2) in (b .0, b .1, k, y);
 }
 
 -- demand 3

@@ -16,7 +16,7 @@ use Rattle.erasure.specs.Fill.{rising}
 use Rattle.nearest.specs.Nearest.{Restoring}
 use Rattle.restore.specs.Restore.{reach, weightBeside, Recovering}
 use Rattle.session.specs.Arrival.{theWays}
-use Rattle.session.specs.Recording.{Sheet, sheetAt, symbolsOf, Arrival, arrivalAt, TurnedDown}
+use Rattle.session.specs.Recording.{Sheet, sheetAt, symbolsOf, Arrival, arrivalAt, Brings, TurnedDown}
 
 -- the error is on at most n - 1 digits, clean or not; decode_nearest was called on the word that came, whatever it answered, and left this one
 pub record ByNearest (s : Shape) (stored error left : List ℕ) : Type 0 where
@@ -48,9 +48,13 @@ pub record Repaired (s : Shape) (a : Arrival) (p : Sheet) : Type 0 where
   pub way : a .way ≡ 0
   pub scratch : length (a .scratch) ≡ scratchLength s
 
--- each arrival is turned down or brings a page of the recording so, and each page comes at least once
+-- a page is brought as it came, with damage that the arrival's way allows, or restored first
+abbrev pub Brought : Shape → Arrival → Sheet → Type 0
+Brought s a p = ((k : ℕ) × Brings theWays s a p k) ⊎ Repaired s a p
+
+-- each arrival is turned down or brings a page of the recording in one of the two ways, and each page comes at least once
 pub record RepairedFits (s : Shape) (pages : List Sheet) (arrivals : List Arrival) : Type 0 where
   pub each : (j : ℕ) → j < length arrivals
       → ((e : Refusal) × TurnedDown theWays s (arrivalAt arrivals j) e)
-      ⊎ ((i : ℕ) × (i < length pages) × Repaired s (arrivalAt arrivals j) (sheetAt pages i))
-  pub every : (i : ℕ) → i < length pages → (j : ℕ) × (j < length arrivals) × Repaired s (arrivalAt arrivals j) (sheetAt pages i)
+      ⊎ ((i : ℕ) × (i < length pages) × Brought s (arrivalAt arrivals j) (sheetAt pages i))
+  pub every : (i : ℕ) → i < length pages → (j : ℕ) × (j < length arrivals) × Brought s (arrivalAt arrivals j) (sheetAt pages i)

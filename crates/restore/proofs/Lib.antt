@@ -8,3 +8,4 @@ pub mod Judging
 pub mod Recovering
 pub mod Limit
 pub mod Alikes
+pub mod Paper

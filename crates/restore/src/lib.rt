@@ -17,8 +17,10 @@ use syndrome::syndromes;
 ghost use mathlib.Core.Path.{_≡_};
 ghost use Prim.Native.Nat.{_*_, _<_, _≤_};
 ghost use lib.ListN.{length};
-ghost use Rattle.gtb.specs.Shape.{Lawful, wordLength, scratchLength};
+ghost use Rattle.paper.specs.Beyond.{Restoring};
+ghost use Rattle.gtb.specs.Shape.{of, Lawful, wordLength, scratchLength};
 ghost use Rattle.gtb.specs.Square.{Word};
+ghost use Rattle.correction.specs.Answer.{decodedNumber};
 ghost use Rattle.erasure.specs.Steps.{Places};
 ghost use Rattle.restore.specs.Restore.{reach, Judgement, Recovering};
 ghost use Rattle.restore.specs.Steps.{Sought, Judged};
@@ -74,8 +76,10 @@ fn judge(shape: Shape, word: &mut [u32], places: &[u32], scratch: &mut [u32]) ->
 
 // Restoring: tests 1, 18, 2, then the others. From test 3 on the scratch ends as zeros.
 pub fn restore(shape: Shape, word: &mut [u32], places: &[u32], scratch: &mut [u32]) -> Decoded
-    ensures { λ r.
+    ensures restored { λ r.
         ⌜ Recovering shape (now (word .entry)) (now (places .entry)) (now (scratch .entry)) (now (word .exit)) (now (scratch .exit)) r ⌝ }
+    ensures paper { λ r.
+        ⌜ Restoring (of shape) (now (word .entry)) (now (places .entry)) (now (scratch .entry)) (now (word .exit)) (now (scratch .exit)) (decodedNumber r) ⌝ }
 {
     if !gtb::is_lawful(shape) {
         return Decoded::Refused(gtb::shape_refusal(shape));

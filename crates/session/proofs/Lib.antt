@@ -21,3 +21,6 @@ pub mod Alikes
 pub mod Joins
 pub mod Examples
 pub mod Growth
+pub mod Paper
+pub mod Taken
+pub mod Arriving

@@ -5,6 +5,7 @@ use mathlib.Core.List.{List, [], _∷_}
 use Prim.Native.Nat.{ℕ, zero, suc, _-_, _/_, _≤_}
 use lib.Dec.{eqb, ltb}
 use lib.ListN.{length, getD, replicate}
+use Rattle.paper.specs.Session as paper
 use Rattle.gtb.specs.declared.Shape.{Shape}
 use Rattle.gtb.specs.declared.Refusal.{Refusal}
 use Rattle.gtb.specs.declared.Status.{Status}
@@ -29,13 +30,20 @@ use Rattle.session.specs.declared.Session.{Session}
 use Rattle.session.specs.declared.Outcome.{Outcome}
 use Rattle.session.specs.declared.Outcome.the-variants.{Taken, Again, Refused}
 use Rattle.session.specs.declared.Arrived.{Arrived}
-use Rattle.session.specs.Session.{sessionStatus, past, overflows, recorded}
+use Rattle.session.specs.Session.{plain, sessionStatus, past, overflows, recorded}
 
 -- an answer's three values: 0 taken, 1 again, 2 refused; page or refusal number; digits changed
 abbrev pub outcomeValues : Outcome → List ℕ
 outcomeValues (Taken number k) = 0 ∷ number ∷ k ∷ []
 outcomeValues (Again number k) = 1 ∷ number ∷ k ∷ []
 outcomeValues (Refused e) = 2 ∷ refusalNumber e ∷ 0 ∷ []
+
+-- what is handed in beside the session, and what is left, in the paper's numbers
+abbrev pub handed : ℕ → List ℕ → List ℕ → paper.Arrival
+handed way word scratch = record { way = way; word = word; scratch = scratch }
+
+abbrev pub left : Arrived → List ℕ → List ℕ → paper.Arrived
+left r word scratch = record { session = plain (r .session); word = word; scratch = scratch; answer = outcomeValues (r .outcome) }
 
 -- a way of reading: its answer, the stored word that it gives, the damage that it is to undo, and test 16: whether it can be used with the shape at all
 pub record Way : Type 1 where

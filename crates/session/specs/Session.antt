@@ -7,17 +7,22 @@ use lib.Dec.{eqb, leb, ltb}
 use lib.ListN.{getD, set, replicate}
 use Rattle.parity.specs.Count.{bit, any, count, lowestNot}
 use Rattle.parity.specs.Lists.{tabulate}
+use Rattle.paper.specs.Session as paper
 use Rattle.gtb.specs.declared.Shape.{Shape}
 use Rattle.gtb.specs.declared.Refusal.{Refusal}
 use Rattle.gtb.specs.declared.Status.{Status}
 use Rattle.gtb.specs.declared.Status.the-variants.{Done}
 use Rattle.gtb.specs.declared.Status.the-variants as status
-use Rattle.gtb.specs.Shape.{lawful, shapeRefusal}
+use Rattle.gtb.specs.Shape.{of, lawful, shapeRefusal}
 use Rattle.gtb.specs.Answer.{refusalNumber, unless}
 use Rattle.session.specs.declared.Session.{Session}
 use Rattle.session.specs.declared.Fresh.{Fresh}
 use Rattle.session.specs.declared.Counted.{Counted}
 use Rattle.session.specs.declared.Counted.the-variants.{Calls, Refused}
+
+-- a session in the paper's numbers
+abbrev pub plain : Session → paper.Session
+plain σ = record { shape = of (σ .shape); taken = σ .taken; calls = σ .calls; pages = σ .pages; lowest = σ .lowest }
 
 -- page p is marked as taken
 abbrev pub marked : List Bool → ℕ → Bool

@@ -15,9 +15,11 @@ ghost use mathlib.Core.Path.{_≡_};
 ghost use mathlib.Core.Bool.{cond};
 ghost use Prim.Native.Nat.{_<_};
 ghost use lib.ListN.{length};
-ghost use Rattle.gtb.specs.Shape.{infoLength};
-ghost use Rattle.session.specs.Session.{Consistent, sessionStatus, countedOf, Beginning};
-ghost use Rattle.session.specs.Arrival.{wayOf, theWays, Opened, arrivalStatus, Arriving, isAccepted};
+ghost use Rattle.paper.specs.Session as paper;
+ghost use Rattle.gtb.specs.Answer.{statusNumber};
+ghost use Rattle.gtb.specs.Shape.{of, infoLength};
+ghost use Rattle.session.specs.Session.{plain, Consistent, sessionStatus, countedOf, countedNumber, Beginning};
+ghost use Rattle.session.specs.Arrival.{handed, left, wayOf, theWays, Opened, arrivalStatus, Arriving, isAccepted};
 ghost use Rattle.session.specs.Steps.{Adding, Counts, Functions, Settling, Openable, Deciding};
 
 // A session handed in from elsewhere may hold anything, a bad shape too.
@@ -71,7 +73,8 @@ impl Session {
 
     // A session that has seen nothing.
     pub fn fresh(shape: Shape) -> Fresh
-        ensures { λ r. ⌜ Beginning shape r ⌝ }
+        ensures begun { λ r. ⌜ Beginning shape r ⌝ }
+        ensures paper { λ r. ⌜ paper.Beginning (of shape) (plain (r .session)) (statusNumber (r .status)) ⌝ }
     {
         let session = Session {
             shape,
@@ -110,7 +113,8 @@ impl Session {
 
     // How often a function was called: tests 1, 18, 11, then 7.
     pub fn count(self, function: u32) -> Counted
-        ensures { λ r. ⌜ r ≡ countedOf self function ⌝ }
+        ensures counted { λ r. ⌜ r ≡ countedOf self function ⌝ }
+        ensures paper { λ r. ⌜ paper.Counting (plain self) function (countedNumber r) ⌝ }
     {
         if let Status::Refused(e) = self.status() {
             return Counted::Refused(e);
@@ -125,7 +129,8 @@ impl Session {
 
     // An arrival, read the way that it names. Past test 2 every answer leaves the scratch cleared.
     pub fn arrive(self, way: u32, word: &mut [u32], scratch: &mut [u32]) -> Arrived
-        ensures { λ r. ⌜ Arriving theWays self way (now (word .entry)) (now (scratch .entry)) (now (word .exit)) (now (scratch .exit)) r ⌝ }
+        ensures arrived { λ r. ⌜ Arriving theWays self way (now (word .entry)) (now (scratch .entry)) (now (word .exit)) (now (scratch .exit)) r ⌝ }
+        ensures paper { λ r. ⌜ paper.Arriving (plain self) (handed way (now (word .entry)) (now (scratch .entry))) (left r (now (word .exit)) (now (scratch .exit))) ⌝ }
     {
         let agree = figures::agree(&self.taken, self.pages, self.lowest);
         if let Status::Refused(e) = word_status(self.shape, way, agree, word, scratch) {

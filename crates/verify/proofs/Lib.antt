@@ -3,3 +3,4 @@ pub mod Table
 pub mod Answers
 pub mod Proposals
 pub mod Alikes
+pub mod Paper

@@ -8,7 +8,9 @@ use gtb::Shape;
 use gtb::Status;
 use gtb::lent::word_status;
 use gtb::size::word_length;
-ghost use Rattle.verify.specs.Verify.{Checking};
+ghost use Rattle.paper.specs.Reading as paper;
+ghost use Rattle.gtb.specs.Shape.{of};
+ghost use Rattle.verify.specs.Verify.{verdictNumber, Checking};
 
 // The answer to a proposal.
 pub enum Verdict {
@@ -19,7 +21,8 @@ pub enum Verdict {
 
 // Tests 1, 18, 2, 3, then yes or no. The proposal's length is tested first, so that test 2 is over with both words before test 3.
 pub fn check(shape: Shape, received: &[u32], proposed: &[u32]) -> Verdict
-    ensures { λ r. ⌜ Checking shape (now (received .entry)) (now (proposed .entry)) r ⌝ }
+    ensures checked { λ r. ⌜ Checking shape (now (received .entry)) (now (proposed .entry)) r ⌝ }
+    ensures paper { λ r. ⌜ paper.Checking (of shape) (now (received .entry)) (now (proposed .entry)) (verdictNumber r) ⌝ }
 {
     if !gtb::is_lawful(shape) {
         return Verdict::Refused(gtb::shape_refusal(shape));

@@ -12,7 +12,7 @@ unfolding start
 returns c =
     let put = c .before .before .put-outcome-names .ensures in
     record {
-      tally = rw (c .before .before .before .before .before .fresh .ensures .session);
+      tally = rw (c .before .before .before .before .before .fresh .ensures .0 .session);
       held = refl;
       counts = refl;
       at = put .next;

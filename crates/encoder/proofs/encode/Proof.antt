@@ -2,12 +2,13 @@
 use mathlib.Core.Path.{refl, sym, _∙_}
 use borrow.Author.Needs.{needs}
 use borrow.Author.Tests.{not-true, not-false}
+use Rattle.encoder.proofs.Paper.{writing-asked}
 use Rattle.encoder.proofs.Answers.{untested, passed, encoding-refused, encoding-done}
 use Rattle.encoder.proofs.encode.Statement.{statement}
 use Rattle.encoder.proofs.encode.Tie as tie
 
 returns : tie.Need-returns
-returns c = encoding-refused _ _ _ _ _ _ _ (untested _ _ _ _ _ (sym (c .before .before .is-lawful .ensures) ∙ not-true _ (c .before .if1 .taken)) (c .shape-refusal .ensures)) refl
+returns c = writing-asked _ (encoding-refused _ _ _ _ _ _ _ (untested _ _ _ _ _ (sym (c .before .before .is-lawful .ensures) ∙ not-true _ (c .before .if1 .taken)) (c .shape-refusal .ensures)) refl)
 
 test-requires : tie.Need-test-requires
 test-requires c κs = let else = c .before .before in sym (else .before .is-lawful .ensures) ∙ not-false _ (else .if1 .left)
@@ -18,10 +19,10 @@ write-requires c κs =
     (p .shape, p .word-size, p .symbols-size, p .width)
 
 returns-2 : tie.Need-returns-2
-returns-2 c = encoding-refused _ _ _ _ _ _ _ (c .before .before .before .before .before .test .ensures) (c .before .tested .given .1)
+returns-2 c = writing-asked _ (encoding-refused _ _ _ _ _ _ _ (c .before .before .before .before .before .test .ensures) (c .before .tested .given .1))
 
 returns-3 : tie.Need-returns-3
-returns-3 c = let told = c .before .before .before .before in encoding-done _ _ _ _ _ _ _ (told .before .before .before .before .test .ensures) (told .enum-told .given .1) (c .before .before .write .ensures)
+returns-3 c = let told = c .before .before .before .before in writing-asked _ (encoding-done _ _ _ _ _ _ _ (told .before .before .before .before .test .ensures) (told .enum-told .given .1) (c .before .before .write .ensures))
 
 pub encode-spec : {M : Type 1} → statement M
 encode-spec = tie.close (tie.spec (λ c κs. search needs) (λ c κs. search needs) returns test-requires (λ c. search needs) (λ c. search needs) write-requires (λ c. search needs) (λ c. search needs) returns-2 (λ c. search needs) (λ c. search needs) returns-3)

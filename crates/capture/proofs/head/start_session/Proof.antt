@@ -7,12 +7,12 @@ use Rattle.capture.proofs.head.start_session.Tie as tie
 
 returns : tie.Need-returns
 returns c =
-    let f = c .before .before .before .before .fresh .ensures in
+    let f = c .before .before .before .before .fresh .ensures .0 in
     rw (sym (f .status) ∙ c .before .enum-told .given .1) (c .pass .ensures ∙ ap (passed _) (f .session))
 
 returns-2 : tie.Need-returns-2
 returns-2 c =
-    let f = c .before .before .before .before .before .fresh .ensures in
+    let f = c .before .before .before .before .before .fresh .ensures .0 in
     rw (sym (f .status) ∙ c .before .before .status .given .1) (c .fail .ensures)
 
 pub start-session-spec : {M : Type 1} → statement M

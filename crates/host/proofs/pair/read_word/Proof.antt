@@ -14,7 +14,7 @@ returns : tie.Need-returns
 returns c =
     let start = c .before .before .before .before .before .before .before .before .before .before .before .before .before in
     let loaded = c .before .before .before .before .before .before .before .before .load .ensures in
-    let read = c .before .before .before .before .decode .ensures in
+    let read = c .before .before .before .before .decode .ensures .0 in
     let bytes = start .args .bytes .now in
     word-read (start .args .shape) bytes (start .pre .0) (start .pre .1) loaded read (c .decoded .ensures)
     (⊎-elim (λ w. put-back (start .args .shape) bytes (w .1 .given .0 .0) (w .1 .given .1) loaded (read .word) (w .7 ∙ w .4 .ensures))

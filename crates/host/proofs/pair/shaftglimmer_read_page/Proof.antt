@@ -41,7 +41,7 @@ returns-3 : tie.Need-returns-3
 returns-3 c =
     let tested = c .before .before .before .before .before .before .before .before .before in
     let s = c .before .before .before .before .before .before .before .before .before .before .before .before .before .before .args in
-    c .read .ensures ∙ ap readNumber (c .before .before .read-page .ensures ∙ ap (pageOf (standard (s .q) (s .n) (s .b))) (c .before .before .before .before .before .before .load .ensures) ∙ sym (page-past _ _ (legal (tested .before .before)) (rw (tested .before .info-length .ensures) at (tested .if2 .left))))
+    c .read .ensures ∙ ap readNumber (c .before .before .read-page .ensures .0 ∙ ap (pageOf (standard (s .q) (s .n) (s .b))) (c .before .before .before .before .before .before .load .ensures) ∙ sym (page-past _ _ (legal (tested .before .before)) (rw (tested .before .info-length .ensures) at (tested .if2 .left))))
 
 pub shaftglimmer-read-page-spec : {M : Type 1} → statement M
-shaftglimmer-read-page-spec = tie.close (tie.spec (λ c κs. search needs) (λ c κs. search needs) (λ c κs. search needs) returns (λ c κs. legal c) mul-if2 (λ c κs. search needs) returns-2 (λ c. room c) (λ c. sym (length-take-le _ _ (room (c .before)))) load-requires (λ c κs. search needs) (λ c κs. rw (c .before .read-page .ensures) (read-fits _ _)) returns-3)
+shaftglimmer-read-page-spec = tie.close (tie.spec (λ c κs. search needs) (λ c κs. search needs) (λ c κs. search needs) returns (λ c κs. legal c) mul-if2 (λ c κs. search needs) returns-2 (λ c. room c) (λ c. sym (length-take-le _ _ (room (c .before)))) load-requires (λ c κs. search needs) (λ c κs. rw (c .before .read-page .ensures .0) (read-fits _ _)) returns-3)

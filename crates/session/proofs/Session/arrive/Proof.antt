@@ -10,11 +10,17 @@ use Rattle.gtb.proofs.Sizes.{sizes}
 use Rattle.session.specs.Session.{consistent, Consistent}
 use Rattle.session.specs.Steps.{Openable}
 use Rattle.session.proofs.Arrive.{tests-refused, tests-passed, decides-arrives}
+use Rattle.session.proofs.Arrays.{sized}
+use denote.Struct.Field.{bool-field}
+use Rattle.session.proofs.Arriving.{arrival-asked}
 use Rattle.session.proofs.Session.arrive.Statement.{statement}
 use Rattle.session.proofs.Session.arrive.Tie as tie
 
 abbrev start : tie.After-word-status → tie.Start
 start c = c .before .before .before .before .before .before .before .before .before
+
+marks-size : (c : tie.Start) → length (c .args .t1 .taken) ≡ 1024
+marks-size c = sized bool-field 1024 (c .args .t1 .taken) _ (c .good .0 .1 .1 .1 .0)
 
 agrees : (c : tie.After-word-status) → c .before .before .before .before .agree .result ≡ consistent (start c .args .t1)
 unfolding consistent
@@ -38,8 +44,10 @@ info-room c = omega (arith, c .info-length .ensures, sizes _ (passed (told c) .1
 returns : tie.Need-returns
 returns c =
     let tested = c .before .before .before .before in
-    let s = start tested .args in
-    tests-refused (s .t1) refl (agrees tested) (s .way) (s .word .now) (s .scratch .now) (sym (tested .word-status .ensures) ∙ c .before .before .e .given .1) (c .refused .ensures)
+    let begin = start tested in
+    let s = begin .args in
+    arrival-asked (s .t1) (marks-size begin) (s .word .now) (s .scratch .now) (s .way)
+    (tests-refused (s .t1) refl (agrees tested) (s .way) (s .word .now) (s .scratch .now) (sym (tested .word-status .ensures) ∙ c .before .before .e .given .1) (c .refused .ensures))
 
 settle-word-requires : tie.Need-settle-word-requires
 settle-word-requires c κs =
@@ -51,7 +59,10 @@ returns-2 : tie.Need-returns-2
 returns-2 c =
     let at = told (c .before .before .before .before .before .before .before .before) in
     let (right, fits, room) = passed at in
-    decides-arrives _ (start (at .before .before) .args .scratch .now) right fits room (c .before .before .before .before .before .before .before .before .before .before .before .before .clear .ensures) (c .before .before .before .before .settle-word .ensures)
+    let begin = start (at .before .before) in
+    let s = begin .args in
+    arrival-asked (s .t1) (marks-size begin) (s .word .now) (s .scratch .now) (s .way)
+    (decides-arrives _ (s .scratch .now) right fits room (c .before .before .before .before .before .before .before .before .before .before .before .before .clear .ensures) (c .before .before .before .before .settle-word .ensures))
 
 pub arrive-spec : {M : Type 1} → statement M
 arrive-spec = tie.close (tie.spec (λ c κs. search needs) (λ c κs. search needs) (λ c. search needs) (λ c κs. search needs) (λ c. search needs) (λ c. search needs) returns (λ c. search needs) (λ c κs. search needs) (λ c κs. passed (c .before .before .before .before .before) .1 .lawful) (λ c. word-room (c .before)) (λ c. sym (length-take-le _ _ (word-room (c .before .before)))) (λ c. info-room (c .before .before)) (λ c. sym (length-take-le _ _ (info-room (c .before .before .before)))) settle-word-requires (λ c. search needs) (λ c. search needs) returns-2)

@@ -3,12 +3,12 @@ use mathlib.Core.Path.{_≡_, refl}
 use mathlib.Core.List.{List}
 use Rattle.paper.specs.Paper as paper
 use Rattle.paper.specs.Writing.{scratchLeft}
 use Rattle.gtb.specs.declared.Shape.{Shape}
 use Rattle.gtb.specs.declared.Refusal.{Refusal}
 use Rattle.gtb.specs.Shape.{keptChecks, scratchLength}
 use Rattle.gtb.specs.Answer.{refusalNumber, scratchAfter}
 use Prim.Native.Nat.{ℕ}
-use Rattle.conformance.proofs.Shapes.{of}
+use Rattle.gtb.specs.Shape.{of}
 
 module _ (s : Shape) where
   -- ---- the scratch after every refusal

@@ -3,14 +3,15 @@ use mathlib.Core.Path.{_≡_, refl}
 use mathlib.Core.Bool.{Bool, true, false, _&&_}
 use mathlib.Core.List.{List, [], _∷_}
 use mathlib.Core.Logic.{_⊎_, inl, inr, ⊎-elim}
-use Prim.Native.Nat.{ℕ, zero, suc, _<_}
+use Prim.Native.Nat.{ℕ, zero, suc, _<_, _≤_}
 use native.Mathlib.Nat.{le-step, lt-suc-self}
-use lib.Dec.{eqb}
-use borrow.Author.Tests.{eqb-true, eqb-false}
+use native.Mathlib.Omega.{arith}
+use lib.Dec.{eqb, leb, ltb}
+use borrow.Author.Tests.{eqb-true, eqb-false, leb-true, leb-false, ltb-true, ltb-false}
 use Rattle.parity.specs.Count.{all}
 use Rattle.parity.proofs.Tests.{either, clash, and-both}
 use Rattle.paper.specs.Answers.{Test, Judged}
 use Rattle.gtb.specs.Answer.{unless}
 
 -- our test is passed exactly where the paper's condition fails
 pub record Decides (t : Bool) (Condition : Type 0) : Type 0 where
@@ -20,6 +21,13 @@ pub record Decides (t : Bool) (Condition : Type 0) : Type 0 where
 -- our test of equality
 pub decides-eqb : (a b : ℕ) → Decides (eqb a b) (¬ (a ≡ b))
 decides-eqb a b = record { holds = eqb-false a b; fails = λ t no. no (eqb-true a b t) }
+
+-- our tests of order
+pub decides-below : (a k : ℕ) → Decides (ltb a k) (k ≤ a)
+decides-below a k = record { holds = ltb-false a k; fails = λ h no. let l = ltb-true a k h in omega arith }
+
+pub decides-upto : (a k : ℕ) → Decides (leb a k) (k < a)
+decides-upto a k = record { holds = leb-false a k; fails = λ h no. let l = leb-true a k h in omega arith }
 
 -- one row of the list: the answer r is the refusal where our test fails, and otherwise what follows
 pub test : {A Condition Refused Next : Type 0} (t : Bool) (refusal next : A) {r : A} → Decides t Condition → (r ≡ refusal → Refused) → (t ≡ true → r ≡ next → Next)

@@ -7,7 +7,7 @@ use native.Mathlib.Omega.{arith}
 use lib.Dec.{eqb, leb, ltb}
 use lib.ListN.{length, getD, take, drop, replicate, length-drop, List·getD-append}
 use lib.Seq.{getD-drop, getD-append-add}
-use borrow.Author.Tests.{eqb-true, eqb-false, leb-true, leb-false, ltb-true, ltb-false}
+use borrow.Author.Tests.{eqb-true, eqb-false, leb-true, ltb-true, ltb-false}
 use Rattle.parity.proofs.Tests.{all-elim}
 use Rattle.parity.proofs.Lists.{at-zeros}
 use Rattle.paper.specs.Paper as paper
@@ -19,18 +19,14 @@ use Rattle.gtb.specs.Shape.{infoLength}
 use Rattle.gtb.specs.Square.{narrow}
 use Rattle.gtb.specs.Answer.{refusalNumber, statusNumber}
 use Rattle.gtb.proofs.Sizes.{sizes}
 use Rattle.page.specs.declared.PageRead.{PageRead}
 use Rattle.page.specs.declared.PageRead.the-variants.{Refused}
-use Rattle.page.specs.Page.{functions, zeros, most, readNumber, pageOf, marksOf, writeStatus, pageSymbols, symbolsAfter, Writing}
+use denote.Ref.{RefT}
+use Rattle.page.specs.Page.{functions, zeros, most, readNumber, pageOf, marksOf, MarksPart, writeStatus, pageSymbols, symbolsAfter, Writing}
 use Rattle.page.proofs.Pages.{page-length, marks-of, no-marks}
-use Rattle.conformance.proofs.Judging.{Decides, decides-eqb, test, all-fails}
-use Rattle.conformance.proofs.Shapes.{of, shape-tests, decides-width}
-
-pub decides-below : (a k : ℕ) → Decides (ltb a k) (k ≤ a)
-decides-below a k = record { holds = ltb-false a k; fails = λ h no. let l = ltb-true a k h in omega arith }
-
-pub decides-upto : (a k : ℕ) → Decides (leb a k) (k < a)
-decides-upto a k = record { holds = leb-false a k; fails = λ h no. let l = leb-true a k h in omega arith }
+use Rattle.gtb.proofs.Judging.{Decides, decides-eqb, decides-below, decides-upto, test, all-fails}
+use Rattle.gtb.specs.Shape.{of}
+use Rattle.gtb.proofs.Conditions.{shape-tests, decides-width}
 
 module _ (s : Shape) where
   pub decides-functions : (marks : List ℕ) → Decides (functions marks) (paper.NoFunction marks)
@@ -113,3 +109,14 @@ module _ (s : Shape) where
     where
       turn : (e : Refusal) → r ≡ status.Refused e → (statusNumber r ≡ 2 ^ 31 + refusalNumber e) × (digits′ ≡ digits)
       turn e h = (ap statusNumber h, w .written ∙ ap (symbolsAfter s page marks digits) h)
+
+-- each entry's clauses from the first of them
+pub read-asked : (s : Shape) (digits : List ℕ) {r : PageRead} → r ≡ pageOf s digits → (r ≡ pageOf s digits) × paper.PageReading (of s) digits (readNumber r)
+read-asked s digits h = (h, page-reading s digits h)
+
+pub marks-asked : {s : Shape} {symbols part : RefT (List ℕ)} → MarksPart s symbols part → MarksPart s symbols part × paper.Marks (of s) (symbols .now) (part .now)
+marks-asked {s} {symbols} p = (p, marks s (symbols .now) (p .marks))
+
+pub write-asked : {s : Shape} {page : ℕ} {marks digits digits′ : List ℕ} {r : Status} → Writing s page marks digits digits′ r
+    → Writing s page marks digits digits′ r × paper.PageWriting (of s) page marks digits digits′ (statusNumber r)
+write-asked {s} w = (w, page-writing s w)

@@ -22,11 +22,13 @@ use Rattle.gtb.specs.Square.{at, narrow}
 use Rattle.gtb.specs.Answer.{refusalNumber}
 use Rattle.correction.specs.declared.Decoded.{Decoded}
 use Rattle.correction.specs.Answer.{decodedNumber}
 use Rattle.erasure.specs.Fill.{isListed, rising, fillStatus, Agrees, Filling}
-use Rattle.conformance.proofs.Judging.{Decides, decides-eqb, decides-both, test, all-fails}
-use Rattle.conformance.proofs.Shapes.{of, shape-tests, decides-width}
-use Rattle.conformance.proofs.Scratches.{scratch-same}
-use Rattle.conformance.proofs.Words.{codeword-stored, stored-codeword, changed-same}
+use Rattle.gtb.proofs.Judging.{Decides, decides-eqb, decides-both, test, all-fails}
+use Rattle.gtb.specs.Shape.{of}
+use Rattle.gtb.proofs.Conditions.{shape-tests, decides-width}
+use Rattle.gtb.proofs.Scratches.{scratch-same}
+use Rattle.gtb.proofs.Stored.{codeword-stored, stored-codeword}
+use Rattle.distance.proofs.Within.{changed-same}
 
 -- places of which a later one is not above an earlier one: somewhere two that follow each other are not
 falls : (places : List ℕ) (i k : ℕ) → i < length places → k < i → at places i ≤ at places k → (m : ℕ) × (suc m < length places) × (at places (suc m) ≤ at places m)
@@ -129,3 +131,6 @@ module _ (s : Shape) where
               ((several .one, several .another, agrees-paper (several .agrees), agrees-paper (several .agreesToo), several .different), (several .number, several .left, used)),
         )))
         decision)
+
+    pub filling-asked : Filling s word places scratch word′ scratch′ r × paper.Filling (of s) word places scratch word′ scratch′ (decodedNumber r)
+    filling-asked = (f, filling)

@@ -1,4 +1,4 @@
--- Tests 1, 18 and 3, lines, check values and stored words are the paper's.
+-- Tests 1, 18 and 3 are the paper's.
 use mathlib.Core.Path.{_≡_, sym}
 use mathlib.Core.Bool.{Bool, true, false, not, _&&_}
 use mathlib.Core.List.{List}
@@ -13,17 +13,14 @@ use borrow.Author.Tests.{eqb-true, eq-eqb, eqb-false, leb-true, le-leb, ltb-true
 use Rattle.parity.specs.Count.{all}
 use Rattle.parity.proofs.Tests.{either, clash, and-both, and-left, and-right, all-elim, any-elim, any-intro}
 use Rattle.paper.specs.Paper as paper
 use Rattle.gtb.specs.declared.Shape.{Shape}
 use Rattle.gtb.specs.declared.Refusal.{Refusal}
-use Rattle.gtb.specs.Shape.{orders, isOrder, regular, fitsSlope, sloped, lawful, shapeRefusal, Lawful}
+use Rattle.gtb.specs.Shape.{of, orders, isOrder, regular, fitsSlope, sloped, lawful, shapeRefusal, Lawful}
 use Rattle.gtb.specs.Square.{narrow, at}
 use Rattle.gtb.specs.Answer.{unless}
-use Rattle.conformance.proofs.Judging.{Decides, passes, all-fails}
+use Rattle.gtb.proofs.Judging.{Decides, passes, all-fails}
 
--- our shape as the paper's
-abbrev pub of : Shape → paper.Shape
-of s = record { q = s .q; n = s .n; b = s .b; slopes = s .slopes }
-
+-- a shape from the paper's numbers
 abbrev pub to : paper.Shape → Shape
 to s = record { q = s .q; n = s .n; b = s .b; slopes = s .slopes }
 

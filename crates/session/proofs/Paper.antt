@@ -1,40 +1,32 @@
--- The count query and the bill do what the paper asks.
+-- Tests 1, 18 and 11 of a session, the fresh session and the count query are the paper's.
 use mathlib.Core.Path.{_≡_, refl, sym, ap, _∙_, subst}
 use mathlib.Core.Bool.{Bool, true, false}
-use mathlib.Core.List.{List}
 use mathlib.Core.Logic.{_⊎_}
-use Prim.Native.Nat.{ℕ, _+_, _-_, _*_, _^_, _<_}
+use Prim.Native.Nat.{ℕ, _<_}
 use native.Mathlib.Omega.{arith}
 use lib.Dec.{eqb, ltb}
-use lib.ListN.{length, getD}
 use borrow.Author.Tests.{eqb-true, ltb-true, ltb-false, eqb-false}
-use Rattle.parity.proofs.Sums.{sum-cong}
 use Rattle.parity.proofs.Lowest.{Lowest, lowest-is, lowest-right}
 use Rattle.paper.specs.Paper as paper
+use Rattle.gtb.specs.declared.Shape.{Shape}
 use Rattle.gtb.specs.declared.Refusal.{Refusal}
 use Rattle.gtb.specs.declared.Status.the-variants as status
-use Rattle.gtb.specs.Shape.{lawful, shapeRefusal}
-use Rattle.gtb.specs.Answer.{unless}
+use Rattle.gtb.specs.Shape.{of, lawful, shapeRefusal}
+use Rattle.gtb.specs.Answer.{unless, statusNumber}
+use Rattle.gtb.proofs.Judging.{Decides, decides-eqb, decides-both, test}
+use Rattle.gtb.proofs.Conditions.{shape-tests}
 use Rattle.session.specs.declared.Session.{Session}
+use Rattle.session.specs.declared.Fresh.{Fresh}
 use Rattle.session.specs.declared.Counted.{Counted}
 use Rattle.session.specs.declared.Counted.the-variants as counted
-use Rattle.session.specs.Session.{marked, pagesOf, lowestOf, consistent, sessionStatus, past, countedOf, countedNumber}
-use Rattle.energy.specs.declared.Billed.{Billed}
-use Rattle.energy.specs.declared.Billed.the-variants as billed
-use Rattle.energy.specs.Energy.{callsOf, millis, roundedUp, due, billOf, billedNumber}
-use Rattle.conformance.proofs.Judging.{Decides, decides-eqb, decides-both, test}
-use Rattle.conformance.proofs.Shapes.{of, shape-tests}
-
--- the paper's session of ours
-abbrev pub session-of : Session → paper.Session
-session-of σ = record { shape = of (σ .shape); taken = σ .taken; calls = σ .calls; pages = σ .pages; lowest = σ .lowest }
+use Rattle.session.specs.Session.{plain, marked, pagesOf, lowestOf, consistent, sessionStatus, past, freshOf, freshStatus, Beginning, countedOf, countedNumber}
 
 -- ---- test 11
 module _ (σ : Session) where
   abbrev pub WrongFigures-of : Type 0
-  WrongFigures-of = paper.WrongFigures (session-of σ)
+  WrongFigures-of = paper.WrongFigures (plain σ)
 
-  decides-lowest : (k : ℕ) → Decides (eqb k (lowestOf (σ .taken))) (¬ paper.Lowest (paper.isYes (session-of σ)) k)
+  decides-lowest : (k : ℕ) → Decides (eqb k (lowestOf (σ .taken))) (¬ paper.Lowest (paper.isYes (plain σ)) k)
   unfolding lowestOf
   decides-lowest k = record {
     holds = λ differs l. eqb-false _ _ differs (sym (lowest-is 1024 (marked (σ .taken)) k (record { upto = l .upto; below = l .below; fails = l .fails })));
@@ -68,29 +60,19 @@ module _ (σ : Session) where
   decides-function f = record { holds = ltb-false f 256; fails = λ h no. let l = ltb-true f 256 h in omega arith }
 
   pub counting : (f : ℕ) {r : Counted} → r ≡ countedOf σ f
-      → paper.Counting (session-of σ) f (countedNumber r)
+      → paper.Counting (plain σ) f (countedNumber r)
   unfolding countedOf
   counting f =
       session-tests counted.Refused _ (ap countedNumber) (ap countedNumber) (ap countedNumber)
       (test (ltb f 256) _ _ (decides-function f) (ap countedNumber) (λ _. ap countedNumber))
 
-  -- ---- the bill
-  same-cost : (prices : List ℕ) → millis (callsOf σ) prices ≡ paper.cost (session-of σ) prices
-  unfolding millis
-  same-cost prices =
-      sum-cong 255 _ _ (λ i l. let e : i + 1 ≡ 1 + i = omega arith in ap (λ (f : ℕ). getD (σ .calls) f 0 * getD prices f 0) e)
+  pub counting-asked : (f : ℕ) {r : Counted} → r ≡ countedOf σ f → (r ≡ countedOf σ f) × paper.Counting (plain σ) f (countedNumber r)
+  counting-asked f h = (h, counting f h)
 
-  decides-bill : (m : ℕ) → Decides (ltb m (2 ^ 64)) (2 ^ 64 - 1 < m)
-  decides-bill m = record { holds = λ h. let l = ltb-false m (2 ^ 64) h in omega arith; fails = λ h large. let l = ltb-true m (2 ^ 64) h in omega arith }
+-- ---- the fresh session
+pub beginning : (s : Shape) (r : Fresh) → Beginning s r → paper.Beginning (of s) (plain (r .session)) (statusNumber (r .status))
+unfolding freshStatus freshOf
+beginning s r x = shape-tests s status.Refused _ (ap statusNumber) (ap statusNumber) (λ _ h. (ap statusNumber h, ap plain (x .session))) (x .status)
 
-  rounded : {m c p : ℕ} → m ≡ c → p ≡ roundedUp m → paper.RoundedUp c p
-  rounded same h = record { enough = omega arith; least = omega arith }
-
-  pub billing : (prices : List ℕ) {r : Billed} → r ≡ billOf σ prices
-      → paper.Billing (session-of σ) prices (billedNumber r)
-  unfolding billOf due
-  billing prices =
-      session-tests billed.Refused _ (ap billedNumber) (ap billedNumber) (ap billedNumber)
-      (test (eqb (length prices) 256) _ _ (decides-eqb _ _) (ap billedNumber) (λ _.
-      test (ltb (millis (callsOf σ) prices) (2 ^ 64)) _ _ (rw (same-cost prices) (decides-bill _)) (ap billedNumber) (λ _ h.
-      rounded (same-cost prices) (ap billedNumber h))))
+pub beginning-asked : {s : Shape} {r : Fresh} → Beginning s r → Beginning s r × paper.Beginning (of s) (plain (r .session)) (statusNumber (r .status))
+beginning-asked {s} {r} x = (x, beginning s r x)

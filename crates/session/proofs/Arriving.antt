@@ -1,65 +1,58 @@
 -- An arrival does what the paper asks.
 use mathlib.Core.Path.{_≡_, refl, sym, ap, _∙_, subst}
-use mathlib.Core.Bool.{Bool, true, false, not, cond, _&&_, _||_}
+use mathlib.Core.Bool.{Bool, true, false, cond, _&&_}
 use mathlib.Core.List.{List, [], _∷_}
 use mathlib.Core.Logic.{_⊎_, inl, inr, ⊎-elim}
-use Prim.Native.Nat.{ℕ, zero, suc, _+_, _^_, _<_}
+use Prim.Native.Nat.{ℕ, zero, suc, _+_, _<_}
 use native.Mathlib.Omega.{arith}
 use lib.Dec.{eqb, leb, ltb}
-use lib.ListN.{length, getD, set, take, drop, replicate, length-set}
-use lib.Seq.{getD-set-same, getD-set-other}
-use borrow.Author.Tests.{le-ltb, eqb-true, eq-eqb, eqb-false, lt-ltb, leb-true, leb-false, ltb-true, not-true, not-false}
-use Rattle.parity.specs.Count.{bit, sum, count}
-use Rattle.parity.proofs.Tests.{either, clash, and-left, not-of-true, not-of-false, all-intro, any-elim, any-no}
+use lib.ListN.{length, getD, take, drop, replicate}
+use borrow.Author.Tests.{le-ltb, eqb-true, eq-eqb, lt-ltb, ltb-true}
+use Rattle.parity.proofs.Tests.{either, clash, and-left, not-of-true, not-of-false, all-intro}
 use Rattle.parity.proofs.Lists.{length-tabulate, at-tabulate}
 use Rattle.paper.specs.Paper as paper
 use Rattle.paper.specs.Writing.{scratchLeft}
-use Rattle.paper.specs.Session.{marksFor}
 use Rattle.gtb.specs.declared.Shape.{Shape}
 use Rattle.gtb.specs.declared.Refusal.{Refusal}
 use Rattle.gtb.specs.declared.Status.the-variants as status
-use Rattle.gtb.specs.Shape.{lawful, shapeRefusal, Lawful, wordLength, infoLength, scratchLength, keptChecks}
+use Rattle.gtb.specs.Shape.{of, lawful, shapeRefusal, Lawful, wordLength, infoLength, scratchLength, keptChecks}
 use Rattle.gtb.specs.Square.{at, narrow, Word}
 use Rattle.gtb.specs.Positions.{infoPosition, extractOf}
 use Rattle.gtb.specs.Answer.{refusalNumber, unless}
 use Rattle.gtb.proofs.Words.{narrow-word}
+use Rattle.gtb.proofs.Judging.{Decides, decides-eqb, decides-both, decides-below, decides-upto, test}
+use Rattle.gtb.proofs.Conditions.{shape-tests, decides-width}
+use Rattle.gtb.proofs.Stored.{digits-word}
+use Rattle.gtb.proofs.Places.{extracted}
+use Rattle.gtb.proofs.Scratches.{scratch-same}
+use Rattle.distance.proofs.Within.{changed-same}
 use Rattle.correction.specs.declared.Decoded.{Decoded}
 use Rattle.correction.specs.declared.Decoded.the-variants as decoded
 use Rattle.correction.specs.Reading.{Reader, Meaning, changesBy, restoredBy, acceptedBy, readOf}
 use Rattle.correction.proofs.Readings.{Meant}
+use Rattle.correction.proofs.Paper.{Named}
 use Rattle.decoder.specs.Decode as decoder
-use Rattle.majority.specs.Majority as majority
-use Rattle.double.specs.Double as double
 use Rattle.decoder.proofs.Meaning.{clean-meant}
+use Rattle.decoder.proofs.Paper.{clean-named}
+use Rattle.majority.specs.Majority as majority
 use Rattle.majority.proofs.Meaning.{vote-meant}
+use Rattle.majority.proofs.Paper.{vote-named}
+use Rattle.double.specs.Double as double
 use Rattle.double.proofs.Meaning.{two-meant}
+use Rattle.double.proofs.Paper.{two-named}
 use Rattle.page.specs.declared.PageRead.{PageRead}
 use Rattle.page.specs.declared.PageRead.the-variants as page
 use Rattle.page.specs.Page.{functions, zeros, most, pageOf, marksOf}
 use Rattle.page.proofs.Pages.{passed-read, marks-of}
+use Rattle.page.proofs.Paper.{decides-functions, decides-tail}
 use Rattle.session.specs.declared.Session.{Session}
 use Rattle.session.specs.declared.Outcome.{Outcome}
 use Rattle.session.specs.declared.Outcome.the-variants.{Taken, Again, Refused}
 use Rattle.session.specs.declared.Arrived.{Arrived}
-use Rattle.session.specs.Session.{consistent, sessionStatus, past, isCall, countOf, added, overflows, recorded}
-use Rattle.session.specs.Arrival.{outcomeValues, isWay, wayOf, theWays, Opened, Page, Bad, openPage, openWord, opened, arrivalStatus, presented, outcomeOf, sessionBy, sessionAfter, wordAfter, outcomeScratch, Arriving}
-use Rattle.session.proofs.Progress.{figured-consistent}
-use Rattle.conformance.proofs.Judging.{Decides, decides-eqb, decides-both, test}
-use Rattle.conformance.proofs.Shapes.{of, shape-tests, decides-width}
-use Rattle.conformance.proofs.Words.{changed-same, digits-word}
-use Rattle.conformance.proofs.Scratches.{scratch-same}
-use Rattle.conformance.proofs.Readings.{Named, clean-named, vote-named, two-named}
-use Rattle.conformance.proofs.Writes.{extracted}
-use Rattle.conformance.proofs.Pages.{decides-below, decides-upto, decides-functions, decides-tail}
-use Rattle.conformance.proofs.Sessions.{session-of, decides-figures}
-
-or-yes : (a : Bool) → (a || true) ≡ true
-or-yes true = refl
-or-yes false = refl
-
-or-no-more : (a : Bool) → (a || false) ≡ a
-or-no-more true = refl
-or-no-more false = refl
+use Rattle.session.specs.Session.{plain, consistent, sessionStatus, past, overflows}
+use Rattle.session.specs.Arrival.{outcomeValues, handed, left, isWay, wayOf, theWays, Opened, Page, Bad, openPage, openWord, opened, arrivalStatus, presented, outcomeOf, sessionBy, sessionAfter, wordAfter, outcomeScratch, Arriving}
+use Rattle.session.proofs.Paper.{decides-figures}
+use Rattle.session.proofs.Taken.{recorded-paper, decides-worn}
 
 -- ---- what is opened, test by test
 open-read : (s : Shape) (v : List ℕ) (t : Bool) (e : Refusal) (next : Decoded) → openWord s v (unless t (decoded.Refused e) next) ≡ unless t (Bad e) (openWord s v next)
@@ -98,58 +91,6 @@ read-stored s zero w v x = x .damaged .stored
 read-stored s (suc zero) w v x = x .stored
 read-stored s (suc (suc way)) w v x = x .stored
 
--- ---- the marks for a function
-sum-head : (n : ℕ) (g : ℕ → ℕ) → sum (suc n) g ≡ g 0 + sum n (λ i. g (suc i))
-unfolding sum
-sum-head zero g = omega arith
-sum-head (suc n) g = let ih = sum-head n g in omega arith
-
-pub marks-for : (f : ℕ) (marks : List ℕ) → countOf f marks ≡ marksFor f marks
-unfolding countOf marksFor count sum
-marks-for f [] = refl
-marks-for f (m ∷ marks) =
-    ap (λ (x : ℕ). bit (eqb m f && isCall m) + x) (marks-for f marks)
-    ∙ sym (sum-head (length marks) (λ i. bit (eqb (getD (m ∷ marks) i 0) f && not (eqb (getD (m ∷ marks) i 0) 0))))
-
--- ---- the session after a page
-module _ (σ : Session) (size : length (σ .taken) ≡ 1024) (number : ℕ) (below : number < 1024) (marks : List ℕ) where
-  abbrev s : Shape
-  s = σ .shape
-
-  set-marked : (p : ℕ) → getD (set (σ .taken) number true) p false ≡ (getD (σ .taken) p false || eqb p number)
-  set-marked p =
-      ⊎-elim
-      (λ (same : eqb p number ≡ true).
-      ap (λ (x : ℕ). getD (set (σ .taken) number true) x false) (eqb-true p number same)
-      ∙ getD-set-same (σ .taken) number true false (rw size below)
-      ∙ sym (ap (λ (x : Bool). getD (σ .taken) p false || x) same ∙ or-yes (getD (σ .taken) p false)))
-      (λ (other : eqb p number ≡ false).
-      getD-set-other (σ .taken) number p true false (eqb-false p number other) ∙ sym (ap (λ (x : Bool). getD (σ .taken) p false || x) other ∙ or-no-more (getD (σ .taken) p false)))
-      (either (eqb p number))
-
-  recorded-paper : paper.Recorded (session-of σ) number marks (session-of (recorded σ number marks))
-  unfolding recorded added
-  recorded-paper = record {
-    marked = λ p l. set-marked p;
-    counted = λ f l. at-tabulate 256 _ f l ∙ ap (λ (x : ℕ). getD (σ .calls) f 0 + x) (marks-for f marks);
-    shape = refl;
-    size = (length-set (σ .taken) number true ∙ size, length-tabulate 256 _);
-    figures = decides-figures (recorded σ number marks) .fails (figured-consistent (σ .shape) _ _);
-  }
-
-  decides-worn : Decides (not (overflows (σ .calls) marks)) (paper.Worn (session-of σ) marks)
-  unfolding overflows
-  decides-worn = record {
-    holds = λ h.
-        let (f, l, e) = any-elim 256 (λ f. leb (2 ^ 32) (getD (σ .calls) f 0 + countOf f marks)) (not-false _ h) in
-        let large = leb-true (2 ^ 32) (getD (σ .calls) f 0 + countOf f marks) e in
-        (f, l, omega (arith, marks-for f marks));
-    fails = λ h worn.
-        let (f, l, large) = worn in
-        let small = leb-false (2 ^ 32) (getD (σ .calls) f 0 + countOf f marks) (any-no 256 _ (not-true _ h) f l) in
-        omega (arith, marks-for f marks);
-  }
-
 -- ---- an arrival by a way of reading
 module _ (σ : Session) (size : length (σ .taken) ≡ 1024) {way : ℕ} {reader : Reader} {Means : Meaning} (named : Named way reader Means (σ .shape)) (m : Meant reader Means)
     (word scratch : List ℕ) (session′ : Session) (word′ scratch′ : List ℕ) (outcome : Outcome) where
@@ -171,11 +112,11 @@ module _ (σ : Session) (size : length (σ .taken) ≡ 1024) {way : ℕ} {reader
     pub used : scratch′ ≡ outcomeScratch scratch outcome
 
   abbrev Refusing : ℕ → Type 0
-  Refusing k = (outcomeValues outcome ≡ 2 ∷ k ∷ 0 ∷ []) × (session-of session′ ≡ session-of σ) × (word′ ≡ word) × (scratch′ ≡ scratchLeft k scratch)
+  Refusing k = (outcomeValues outcome ≡ 2 ∷ k ∷ 0 ∷ []) × (plain session′ ≡ plain σ) × (word′ ≡ word) × (scratch′ ≡ scratchLeft k scratch)
 
   refusing : (e : Refusal) → outcome ≡ Refused e → session′ ≡ σ → word′ ≡ wordAfter word v outcome → scratch′ ≡ outcomeScratch scratch outcome → Refusing (refusalNumber e)
   refusing e h same left used =
-      (ap outcomeValues h, ap session-of same, left ∙ ap (wordAfter word v) h, used ∙ ap (outcomeScratch scratch) h ∙ scratch-same sh e scratch)
+      (ap outcomeValues h, ap plain same, left ∙ ap (wordAfter word v) h, used ∙ ap (outcomeScratch scratch) h ∙ scratch-same sh e scratch)
 
   module _ (o : Opened) (x : Left o) where
     turn : (e : Refusal) → o ≡ Bad e → Refusing (refusalNumber e)
@@ -215,15 +156,15 @@ module _ (σ : Session) (size : length (σ .taken) ≡ 1024) {way : ℕ} {reader
         after r is = x .after ∙ ap (sessionAfter σ) h ∙ ap (sessionBy σ (Page (at d 0) marks (changesBy reader sh word))) (sym (ap (outcomeOf σ) h) ∙ sym (x .answered) ∙ is)
 
         settled :
-            ((getD (σ .taken) (at d 0) false ≡ true) × (session-of session′ ≡ session-of σ) × Accepting 1)
-            ⊎ ((getD (σ .taken) (at d 0) false ≡ false) × ((paper.Worn (session-of σ) marks × Refusing 9)
-            ⊎ ((¬ paper.Worn (session-of σ) marks)
-            × (paper.Recorded (session-of σ) (at d 0) marks (session-of session′) × Accepting 0))))
+            ((getD (σ .taken) (at d 0) false ≡ true) × (plain session′ ≡ plain σ) × Accepting 1)
+            ⊎ ((getD (σ .taken) (at d 0) false ≡ false) × ((paper.Worn (plain σ) marks × Refusing 9)
+            ⊎ ((¬ paper.Worn (plain σ) marks)
+            × (paper.Recorded (plain σ) (at d 0) marks (plain session′) × Accepting 0))))
         settled =
             ⊎-elim
             (λ (again : getD (σ .taken) (at d 0) false ≡ true).
             let is : outcome ≡ Again (at d 0) (changesBy reader sh word) = rw again at answered in
-            inl (again, ap session-of (after _ is), accepting 1 (Again (at d 0) (changesBy reader sh word)) refl refl refl is))
+            inl (again, ap plain (after _ is), accepting 1 (Again (at d 0) (changesBy reader sh word)) refl refl refl is))
             (λ (new : getD (σ .taken) (at d 0) false ≡ false).
             let is : outcome ≡ cond (overflows (σ .calls) marks) (Refused Refusal.Overflow) (Taken (at d 0) (changesBy reader sh word)) = rw new at answered in
             inr (
@@ -237,7 +178,7 @@ module _ (σ : Session) (size : length (σ .taken) ≡ 1024) {way : ℕ} {reader
                   inr (
                     decides-worn σ size (at d 0) below marks .fails (not-of-false fresh),
                     (
-                      subst (λ (τ : Session). paper.Recorded (session-of σ) (at d 0) marks (session-of τ)) (sym (after _ taken)) (recorded-paper σ size (at d 0) below marks),
+                      subst (λ (τ : Session). paper.Recorded (plain σ) (at d 0) marks (plain τ)) (sym (after _ taken)) (recorded-paper σ size (at d 0) below marks),
                       accepting 0 (Taken (at d 0) (changesBy reader sh word)) refl refl refl taken,
                     ),
                   ))
@@ -266,10 +207,10 @@ module _ (σ : Session) (size : length (σ .taken) ≡ 1024) {way : ℕ} {reader
 
       contents : o ≡ openPage sh d (changesBy reader sh word) (pageOf sh d)
           → paper.Judged (paper.contents (of sh) d) Refusing
-          (((getD (σ .taken) (at d 0) false ≡ true) × (session-of session′ ≡ session-of σ) × Accepting 1)
+          (((getD (σ .taken) (at d 0) false ≡ true) × (plain session′ ≡ plain σ) × Accepting 1)
           ⊎ ((getD (σ .taken) (at d 0) false ≡ false)
-          × paper.Judged ((9, paper.Worn (session-of σ) (paper.marksIn d)) ∷ []) Refusing
-          (paper.Recorded (session-of σ) (at d 0) (paper.marksIn d) (session-of session′) × Accepting 0)))
+          × paper.Judged ((9, paper.Worn (plain σ) (paper.marksIn d)) ∷ []) Refusing
+          (paper.Recorded (plain σ) (at d 0) (paper.marksIn d) (plain session′) × Accepting 0)))
       contents h =
           test (ltb (at d 0) 1024) _ _ (decides-below _ _) (turn Refusal.Page) (λ below.
           test (leb (at d 1) (most sh)) _ _ (decides-upto _ _) (turn Refusal.Count) (λ few.
@@ -298,7 +239,7 @@ module _ (σ : Session) (size : length (σ .taken) ≡ 1024) {way : ℕ} {reader
     arriving : ¬ (2 < way)
         → o ≡ unless (lawful sh) (Bad (shapeRefusal sh)) (unless (consistent σ) (Bad Refusal.Figures) (unless (reader .suits sh) (Bad Refusal.Directions)
         (unless (eqb (length word) (wordLength sh) && eqb (length scratch) (scratchLength sh)) (Bad Refusal.Length) (openWord sh v (readOf reader sh word)))))
-        → paper.Arriving (session-of σ) (record { way = way; word = word; scratch = scratch }) (record { session = session-of session′; word = word′; scratch = scratch′; answer = outcomeValues outcome })
+        → paper.Arriving (plain σ) (record { way = way; word = word; scratch = scratch }) (record { session = plain session′; word = word′; scratch = scratch′; answer = outcomeValues outcome })
     unfolding scratchLength keptChecks
     arriving known h =
         inr (
@@ -336,7 +277,7 @@ no-way σ word scratch way l = rw (le-ltb way 3 l)
 
 module _ (σ : Session) (size : length (σ .taken) ≡ 1024) (word scratch : List ℕ) {word′ scratch′ : List ℕ} {r : Arrived} where
   pub arrival : (way : ℕ) → Arriving theWays σ way word scratch word′ scratch′ r
-      → paper.Arriving (session-of σ) (record { way = way; word = word; scratch = scratch }) (record { session = session-of (r .session); word = word′; scratch = scratch′; answer = outcomeValues (r .outcome) })
+      → paper.Arriving (plain σ) (handed way word scratch) (left r word′ scratch′)
   unfolding wayOf isWay presented arrivalStatus opened sessionStatus
   arrival zero x =
       arriving σ size (clean-named (σ .shape)) clean-meant word scratch (r .session) word′ scratch′ (r .outcome) (presented theWays σ 0 word scratch)
@@ -357,3 +298,7 @@ module _ (σ : Session) (size : length (σ .taken) ≡ 1024) (word scratch : Lis
         turn σ size (two-named (σ .shape)) two-meant word scratch (r .session) word′ scratch′ (r .outcome) (presented theWays σ (suc (suc (suc way))) word scratch)
             (record { answered = x .outcome; after = x .session; left = x .wordLeft; used = x .scratchLeft }) Refusal.Shape (no-way σ word scratch _ known),
       )
+
+  pub arrival-asked : (way : ℕ) → Arriving theWays σ way word scratch word′ scratch′ r → Arriving theWays σ way word scratch word′ scratch′ r
+      × paper.Arriving (plain σ) (handed way word scratch) (left r word′ scratch′)
+  arrival-asked way x = (x, arrival way x)

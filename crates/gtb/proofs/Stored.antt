@@ -8,13 +8,12 @@ use lib.ListN.{getD}
 use Rattle.parity.specs.Xor.{when}
 use Rattle.parity.proofs.XorSums as xors
 use Rattle.paper.specs.Paper as paper
-use Rattle.paper.specs.Square.{line, value, changed}
+use Rattle.paper.specs.Square.{line, value}
 use Rattle.gtb.specs.declared.Shape.{Shape}
 use Rattle.gtb.specs.Shape.{wordLength, slopeOf}
 use Rattle.gtb.specs.Square.{lineOf, at, syndrome, Word, Codeword}
 use Rattle.gtb.proofs.Words.{beyond}
-use Rattle.distance.specs.Distance.{differences}
-use Rattle.conformance.proofs.Shapes.{of}
+use Rattle.gtb.specs.Shape.{of}
 
 module _ (s : Shape) where
   pub line-same : (t j : ℕ) → lineOf s t j ≡ line (of s) t j
@@ -37,7 +36,3 @@ module _ (s : Shape) where
 
   pub stored-codeword : {w : List ℕ} → paper.Stored (of s) w → Codeword s w
   stored-codeword {w} h = record { word = digits-word (h .digits); checks = record { silent = λ t L lt lL. value-same w t L ∙ h .zero t L lt lL } }
-
-  pub changed-same : (came given : List ℕ) → differences s given came ≡ changed (of s) came given
-  unfolding differences changed
-  changed-same came given = refl
