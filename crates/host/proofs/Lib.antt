@@ -8,3 +8,5 @@ pub mod Room
 pub mod Values
 pub mod Boundary
 pub mod Paper
+pub mod Spelled
+pub mod Placed

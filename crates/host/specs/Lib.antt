@@ -4,3 +4,6 @@ pub mod Crossing
 pub mod Entries
 pub mod Steps
 pub mod Calls
+pub mod Line
+pub mod Texts
+pub mod Version
