@@ -12,8 +12,8 @@ pub extern "C" fn shaftglimmer_arrive(
     session: &mut [u32; SESSION],
     way: u32,
     word: &mut [u32],
-    scratch: &mut [u32],
     outcome: &mut [u32; 3],
+    scratch: &mut [u32],
 ) -> u32
     ensures { λ r. ⌜ Arrives (now (session .entry)) way (now (word .entry)) (now (scratch .entry)) (now (session .exit)) (now (word .exit)) (now (scratch .exit)) (now (outcome .exit)) r ⌝ }
 {
@@ -27,8 +27,8 @@ pub extern "C" fn shaftglimmer_arrive_all(
     session: &mut [u32; SESSION],
     way: u32,
     words: &mut [u32],
-    scratch: &mut [u32],
     outcomes: &mut [u32],
+    scratch: &mut [u32],
 ) -> u32
     ensures { λ r. ⌜ Delivers (now (session .entry)) way (now (words .entry)) (now (scratch .entry)) (now (outcomes .entry)) (now (session .exit)) (now (words .exit)) (now (scratch .exit)) (now (outcomes .exit)) r ⌝ }
 {

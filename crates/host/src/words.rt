@@ -7,8 +7,8 @@ ghost use Rattle.paper.specs.Boundary.{shapeIn};
 pub extern "C" fn shaftglimmer_encode(
     shape: &[u32; 10],
     data: &[u32],
-    scratch: &mut [u32],
     word: &mut [u32],
+    scratch: &mut [u32],
 ) -> u32
     ensures { λ r. ⌜ paper.Writing (shapeIn (now (shape .entry))) (now («data» .entry)) (now (scratch .entry)) (now (word .entry)) (now (scratch .exit)) (now (word .exit)) r ⌝ }
 {
@@ -18,9 +18,9 @@ pub extern "C" fn shaftglimmer_encode(
 #[no_mangle]
 pub extern "C" fn shaftglimmer_extract(
     shape: &[u32; 10],
+    word: &[u32],
     data: &mut [u32],
     scratch: &mut [u32],
-    word: &[u32],
 ) -> u32
     ensures { λ r. ⌜ paper.Extraction (shapeIn (now (shape .entry))) (now (word .entry)) (now (scratch .entry)) (now («data» .entry)) (now (scratch .exit)) (now («data» .exit)) r ⌝ }
 {
