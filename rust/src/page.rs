@@ -25,6 +25,15 @@ pub struct Page<'a> {
 }
 
 /// Reads the page in these information symbols. Refuses with 2, 3, 5, 6, 7 or 8.
+///
+/// ```
+/// use shaftglimmer::{parse_page, Refusal, Shape};
+///
+/// let shape = Shape::new(3, 2, 8)?;
+/// assert_eq!(parse_page(&shape, &[1, 2, 3, 5])?.marks().collect::<Vec<u8>>(), [3, 5]);
+/// assert_eq!(parse_page(&shape, &[1, 1, 3, 5]), Err(Refusal::Tail)); // one mark, and 5 stands after it
+/// # Ok::<(), Refusal>(())
+/// ```
 pub fn parse_page<'a>(shape: &Shape, data: &'a [u32]) -> Result<Page<'a>, Refusal> {
     let answer = answered(sys::parse_page(shape, data))?;
     let (number, count) = (answer / 1024, answer as usize % 1024);

@@ -13,7 +13,7 @@ macro_rules! refusals {
         /// assert_eq!((refusal.number(), refusal.name()), (1, "shape"));
         /// println!("{refusal} {}", refusal.advice());
         /// ```
-        #[derive(Clone, Copy, Debug, PartialEq, Eq, PartialOrd, Ord, Hash)]
+        #[derive(Clone, Copy, PartialEq, Eq, PartialOrd, Ord, Hash)]
         #[non_exhaustive]
         pub enum Refusal {
             $(#[doc = concat!($number, ": ", $meaning)] $variant = $number,)*
@@ -73,13 +73,13 @@ refusals! {
         "The word is no page of this format: check the shape, then the sender.";
     Count = 6, "count",
         "There are more marks than a page holds, (q - 1)(q + 1 - n) - 2.",
-        "As for 5.";
+        "The word is no page of this format: check the shape, then the sender.";
     Function = 7, "function",
         "A function number is above 255.",
-        "As for 5. In a count query, ask for 0 to 255.";
+        "The word is no page of this format: check the shape, then the sender. In a count query, ask for 0 to 255.";
     Tail = 8, "tail",
         "A symbol after the last mark is not zero.",
-        "As for 5.";
+        "The word is no page of this format: check the shape, then the sender.";
     Overflow = 9, "worn",
         "A count would pass 2^32 - 1. Only a session that was not grown from a fresh one meets it.",
         "Begin a fresh session.";
@@ -128,6 +128,13 @@ impl Refusal {
 impl fmt::Display for Refusal {
     fn fmt(&self, f: &mut fmt::Formatter<'_>) -> fmt::Result {
         write!(f, "refusal {} ({}): {}", self.number(), self.name(), self.meaning())
+    }
+}
+
+/// The same as [`Display`](fmt::Display), so that a `main` that gives it as its error says what is wrong.
+impl fmt::Debug for Refusal {
+    fn fmt(&self, f: &mut fmt::Formatter<'_>) -> fmt::Result {
+        fmt::Display::fmt(self, f)
     }
 }
 

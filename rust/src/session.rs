@@ -36,6 +36,9 @@ impl Session {
     /// How many numbers a session is.
     pub const VALUES: usize = 1292;
 
+    /// How many bytes a saved session is.
+    pub const BYTES: usize = 4 * Session::VALUES;
+
     /// A session to which no page has come.
     pub fn fresh(shape: &Shape) -> Result<Session, Refusal> {
         let mut session = Session { shape: *shape, pages: 0, lowest: 0, taken: [0; 1024], calls: [0; 256] };
@@ -59,6 +62,38 @@ impl Session {
         // SAFETY: a session is 1,292 numbers of u32 without a gap, as `repr(C)` lays them out, and any numbers are one.
         let session = unsafe { transmute::<[u32; Session::VALUES], Session>(*values) };
         session.count(0).map(|_| session)
+    }
+
+    /// Its numbers as bytes, four each, low byte first: for a file, the same on every machine.
+    ///
+    /// ```
+    /// use shaftglimmer::{Refusal, Session, Shape};
+    ///
+    /// let session = Session::fresh(&Shape::new(3, 2, 8)?)?;
+    /// let saved = session.to_bytes();
+    /// assert_eq!(Session::from_bytes(&saved)?, session);
+    /// assert_eq!(Session::from_bytes(&saved[1..]), Err(Refusal::Length));
+    /// # Ok::<(), Refusal>(())
+    /// ```
+    pub fn to_bytes(&self) -> [u8; Session::BYTES] {
+        let mut bytes = [0; Session::BYTES];
+        for (four, value) in bytes.chunks_exact_mut(4).zip(self.as_values()) {
+            four.copy_from_slice(&value.to_le_bytes());
+        }
+        bytes
+    }
+
+    /// The session with these bytes. Refuses another length with 2, and otherwise what
+    /// [`from_values`](Session::from_values) refuses.
+    pub fn from_bytes(bytes: &[u8]) -> Result<Session, Refusal> {
+        if bytes.len() != Session::BYTES {
+            return Err(Refusal::Length);
+        }
+        let mut values = [0; Session::VALUES];
+        for (value, four) in values.iter_mut().zip(bytes.chunks_exact(4)) {
+            *value = four.iter().rev().fold(0, |value, &byte| value << 8 | u32::from(byte));
+        }
+        Session::from_values(&values)
     }
 
     /// Its numbers, for saving.

@@ -46,6 +46,17 @@ pub fn decode_two(shape: &Shape, word: &mut [u32]) -> Result<u32, Refusal> {
 
 /// Reads a damaged word in place: undoes any damage to at most n - 1 symbols, whether checks hide it or not. Gives the
 /// number of symbols changed. Refuses with 2, 3 or 20, and then leaves the word as it came.
+///
+/// ```
+/// use shaftglimmer::{decode, decode_nearest, Refusal, Shape};
+///
+/// // 7 stands on two symbols of one row, where it cancels: the clean way can't undo that
+/// let (shape, mut word) = (Shape::new(3, 3, 3)?, [3, 6, 5, 2, 4, 6, 6, 5, 3]);
+/// assert_eq!(decode(&shape, &mut word), Err(Refusal::Uncorrectable));
+/// assert_eq!(decode_nearest(&shape, &mut word), Ok(2));
+/// assert_eq!(word, [3, 6, 5, 5, 3, 6, 6, 5, 3]);
+/// # Ok::<(), Refusal>(())
+/// ```
 pub fn decode_nearest(shape: &Shape, word: &mut [u32]) -> Result<u32, Refusal> {
     answered(sys::decode_nearest(shape, word))
 }
@@ -87,6 +98,14 @@ pub fn encode_with(shape: &Shape, data: &[u32], scratch: &mut [u32], word: &mut 
 }
 
 /// The information symbols of a word, codeword or not. Refuses with 2 or 3.
+///
+/// ```
+/// use shaftglimmer::{extract, Refusal, Shape};
+///
+/// // of nine symbols four carry information: those at places 4, 5, 7 and 8
+/// assert_eq!(extract(&Shape::new(3, 2, 8)?, &[5, 2, 7, 3, 1, 2, 6, 3, 5])?, [1, 2, 3, 5]);
+/// # Ok::<(), Refusal>(())
+/// ```
 #[cfg(feature = "alloc")]
 pub fn extract(shape: &Shape, word: &[u32]) -> Result<Vec<u32>, Refusal> {
     let mut data = vec![0; shape.data_length()];
@@ -144,6 +163,14 @@ pub fn restore_with(shape: &Shape, places: &[u32], word: &mut [u32], scratch: &m
 }
 
 /// How many checks of each symbol the clean way looks at, up to the first that is silent. Refuses with 2 or 3.
+///
+/// ```
+/// use shaftglimmer::{looked, Refusal, Shape};
+///
+/// // symbol 0 is wrong: its row shows it, so for the three symbols there the column is looked at too
+/// assert_eq!(looked(&Shape::new(3, 2, 8)?, &[12, 2, 7, 3, 1, 2, 6, 3, 5])?, [2, 2, 2, 1, 1, 1, 1, 1, 1]);
+/// # Ok::<(), Refusal>(())
+/// ```
 #[cfg(feature = "alloc")]
 pub fn looked(shape: &Shape, word: &[u32]) -> Result<Vec<u32>, Refusal> {
     let mut looked = vec![0; shape.word_length()];

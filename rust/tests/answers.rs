@@ -17,20 +17,22 @@ fn rows(name: &str) -> BTreeMap<u32, Vec<String>> {
 fn answers_and_what_to_do() {
     let rows = rows("ANSWERS.md");
     for refusal in Refusal::ALL {
-        let row = rows.get(&refusal.number()).unwrap_or_else(|| panic!("docs/ANSWERS.md has no row for {refusal:?}"));
-        assert_eq!([&row[1], &row[2]], [refusal.meaning(), refusal.advice()], "{refusal:?}");
+        let row = rows.get(&refusal.number()).unwrap_or_else(|| panic!("docs/ANSWERS.md has no row for {refusal}"));
+        assert_eq!([&row[1], &row[2]], [refusal.meaning(), refusal.advice()], "{refusal}");
     }
 }
 
 #[test]
 fn numbers_and_names() {
     let rules = fs::read_to_string(concat!(env!("CARGO_MANIFEST_DIR"), "/../docs/RULES.md")).expect("docs/RULES.md");
+    let code = include_str!("../src/refusal.rs");
     for refusal in Refusal::ALL {
-        let (number, name) = (refusal.number(), format!("{refusal:?}"));
-        assert!(rules.contains(&format!("| {number} | {name} |")), "docs/RULES.md, 6, has no row for {number}, {name}");
-        let by_trade = rules.contains(&format!("| {number} | {name} | {} |", refusal.name()));
-        let by_rules = rules.contains(&format!("| {number} | {name} | |")) && refusal.name() == spelled_out(&name);
-        assert!(by_trade || by_rules, "{name} is called {}", refusal.name());
+        let (number, name) = (refusal.number(), refusal.name());
+        let row = rules.lines().find_map(|line| line.strip_prefix(&format!("| {number} | ")));
+        let cells: Vec<&str> = row.unwrap_or_else(|| panic!("docs/RULES.md, 6: no row {number}")).split('|').collect();
+        let [variant, trade] = [0, 1].map(|cell| cells[cell].trim());
+        assert!(code.contains(&format!("    {variant} = {number}, \"{name}\",\n")), "{variant} is {number}, {name}");
+        assert_eq!(name, if trade.is_empty() { spelled_out(variant) } else { trade.to_string() });
         assert_eq!(Refusal::from_number(number), Some(refusal));
     }
     assert_eq!([0, 21, u32::MAX].map(Refusal::from_number), [None; 3]);
@@ -42,10 +44,19 @@ fn spelled_out(name: &str) -> String {
     name.chars().map(letter).collect::<String>().trim().to_string()
 }
 
+/// Each says by itself what to do.
+#[test]
+fn advice_stands_alone() {
+    for refusal in Refusal::ALL {
+        assert!(!refusal.advice().contains("As for") && refusal.advice().len() > 20, "{refusal}");
+    }
+}
+
 #[test]
 fn in_one_line() {
     let text = Refusal::Width.to_string();
     assert_eq!(text, "refusal 3 (width): A symbol is 2^b or more.");
+    assert_eq!(format!("{:?}", Refusal::Width), text);
     let error: Box<dyn std::error::Error> = Refusal::Width.into();
     assert_eq!(error.to_string(), text);
 }

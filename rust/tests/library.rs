@@ -151,6 +151,23 @@ fn saved_sessions() {
         values[place] = value;
         Session::from_values(&values)
     };
+    let bytes = session.to_bytes();
+    assert_eq!((bytes[..4].to_vec(), bytes.len()), (vec![3, 0, 0, 0], Session::BYTES));
+    assert_eq!(bytes.to_vec(), saved.map(u32::to_le_bytes).concat());
+    assert_eq!(Session::from_bytes(&bytes), Ok(session.clone()));
+    for length in [0, 1, Session::BYTES - 4, Session::BYTES - 1, Session::BYTES + 1, 2 * Session::BYTES] {
+        assert_eq!(Session::from_bytes(&bytes.repeat(2)[..length]), Err(Refusal::Length));
+    }
+    let wrong = |place: usize, byte: u8| {
+        let mut bytes = bytes;
+        bytes[place] = byte;
+        Session::from_bytes(&bytes)
+    };
+    assert_eq!(
+        [(0, 9), (12, 3), (44, 1)].map(|(place, byte)| wrong(place, byte).err()),
+        [Some(Refusal::Shape), Some(Refusal::Slope), Some(Refusal::Figures)]
+    );
+    assert_eq!(wrong(4 * 1036 + 4 * 9 + 3, 0x80).map(|session| session.calls()[9]), Ok(0x8000_0000));
     assert_eq!(changed(0, 9), Err(Refusal::Shape));
     assert_eq!(changed(3, 3), Err(Refusal::Slope));
     assert_eq!(changed(11, 1), Err(Refusal::Figures));

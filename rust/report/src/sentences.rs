@@ -122,6 +122,5 @@ pub fn lines(report: &Report, refused: &Refused, form: Form) -> String {
 /// Name of a refusal, when it comes, and what to do about it.
 pub fn refusal(number: usize) -> (&'static str, String, &'static str) {
     let Some(refusal) = Refusal::from_number(number as u32) else { return ("", String::new(), "") };
-    let advice = if refusal.advice().starts_with("As for 5.") { Refusal::Page.advice() } else { refusal.advice() };
-    (refusal.name(), refusal.meaning().replace('`', "'"), advice)
+    (refusal.name(), refusal.meaning().replace('`', "'"), refusal.advice())
 }

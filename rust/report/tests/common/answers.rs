@@ -10,8 +10,7 @@ pub struct Refusal {
     pub advice: String,
 }
 
-/// The refusals of the table, as a report is to say them: without the marks for code, and with the advice of 5
-/// where the table only points to it.
+/// The refusals of the table, as a report is to say them: without the marks for code.
 pub fn refusals() -> Vec<Refusal> {
     let page = fs::read_to_string(format!("{}/docs/ANSWERS.md", super::ROOT)).expect("docs/ANSWERS.md is there");
     let rows = page.lines().filter_map(|line| line.strip_prefix("| ")?.strip_suffix(" |"));
@@ -21,12 +20,5 @@ pub fn refusals() -> Vec<Refusal> {
         let [_, when, advice] = cells[..] else { return None };
         Some(Refusal { number: digits.parse().ok()?, when: when.replace('`', "'"), advice: advice.replace('`', "'") })
     };
-    let mut refusals: Vec<Refusal> = rows.filter_map(row).collect();
-    let fifth = refusals.iter().find(|refusal| refusal.number == 5).expect("5 has a row").advice.clone();
-    for refusal in &mut refusals {
-        if refusal.advice.starts_with("As for 5.") {
-            refusal.advice.clone_from(&fifth);
-        }
-    }
-    refusals
+    rows.filter_map(row).collect()
 }
