@@ -64,7 +64,7 @@ target/bin/tally-report: target/staticlib/libhost.a $(shell find rust/build.rs r
 		--manifest-path rust/report/Cargo.toml --target-dir target/report
 	install -D -m 755 target/report/release/tally-report $@
 
-# PREFIX is where the files will be used, DESTDIR a folder to lay them out in before that.
+# PREFIX is where the files will be used, DESTDIR a folder to lay them out in before that. Either may have spaces.
 place = $(DESTDIR)$(PREFIX)
 
 install: all
@@ -72,27 +72,27 @@ install: all
 
 # What has been built already.
 install-built:
-	install -D -m 755 target/bin/tally $(place)/bin/tally
-	install -D -m 755 target/bin/tally-report $(place)/bin/tally-report
-	install -D -m 644 include/shaftglimmer.h $(place)/include/shaftglimmer.h
-	install -D -m 644 target/libshaftglimmer.a $(place)/lib/libshaftglimmer.a
-	install -D -m 755 target/$(soname) $(place)/lib/$(soname)
-	ln -sf $(soname) $(place)/lib/libshaftglimmer.so
-	install -D -m 644 docs/man/tally.1 $(place)/share/man/man1/tally.1
-	install -D -m 644 docs/man/tally-report.1 $(place)/share/man/man1/tally-report.1
-	install -D -m 644 docs/man/shaftglimmer.3 $(place)/share/man/man3/shaftglimmer.3
-	install -d $(place)/lib/pkgconfig
-	sed 's|@PREFIX@|$(PREFIX)|' include/shaftglimmer.pc.in > $(place)/lib/pkgconfig/shaftglimmer.pc
-	chmod 644 $(place)/lib/pkgconfig/shaftglimmer.pc
+	install -D -m 755 target/bin/tally "$(place)/bin/tally"
+	install -D -m 755 target/bin/tally-report "$(place)/bin/tally-report"
+	install -D -m 644 include/shaftglimmer.h "$(place)/include/shaftglimmer.h"
+	install -D -m 644 target/libshaftglimmer.a "$(place)/lib/libshaftglimmer.a"
+	install -D -m 755 target/$(soname) "$(place)/lib/$(soname)"
+	ln -sf $(soname) "$(place)/lib/libshaftglimmer.so"
+	install -D -m 644 docs/man/tally.1 "$(place)/share/man/man1/tally.1"
+	install -D -m 644 docs/man/tally-report.1 "$(place)/share/man/man1/tally-report.1"
+	install -D -m 644 docs/man/shaftglimmer.3 "$(place)/share/man/man3/shaftglimmer.3"
+	install -d "$(place)/lib/pkgconfig"
+	sed 's|@PREFIX@|$(PREFIX)|' include/shaftglimmer.pc.in > "$(place)/lib/pkgconfig/shaftglimmer.pc"
+	chmod 644 "$(place)/lib/pkgconfig/shaftglimmer.pc"
 	for file in $$(cd rust && find Cargo.toml build.rs README.md src examples -type f); do \
-		install -D -m 644 rust/$$file $(place)/share/shaftglimmer/rust/$$file || exit 1; \
+		install -D -m 644 rust/$$file "$(place)/share/shaftglimmer/rust/$$file" || exit 1; \
 	done
 
 uninstall:
-	rm -f $(place)/bin/tally $(place)/bin/tally-report $(place)/share/man/man1/tally-report.1 $(place)/include/shaftglimmer.h
-	rm -f $(place)/lib/libshaftglimmer.a $(place)/lib/$(soname) $(place)/lib/libshaftglimmer.so
-	rm -f $(place)/share/man/man1/tally.1 $(place)/share/man/man3/shaftglimmer.3 $(place)/lib/pkgconfig/shaftglimmer.pc
-	rm -rf $(place)/share/shaftglimmer/rust
+	rm -f "$(place)/bin/tally" "$(place)/bin/tally-report" "$(place)/share/man/man1/tally-report.1" "$(place)/include/shaftglimmer.h"
+	rm -f "$(place)/lib/libshaftglimmer.a" "$(place)/lib/$(soname)" "$(place)/lib/libshaftglimmer.so"
+	rm -f "$(place)/share/man/man1/tally.1" "$(place)/share/man/man3/shaftglimmer.3" "$(place)/lib/pkgconfig/shaftglimmer.pc"
+	rm -rf "$(place)/share/shaftglimmer/rust"
 
 clean:
 	rm -rf target tests/target rust/target rust/report/target
