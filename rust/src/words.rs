@@ -89,11 +89,11 @@ pub fn check(shape: &Shape, received: &[u32], proposed: &[u32]) -> Result<bool, 
 #[cfg(feature = "alloc")]
 pub fn encode(shape: &Shape, data: &[u32]) -> Result<Vec<u32>, Refusal> {
     let mut word = vec![0; shape.word_length()];
-    encode_with(shape, data, &mut scratch(shape), &mut word).map(|()| word)
+    encode_with(shape, data, &mut word, &mut scratch(shape)).map(|()| word)
 }
 
 /// [`encode`](crate::encode) in lent memory: the word is written, and the scratch is working space.
-pub fn encode_with(shape: &Shape, data: &[u32], scratch: &mut [u32], word: &mut [u32]) -> Result<(), Refusal> {
+pub fn encode_with(shape: &Shape, data: &[u32], word: &mut [u32], scratch: &mut [u32]) -> Result<(), Refusal> {
     done(sys::encode(shape, data, scratch, word))
 }
 
@@ -109,11 +109,11 @@ pub fn encode_with(shape: &Shape, data: &[u32], scratch: &mut [u32], word: &mut 
 #[cfg(feature = "alloc")]
 pub fn extract(shape: &Shape, word: &[u32]) -> Result<Vec<u32>, Refusal> {
     let mut data = vec![0; shape.data_length()];
-    extract_with(shape, &mut data, &mut scratch(shape), word).map(|()| data)
+    extract_with(shape, word, &mut data, &mut scratch(shape)).map(|()| data)
 }
 
 /// [`extract`](crate::extract) in lent memory: the information symbols are written, and the scratch is working space.
-pub fn extract_with(shape: &Shape, data: &mut [u32], scratch: &mut [u32], word: &[u32]) -> Result<(), Refusal> {
+pub fn extract_with(shape: &Shape, word: &[u32], data: &mut [u32], scratch: &mut [u32]) -> Result<(), Refusal> {
     done(sys::extract(shape, data, scratch, word))
 }
 

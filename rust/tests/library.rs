@@ -259,8 +259,8 @@ fn any_scratch() {
             let (right, whole) = (list.len() == shape.scratch_length(), list.len() % word.len() == 0);
             assert_eq!(fill_with(&shape, &[], &mut word.clone(), &mut list).is_ok(), right);
             assert_eq!(restore_with(&shape, &[], &mut word.clone(), &mut list).is_ok(), right);
-            assert_eq!(encode_with(&shape, &data, &mut list, &mut word.clone()).is_ok(), right);
-            assert_eq!(extract_with(&shape, &mut data.clone(), &mut list, &word).is_ok(), right);
+            assert_eq!(encode_with(&shape, &data, &mut word.clone(), &mut list).is_ok(), right);
+            assert_eq!(extract_with(&shape, &word, &mut data.clone(), &mut list).is_ok(), right);
             let outcome = session.arrive_with(Way::Clean, &mut word.clone(), &mut list);
             assert_eq!(outcome == Outcome::Refused(Refusal::Length), !right);
             assert_eq!(session.arrive_all_with(Way::Clean, &mut word.clone(), &mut list).is_ok(), right);

@@ -44,8 +44,8 @@ impl Call {
         let mut slices: Vec<Fenced<u32>> = self.slices.iter().map(|slice| Fenced::new(slice)).collect();
         let mut lent: Vec<&mut [u32]> = slices.iter_mut().map(Fenced::lend).collect();
         let answer = match (self.entry, &mut lent[..]) {
-            (Entry::Encode, [data, scratch, word]) => done(encode_with(shape, data, scratch, word)),
-            (Entry::Extract, [word, scratch, data]) => done(extract_with(shape, data, scratch, word)),
+            (Entry::Encode, [data, scratch, word]) => done(encode_with(shape, data, word, scratch)),
+            (Entry::Extract, [word, scratch, data]) => done(extract_with(shape, word, data, scratch)),
             (Entry::Decode, [word]) => number(decode(shape, word)),
             (Entry::Looked, [word, looked]) => done(looked_with(shape, word, looked)),
             (Entry::DecodeMajority, [word]) => number(decode_majority(shape, word)),

@@ -186,7 +186,7 @@ fn writing(shape: Shape) -> Times {
     let shape = black_box(shape);
     let (values, writer) = (shape.values(), Writer::new(shape));
     let writers: [Encode; 3] = [
-        &|data, scratch, word| answer(encode_with(shape_in(&values), data, scratch, word).map(|()| 0)),
+        &|data, scratch, word| answer(encode_with(shape_in(&values), data, word, scratch).map(|()| 0)),
         &|data, scratch, word| writer.encode(data, scratch, word),
         &|data, scratch, word| tuned::encode(shape, data, scratch, word),
     ];
