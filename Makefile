@@ -1,4 +1,4 @@
-# make: the programs and the libraries for C. make run: the tally of the sample capture. make report: a page from that tally,
+# make: the programs and the libraries for C. make run: the tally of a small capture. make report: a page of a larger one,
 # target/report.html. make test: the whole gate.
 PREFIX ?= /usr/local
 
@@ -14,9 +14,9 @@ all:
 	$(MAKE) --no-print-directory target/bin/tally-report
 
 run: target/bin/tally
-	target/bin/tally samples/capture.txt
+	target/bin/tally samples/small.txt
 
-# The page of the sample, with names and prices.
+# The page of the larger sample, with names and prices.
 report: target/bin/tally target/bin/tally-report
 	target/bin/tally samples/capture.txt | \
 		target/bin/tally-report --names samples/names.txt --prices samples/prices.txt > target/report.html

@@ -102,6 +102,6 @@ fn watched_sample() {
     let output = run("watch", &[capture.to_str().expect("a plain path")], b"");
     let lines: Vec<&str> = text(&output).lines().collect();
     assert_eq!(lines.len(), 6);
-    assert_eq!(lines[4], "310 words, 10 refused: 150 pages taken, page 0 is the first to wait for");
-    assert_eq!(lines[5], "854 pages below page 1003 never came, 255 functions were called");
+    assert_eq!(lines[4], "310 words, 10 refused: 150 pages taken, page 150 is the first to wait for");
+    assert_eq!(lines[5], "0 pages below page 149 never came, 255 functions were called");
 }

@@ -1,8 +1,8 @@
 //! Writes a sample capture to standard output.
 //!
-//! `sample SEED Q N B PAGES`: a recording of PAGES pages (fewer where the width B has fewer page
-//! numbers), each page up to three times in any order, half of the words with clean damage, and a few
-//! lines that are refused. The same arguments give the same capture. It needs no library:
+//! `sample SEED Q N B PAGES`: a recording of the pages 0 to PAGES - 1 (fewer where the width B has fewer
+//! page numbers), each page up to three times in any order, half of the words with clean damage, and a
+//! few lines that are refused. The same arguments give the same capture. It needs no library:
 //!
 //! `cargo run --release --no-default-features --bin sample -- 7 17 4 32 150 > capture.txt`
 
@@ -19,7 +19,8 @@ fn main() -> ExitCode {
         return ExitCode::from(2);
     };
     let mut random = Random::new(seed, "sample");
-    let pages = recording(shape, pages, &mut random);
+    let mut pages = recording(shape, pages, &mut random);
+    pages.iter_mut().zip(0..).for_each(|(page, number)| page.number = number);
     match io::stdout().write_all(text(shape, &pages, &mut random).as_bytes()) {
         Ok(()) => ExitCode::SUCCESS,
         Err(_) => ExitCode::FAILURE,
