@@ -59,9 +59,9 @@ target/examples/%: examples/%.c examples/input.h include/shaftglimmer.h target/l
 	@mkdir -p target/examples
 	$(CC) -std=c99 -O2 -Wall -Wextra -pedantic -Iinclude $< target/libshaftglimmer.a -o $@
 
-target/bin/tally-report: target/staticlib/libhost.a $(shell find rust/build.rs rust/src rust/report/Cargo.toml rust/report/src -type f)
+target/bin/tally-report: target/staticlib/libhost.a $(shell find rust/build.rs rust/src rust/command/Cargo.toml rust/command/src -type f)
 	SHAFTGLIMMER_LIB="$(CURDIR)/target/staticlib" cargo build --release --offline --quiet \
-		--manifest-path rust/report/Cargo.toml --target-dir target/report
+		--manifest-path rust/command/Cargo.toml --target-dir target/report
 	install -D -m 755 target/report/release/tally-report $@
 
 # PREFIX is where the files will be used, DESTDIR a folder to lay them out in before that. Either may have spaces.
@@ -95,4 +95,4 @@ uninstall:
 	rm -rf "$(place)/share/shaftglimmer/rust"
 
 clean:
-	rm -rf target tests/target rust/target rust/report/target
+	rm -rf target tests/target rust/target rust/command/target
