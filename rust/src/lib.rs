@@ -11,6 +11,7 @@ extern crate std;
 
 pub mod bytes;
 mod coverage;
+mod lines;
 mod outcome;
 mod page;
 mod refusal;
@@ -20,6 +21,9 @@ mod sys;
 mod words;
 
 pub use coverage::Coverage;
+#[cfg(feature = "alloc")]
+pub use lines::parse_line;
+pub use lines::{parse_line_with, LINE_MOST};
 pub use outcome::{Outcome, Outcomes, Way};
 #[cfg(feature = "alloc")]
 pub use page::write_page;

@@ -141,8 +141,8 @@ impl fmt::Debug for Refusal {
 #[cfg(feature = "std")]
 impl std::error::Error for Refusal {}
 
-/// The refusal with a number that the library gave. It gives 1 to 20 but for 10, which is about lines of text; so 10
-/// stands for a number that only a later library can give.
+/// The refusal with a number that the library gave. It gives 1 to 20; for a number that only a later library can give
+/// 10 has to stand.
 pub(crate) fn numbered(number: u32) -> Refusal {
     Refusal::from_number(number).unwrap_or(Refusal::Syntax)
 }

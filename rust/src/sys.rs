@@ -49,6 +49,7 @@ macro_rules! exported {
 }
 
 exported! {
+    parse_line = shaftglimmer_parse_line(; line: *const u8; values: &mut [u32; 1024]) -> u32;
     read_word = shaftglimmer_read_word(q: u32, n: u32, b: u32; word: *mut u8) -> u32;
     read_page = shaftglimmer_read_page(q: u32, n: u32, b: u32; data: *const u8) -> u32;
     encode = shaftglimmer_encode(shape: &Shape; data: *const u32, scratch: *mut u32, word: *mut u32) -> u32;

@@ -3,8 +3,8 @@
 use shaftglimmer::bytes::{read_page, read_word};
 use shaftglimmer::{
     check, decode, decode_majority, decode_nearest, decode_two, encode, encode_with, extract, extract_with, fill,
-    fill_with, looked, looked_with, parse_page, restore, restore_with, write_page, write_page_with, Outcome, Outcomes,
-    Refusal, Session, Shape, Way,
+    fill_with, looked, looked_with, parse_line, parse_line_with, parse_page, restore, restore_with, write_page,
+    write_page_with, Outcome, Outcomes, Refusal, Session, Shape, Way, LINE_MOST,
 };
 use std::iter::repeat;
 
@@ -186,6 +186,26 @@ fn a_bill_too_large() {
     let session = Session::from_values(&values).expect("any counts are a session's");
     assert_eq!(session.bill(&[u32::MAX; 256]), Err(Refusal::Bill));
     assert_eq!(session.cover().map(|coverage| coverage.functions()), Ok(255));
+}
+
+#[test]
+fn lines() {
+    let right: [(&str, &[u32]); 4] =
+        [("0", &[0]), ("5 2 7", &[5, 2, 7]), ("4294967295", &[u32::MAX]), ("10 0 10", &[10, 0, 10])];
+    for (line, values) in right {
+        assert_eq!(parse_line(line.as_bytes()), Ok(values.to_vec()));
+    }
+    for wrong in [
+        "", " ", "1 ", " 1", "1  2", "01", "00", "4294967296", "99999999999", "1\t2", "1\r", "1\n", "x", "+1", "-1",
+        "1,2",
+    ] {
+        assert_eq!(parse_line(wrong.as_bytes()), Err(Refusal::Syntax), "{wrong:?}");
+    }
+    for many in [1023, 1024, 1025, 5000] {
+        let (line, mut lent) = (vec!["7"; many].join(" "), [9; LINE_MOST]);
+        assert_eq!(parse_line(line.as_bytes()), Ok(vec![7; many.min(LINE_MOST)]));
+        assert_eq!(parse_line_with(line.as_bytes(), &mut lent).map(|values| values.len()), Ok(many.min(LINE_MOST)));
+    }
 }
 
 #[test]
