@@ -11,15 +11,14 @@ all:
 	rt check tally host
 	rt staticlib host
 	$(MAKE) --no-print-directory libraries
-	$(MAKE) --no-print-directory target/bin/tally-report
+	$(MAKE) --no-print-directory target/bin/shaftglimmer
 
 run: target/bin/tally
 	target/bin/tally samples/small.txt
 
 # The page of the larger sample, with names and prices.
-report: target/bin/tally target/bin/tally-report
-	target/bin/tally samples/capture.txt | \
-		target/bin/tally-report --names samples/names.txt --prices samples/prices.txt > target/report.html
+report: target/bin/shaftglimmer
+	target/bin/shaftglimmer report --names samples/names.txt --prices samples/prices.txt samples/capture.txt > target/report.html
 
 check:
 	rt check
@@ -59,10 +58,10 @@ target/examples/%: examples/%.c examples/input.h include/shaftglimmer.h target/l
 	@mkdir -p target/examples
 	$(CC) -std=c99 -O2 -Wall -Wextra -pedantic -Iinclude $< target/libshaftglimmer.a -o $@
 
-target/bin/tally-report: target/staticlib/libhost.a $(shell find rust/build.rs rust/src rust/command/Cargo.toml rust/command/src -type f)
+target/bin/shaftglimmer: target/staticlib/libhost.a $(shell find rust/build.rs rust/src rust/command/Cargo.toml rust/command/src -type f)
 	SHAFTGLIMMER_LIB="$(CURDIR)/target/staticlib" cargo build --release --offline --quiet \
-		--manifest-path rust/command/Cargo.toml --target-dir target/report
-	install -D -m 755 target/report/release/tally-report $@
+		--manifest-path rust/command/Cargo.toml --target-dir target/command
+	install -D -m 755 target/command/release/shaftglimmer $@
 
 # PREFIX is where the files will be used, DESTDIR a folder to lay them out in before that. Either may have spaces.
 place = $(DESTDIR)$(PREFIX)
@@ -73,13 +72,13 @@ install: all
 # What has been built already.
 install-built:
 	install -D -m 755 target/bin/tally "$(place)/bin/tally"
-	install -D -m 755 target/bin/tally-report "$(place)/bin/tally-report"
+	install -D -m 755 target/bin/shaftglimmer "$(place)/bin/shaftglimmer"
 	install -D -m 644 include/shaftglimmer.h "$(place)/include/shaftglimmer.h"
 	install -D -m 644 target/libshaftglimmer.a "$(place)/lib/libshaftglimmer.a"
 	install -D -m 755 target/$(soname) "$(place)/lib/$(soname)"
 	ln -sf $(soname) "$(place)/lib/libshaftglimmer.so"
 	install -D -m 644 docs/man/tally.1 "$(place)/share/man/man1/tally.1"
-	install -D -m 644 docs/man/tally-report.1 "$(place)/share/man/man1/tally-report.1"
+	install -D -m 644 docs/man/shaftglimmer.1 "$(place)/share/man/man1/shaftglimmer.1"
 	install -D -m 644 docs/man/shaftglimmer.3 "$(place)/share/man/man3/shaftglimmer.3"
 	install -d "$(place)/lib/pkgconfig"
 	sed 's|@PREFIX@|$(PREFIX)|' include/shaftglimmer.pc.in > "$(place)/lib/pkgconfig/shaftglimmer.pc"
@@ -89,9 +88,10 @@ install-built:
 	done
 
 uninstall:
-	rm -f "$(place)/bin/tally" "$(place)/bin/tally-report" "$(place)/share/man/man1/tally-report.1" "$(place)/include/shaftglimmer.h"
+	rm -f "$(place)/bin/tally" "$(place)/bin/shaftglimmer" "$(place)/include/shaftglimmer.h"
 	rm -f "$(place)/lib/libshaftglimmer.a" "$(place)/lib/$(soname)" "$(place)/lib/libshaftglimmer.so"
-	rm -f "$(place)/share/man/man1/tally.1" "$(place)/share/man/man3/shaftglimmer.3" "$(place)/lib/pkgconfig/shaftglimmer.pc"
+	rm -f "$(place)/share/man/man1/tally.1" "$(place)/share/man/man1/shaftglimmer.1" "$(place)/share/man/man3/shaftglimmer.3"
+	rm -f "$(place)/lib/pkgconfig/shaftglimmer.pc"
 	rm -rf "$(place)/share/shaftglimmer/rust"
 
 clean:

@@ -2,24 +2,15 @@
 
 use crate::ranges::{extend, ranges, Ranges};
 use crate::run::Run;
+use shaftglimmer::{Outcome, Refusal};
 
 pub const PAGES: usize = 1024;
 /// Reading restores at most n - 1 symbols of a word, and n is at most 8.
 pub const MOST_RESTORED: usize = 7;
-/// The highest number of a refusal.
-pub const REFUSALS: usize = 20;
 /// Three lines stand before the words of a capture.
 const LINES_BEFORE: u64 = 3;
 /// Of so many ranges of refused lines the numbers are kept.
 const KEPT: usize = 12;
-
-/// One line of the first table.
-#[derive(Clone, Copy)]
-pub enum Answer {
-    Taken { page: usize, restored: usize },
-    Again { page: usize, restored: usize },
-    Refused(usize),
-}
 
 /// The words that were refused with one number.
 #[derive(Clone, Default)]
@@ -44,36 +35,44 @@ pub struct Answers {
 
 impl Answers {
     pub fn new() -> Answers {
-        let refused = vec![Refused::default(); REFUSALS + 1];
+        let refused = vec![Refused::default(); Refusal::ALL.len() + 1];
         Answers { taken: 0, again: 0, came: [false; PAGES], restored: [0; MOST_RESTORED + 1], refused, run: Run::new() }
     }
 
     /// One word more. The answers before it decide whether its page can be taken, or come again.
-    pub fn add(&mut self, answer: Answer) -> Result<(), String> {
+    pub fn add(&mut self, outcome: Outcome) -> Result<(), String> {
         let line = self.words() + 1 + LINES_BEFORE;
-        match answer {
-            Answer::Taken { page, .. } if self.came[page] => return Err(format!("page {page} was taken before")),
-            Answer::Again { page, .. } if !self.came[page] => return Err(format!("page {page} was not taken before")),
-            Answer::Taken { page, restored } => {
-                self.came[page] = true;
+        match outcome {
+            Outcome::Taken { page, changed } => {
+                if std::mem::replace(&mut self.came[page as usize], true) {
+                    return Err(format!("page {page} was taken before"));
+                }
                 self.taken += 1;
-                self.read(restored);
+                self.read(changed);
             }
-            Answer::Again { restored, .. } => {
+            Outcome::Again { page, .. } if !self.came[page as usize] => {
+                return Err(format!("page {page} was not taken before"))
+            }
+            Outcome::Again { changed, .. } => {
                 self.again += 1;
-                self.read(restored);
+                self.read(changed);
             }
-            Answer::Refused(number) => {
-                self.refused[number].add(line);
+            Outcome::Refused(refusal) => {
+                self.refused[refusal.number() as usize].add(line);
                 self.run.add(None);
             }
         }
         Ok(())
     }
 
-    fn read(&mut self, restored: usize) {
-        self.restored[restored] += 1;
-        self.run.add(Some(restored as u64));
+    fn read(&mut self, restored: u32) {
+        self.restored[restored as usize] += 1;
+        self.run.add(Some(restored.into()));
+    }
+
+    /// The refusals that came, each with its words.
+    pub fn refused(&self) -> impl Iterator<Item = (Refusal, &Refused)> {
+        Refusal::ALL.into_iter().zip(&self.refused[1..]).filter(|(_, refused)| refused.words > 0)
     }
 
     pub fn refusals(&self) -> u64 {

@@ -1,14 +1,18 @@
-//! Lines of a file, with the number of each.
+//! Lines of an input, with the number of each.
 
-use crate::complaint::Complaint;
+use crate::complaint::{tell, Complaint};
+use shaftglimmer::parse_line;
 use std::fmt;
-use std::io::{BufRead, Read};
+use std::io::{self, BufRead, BufReader, Read, Take};
 
-/// Of the place's lines at most `limit` bytes are held, newline included.
-pub struct Lines<R> {
+/// A line has at most so many bytes, newline included.
+const LONGEST: u64 = 16_384;
+/// So much of an input is read. What follows counts as absent.
+const LIMIT: u64 = u32::MAX as u64;
+
+pub struct Lines {
     place: String,
-    input: R,
-    limit: u64,
+    input: BufReader<Take<Box<dyn Read>>>,
     number: u64,
     line: Vec<u8>,
 }
@@ -19,20 +23,25 @@ pub enum Ending {
     Newline,
     /// The input ended before the newline.
     Cut,
+    /// It had too many bytes, and was skipped.
+    TooLong,
     /// There was no line.
     Nothing,
 }
 
-impl<R: BufRead> Lines<R> {
-    pub fn new(place: &str, input: R, limit: u64) -> Lines<R> {
-        Lines { place: place.to_string(), input, limit, number: 0, line: vec![] }
+impl Lines {
+    pub fn new(place: &str, input: Box<dyn Read>) -> Lines {
+        Lines { place: place.to_string(), input: BufReader::new(input.take(LIMIT)), number: 0, line: vec![] }
     }
 
     /// Goes on to the next line.
     pub fn advance(&mut self) -> Result<Ending, Complaint> {
+        self.read().map_err(|error| Complaint::of(&self.place, error))
+    }
+
+    fn read(&mut self) -> io::Result<Ending> {
         self.line.clear();
-        let mut bytes = self.input.by_ref().take(self.limit);
-        let read = bytes.read_until(b'\n', &mut self.line).map_err(|e| Complaint::of(&self.place, e))?;
+        let read = self.input.by_ref().take(LONGEST).read_until(b'\n', &mut self.line)? as u64;
         if read == 0 {
             return Ok(Ending::Nothing);
         }
@@ -41,17 +50,28 @@ impl<R: BufRead> Lines<R> {
             self.line.pop();
             return Ok(Ending::Newline);
         }
-        if read as u64 == self.limit {
-            return Err(self.fault("the line is too long"));
+        if read < LONGEST {
+            return Ok(Ending::Cut);
         }
-        Ok(Ending::Cut)
+        self.skip().map(|()| Ending::TooLong)
+    }
+
+    /// Goes on behind the next newline.
+    fn skip(&mut self) -> io::Result<()> {
+        while !matches!(self.line.last(), None | Some(b'\n')) {
+            self.line.clear();
+            self.input.by_ref().take(LONGEST).read_until(b'\n', &mut self.line)?;
+        }
+        self.line.clear();
+        Ok(())
     }
 
     /// Goes on to the next line, which must have its newline. False: there is none.
     pub fn whole(&mut self) -> Result<bool, Complaint> {
         match self.advance()? {
             Ending::Newline => Ok(true),
-            Ending::Cut => Err(self.fault("the line has no newline at its end")),
+            Ending::Cut => Err(self.fault("the last line is cut: it has no newline")),
+            Ending::TooLong => Err(self.fault("the line is too long")),
             Ending::Nothing => Ok(false),
         }
     }
@@ -61,18 +81,39 @@ impl<R: BufRead> Lines<R> {
         &self.line
     }
 
+    /// The line's number, counted from 1.
+    pub fn number(&self) -> u64 {
+        self.number
+    }
+
+    /// Whether the next line has to be read first.
+    pub fn waits(&self) -> bool {
+        !self.input.buffer().contains(&b'\n')
+    }
+
+    /// At the end: if as much was read as is read of any input, says so.
+    pub fn tell_limit(&self) {
+        if self.input.get_ref().limit() == 0 {
+            tell(&format!("{}: {LIMIT} bytes were read, which is the limit: what follows is not counted", self.place));
+        }
+    }
+
     /// A complaint about the line.
     pub fn fault(&self, reason: impl fmt::Display) -> Complaint {
-        Complaint::at(&self.place, self.number, reason)
+        let end = if self.line.ends_with(b"\r") { ". The line ends with a carriage return" } else { "" };
+        Complaint::at(&self.place, self.number, format!("{reason}{end}"))
     }
 }
 
-/// A decimal number without leading zeros, at most 2^32 - 1.
-pub fn number(digits: &[u8]) -> Option<u32> {
-    let plain = digits.iter().all(u8::is_ascii_digit) && (digits.len() == 1 || digits.first() != Some(&b'0'));
-    if plain {
-        std::str::from_utf8(digits).ok()?.parse().ok()
-    } else {
-        None
+/// The values that a text spells, by the proved parser: decimal, one space between two of them, no leading zeros.
+pub fn values(text: &[u8]) -> Option<Vec<u32>> {
+    parse_line(text).ok()
+}
+
+/// The only value that a text spells.
+pub fn number(text: &[u8]) -> Option<u32> {
+    match values(text)?[..] {
+        [value] => Some(value),
+        _ => None,
     }
 }

@@ -2,12 +2,10 @@
 
 use crate::clean::clean;
 use crate::complaint::Complaint;
-use crate::lines::{number, Lines};
+use crate::lines::number;
+use crate::source::Source;
 use crate::tally::FUNCTIONS;
-use std::io::BufRead;
-
-/// More than a name needs.
-const LONGEST: u64 = 65_536;
+use std::ffi::OsStr;
 
 /// By function number.
 pub type Names = Vec<Option<String>>;
@@ -15,29 +13,24 @@ pub type Names = Vec<Option<String>>;
 /// Thousandths of a picojoule for a call, by function number.
 pub type Prices = Vec<Option<u32>>;
 
-pub fn no_names() -> Names {
-    vec![None; FUNCTIONS]
-}
-
-/// Lines of number, space and name. A name is any bytes but a newline.
-pub fn names(place: &str, input: impl BufRead) -> Result<Names, Complaint> {
-    list(place, input, |name| if name.is_empty() { Err("the name is missing") } else { Ok(clean(name)) })
+/// Lines of number, space and name. A name is any bytes but a newline. Without a file there are no names.
+pub fn names(file: Option<&OsStr>) -> Result<Names, Complaint> {
+    let name = |name: &[u8]| if name.is_empty() { Err("the name is missing") } else { Ok(clean(name)) };
+    file.map_or(Ok(vec![None; FUNCTIONS]), |file| list(file, name))
 }
 
 /// Lines of number, space and price.
-pub fn prices(place: &str, input: impl BufRead) -> Result<Prices, Complaint> {
-    list(place, input, |price| number(price).ok_or("the price is no number from 0 to 4294967295"))
+pub fn prices(file: &OsStr) -> Result<Prices, Complaint> {
+    list(file, |price| number(price).ok_or("the price is no number from 0 to 4294967295"))
 }
 
-fn list<T: Clone>(
-    place: &str,
-    input: impl BufRead,
-    read: impl Fn(&[u8]) -> Result<T, &'static str>,
-) -> Result<Vec<Option<T>>, Complaint> {
+/// A carriage return at the end of a line is left out, as some editors write one.
+fn list<T: Clone>(file: &OsStr, read: impl Fn(&[u8]) -> Result<T, &'static str>) -> Result<Vec<Option<T>>, Complaint> {
     let mut list = vec![None; FUNCTIONS];
-    let mut lines = Lines::new(place, input, LONGEST);
+    let mut lines = Source::open(Some(file))?.lines;
     while lines.whole()? {
-        let (function, rest) = entry(lines.line()).map_err(|reason| lines.fault(reason))?;
+        let line = lines.line();
+        let (function, rest) = entry(line.strip_suffix(b"\r").unwrap_or(line)).map_err(|reason| lines.fault(reason))?;
         let value = read(rest).map_err(|reason| lines.fault(reason))?;
         if list[function].replace(value).is_some() {
             return Err(lines.fault(format!("function {function} stands here a second time")));

@@ -1,12 +1,18 @@
-//! `tally-report`: a page to look at, or a text for a terminal, from what `tally` printed.
+//! `shaftglimmer`: tallies of captures, reports of them, comparisons, and captures to try things with.
 
 mod answers;
 mod arguments;
 mod bill;
+mod calls;
+mod capture;
 mod clean;
+mod comparison;
 mod complaint;
+mod damage;
+mod date;
 mod figures;
 mod html;
+mod json;
 mod lines;
 mod lists;
 mod ranges;
@@ -14,66 +20,59 @@ mod ranking;
 mod report;
 mod run;
 mod sentences;
+mod source;
 mod tally;
 mod text;
 
-use arguments::{shown, Arguments, USAGE};
-use bill::Bill;
-use complaint::Complaint;
-use report::Report;
-use std::ffi::OsStr;
-use std::fs::File;
-use std::io::{self, BufReader, Write};
+use arguments::{shown, Arguments, VERSION};
+use calls::{write, CALLS, NOTHING};
+use complaint::{tell, Complaint};
+use std::env;
+use std::ffi::OsString;
 use std::process::ExitCode;
 
-const STANDARD_INPUT: &str = "standard input";
+const USAGE: &str = "\
+usage: shaftglimmer CALL [OPTION..] [ARGUMENT..]
+
+  tally   the tally of a capture: what became of each word, calls per function
+  report  a page to look at, or a text, from a tally or a capture
+  diff    two tallies compared: which functions are called more, or less
+  record  a capture from pages, with damage on request
+
+'shaftglimmer CALL --help' says more of each, 'man shaftglimmer' all of it.
+'shaftglimmer --version' prints the version.
+";
+
+const NAMED: &str = concat!("shaftglimmer ", env!("CARGO_PKG_VERSION"), "\n");
 
 fn main() -> ExitCode {
-    match run() {
-        Ok(true) => ExitCode::SUCCESS,
-        Ok(false) => ExitCode::FAILURE,
+    match run(env::args_os().skip(1)) {
+        Ok(status) => ExitCode::from(status),
         Err(complaint) => {
-            // Nobody is left to be told if this fails.
-            let _ = writeln!(io::stderr(), "tally-report: {complaint}");
-            ExitCode::FAILURE
+            complaint.said().into_iter().for_each(tell);
+            ExitCode::from(NOTHING)
         }
     }
 }
 
-/// Whether what was asked for is there: the usage, or the report of a tally.
-fn run() -> Result<bool, Complaint> {
-    let arguments = Arguments::read(std::env::args_os().skip(1))?;
-    if arguments.help {
-        return write(USAGE).map(|()| true);
+/// The exit status.
+fn run(mut given: impl Iterator<Item = OsString>) -> Result<u8, Complaint> {
+    let Some(first) = given.next() else {
+        return Err(Complaint::of("no call", "say tally, report, diff or record, or --help"));
+    };
+    let Some(call) = CALLS.iter().find(|call| first == *call.name) else {
+        return match first.as_encoded_bytes() {
+            b"--help" | b"-h" => write(USAGE),
+            b"--version" => write(NAMED),
+            _ => Err(Complaint::of(&shown(&first), "there is no such call: tally, report, diff and record are there")),
+        };
+    };
+    let arguments = Arguments::read(given, call.options)?;
+    if arguments.asks_for_help() {
+        return write(call.usage);
     }
-    let report = report(&arguments)?;
-    write(&if arguments.text { text::page(&report) } else { html::page(&report) })?;
-    Ok(report.tally.calls.is_some())
-}
-
-/// Everything is read before anything is written.
-fn report(arguments: &Arguments) -> Result<Report, Complaint> {
-    let names = match &arguments.names {
-        Some(file) => lists::names(&shown(file), open(file)?)?,
-        None => lists::no_names(),
-    };
-    let prices = match &arguments.prices {
-        Some(file) => Some(lists::prices(&shown(file), open(file)?)?),
-        None => None,
-    };
-    let (source, tally) = match &arguments.tally {
-        Some(file) => (shown(file), tally::read(&shown(file), open(file)?)?),
-        None => (STANDARD_INPUT.to_string(), tally::read(STANDARD_INPUT, io::stdin().lock())?),
-    };
-    let bill = prices.filter(|_| tally.calls.is_some()).map(|prices| Bill::new(&tally, &prices));
-    Ok(Report { source, tally, names, bill })
-}
-
-fn open(file: &OsStr) -> Result<BufReader<File>, Complaint> {
-    File::open(file).map(BufReader::new).map_err(|e| Complaint::of(&shown(file), e))
-}
-
-fn write(text: &str) -> Result<(), Complaint> {
-    let mut output = io::stdout().lock();
-    output.write_all(text.as_bytes()).and_then(|()| output.flush()).map_err(|e| Complaint::of("standard output", e))
+    if arguments.has(VERSION) {
+        return write(NAMED);
+    }
+    (call.run)(&arguments)
 }

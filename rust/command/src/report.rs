@@ -9,8 +9,11 @@ use crate::ranking::{ranking, total, Ranked};
 use crate::tally::Tally;
 
 pub struct Report {
-    /// Where the tally came from.
+    /// The title that was asked for.
+    pub title: Option<String>,
+    /// Name and date of what the tally came from.
     pub source: String,
+    pub date: Option<String>,
     pub tally: Tally,
     pub names: Names,
     /// If prices were given, and the tally is one.
@@ -35,12 +38,15 @@ impl Report {
         self.names.iter().any(Option::is_some)
     }
 
-    /// A fault in the first three lines of the capture has one answer, which is about no word.
-    pub fn fault_before_words(&self) -> bool {
-        let answers = &self.tally.answers;
-        let only = |number: usize| answers.refused[number].words == 1;
-        self.tally.calls.is_none() && answers.words() == 1 && (only(1) || only(10))
+    /// Name and date.
+    pub fn origin(&self) -> String {
+        dated(&self.source, self.date.as_deref())
     }
+}
+
+/// A file's name, and its date if it has one.
+pub fn dated(name: &str, date: Option<&str>) -> String {
+    date.map_or(name.to_string(), |date| format!("{name}, {date}"))
 }
 
 /// How numbers are written.
@@ -48,15 +54,22 @@ impl Report {
 pub struct Form {
     separator: &'static str,
     dash: &'static str,
+    minus: &'static str,
     digits: fn(u64) -> String,
     /// Columns that a name in a sentence has at most.
     room: usize,
 }
 
 /// Thin spaces that no line is broken at.
-pub const PAGE: Form =
-    Form { separator: THIN, dash: "\u{2013}", digits: |number| grouped(number.into(), THIN), room: usize::MAX };
-pub const TERMINAL: Form = Form { separator: ",", dash: "-", digits: |number| grouped(number.into(), ","), room: 40 };
+pub const PAGE: Form = Form {
+    separator: THIN,
+    dash: "\u{2013}",
+    minus: "\u{2212}",
+    digits: |number| grouped(number.into(), THIN),
+    room: 80,
+};
+pub const TERMINAL: Form =
+    Form { separator: ",", dash: "-", minus: "-", digits: |number| grouped(number.into(), ","), room: 40 };
 
 const THIN: &str = "\u{202f}";
 
@@ -65,12 +78,28 @@ impl Form {
         grouped(number.into(), self.separator)
     }
 
+    /// With its sign, if it is not 0.
+    pub fn signed(&self, number: i64) -> String {
+        let sign = ["", "+", self.minus][(number.signum().rem_euclid(3)) as usize];
+        format!("{sign}{}", self.number(number.unsigned_abs()))
+    }
+
     pub fn name(&self, name: &str) -> String {
         fitted(name, self.room)
     }
 
     pub fn ranges(&self, ranges: &[(u64, u64)]) -> String {
         spelled(ranges, self.dash, self.digits)
+    }
+
+    /// Picojoules in the largest unit that leaves at least one of it, to three places, and the unit.
+    pub fn energy(&self, picojoules: u64) -> (String, &'static str) {
+        let units = [("mJ", 1_000_000_000), ("µJ", 1_000_000), ("nJ", 1_000)];
+        let Some((unit, size)) = units.into_iter().find(|&(_, size)| u128::from(picojoules) >= size) else {
+            return (self.number(picojoules), "pJ");
+        };
+        let thousandths = (u128::from(picojoules) * 1000 + size / 2) / size;
+        (format!("{}.{:03}", self.number(thousandths / 1000), thousandths % 1000), unit)
     }
 }
 

@@ -2,35 +2,68 @@
 
 use crate::answers::Refused;
 use crate::bill::Bill;
+use crate::capture::Fault;
 use crate::figures::share;
 use crate::ranges::ranges;
 use crate::ranking::half;
 use crate::report::{several, Form, Report};
+use crate::tally::Lack;
 use shaftglimmer::Refusal;
 
 /// What becomes of a refused word.
 pub const REFUSED: &str =
     "A refused word counts nothing and harms nothing. Its page is counted once it comes again and is not refused.";
 
-/// Why the input is no tally. Empty if it is one.
-pub fn no_tally(report: &Report) -> Vec<&'static str> {
-    if report.tally.calls.is_some() {
-        return vec![];
+/// What has to be known before anything else: why the input is no tally, or that every word was refused.
+pub fn alarms(report: &Report) -> Vec<String> {
+    report.tally.calls.as_ref().err().map_or_else(|| all_refused(report), lacking)
+}
+
+/// Why the input is no tally, and what to do.
+pub fn lacking(lack: &Lack) -> Vec<String> {
+    match lack {
+        Lack::Fault(fault) => at_fault(fault),
+        Lack::Counts { cut } => {
+            let missing = "This is no tally: the line 'function calls' is missing. So no calls are known.";
+            let reason = "A read or a write failed before the counts were printed. The reason was on standard error.";
+            let mut said = vec![missing.to_string(), reason.to_string()];
+            said.extend(cut.then(|| "The last line is cut, and left out here.".to_string()));
+            said
+        }
+        Lack::LastLine => {
+            vec!["This is no tally: the last line is cut. So counts are missing, and none are shown.".to_string()]
+        }
     }
-    let mut said =
-        vec!["This is no tally: the line 'function calls' is missing. So no calls are known, only the answers below."];
-    if report.fault_before_words() {
-        said.push(
-            "A single refused line means a fault in the first three lines of the capture. It leaves nothing to count.",
-        );
-    } else {
-        said.push(
-            "A read or a write failed before the counts were printed. The program tally gave the reason on standard error.",
-        );
+}
+
+fn all_refused(report: &Report) -> Vec<String> {
+    let answers = &report.tally.answers;
+    let malformed = answers.refused[Refusal::Syntax.number() as usize].words;
+    match answers.words() {
+        0 => vec![],
+        words if malformed == words => {
+            vec!["Every word line is malformed: look for carriage returns or spaces at their ends first.".to_string()]
+        }
+        words if answers.refusals() == words => {
+            vec!["Every word was refused: look at the shape first, in line 2 of the capture.".to_string()]
+        }
+        _ => vec![],
     }
-    if report.tally.cut {
-        said.push("The last line is cut off, and left out here.");
+}
+
+/// What is said of a fault in the first three lines.
+fn at_fault(fault: &Fault) -> Vec<String> {
+    let place = fault.line.map_or("one of the first three lines".to_string(), |line| format!("line {line}"));
+    let number = fault.refusal.number();
+    let mut said = vec![
+        format!("This is no tally: {place} of the capture is at fault ({number} {}).", fault.refusal.name()),
+        "So there are no words, and there is nothing to count.".to_string(),
+    ];
+    match fault.line {
+        Some(line) => said.push(format!("Line {line}: {}.", fault.expected())),
+        None => said.push(format!("{} {}", quoted(fault.refusal.meaning()), fault.refusal.advice())),
     }
+    said.extend(fault.ends.iter().map(|end| format!("The line {end}.")));
     said
 }
 
@@ -89,7 +122,7 @@ pub fn restored(report: &Report, form: Form) -> String {
 pub fn bill(bill: &Bill, form: Form) -> Vec<String> {
     let mut said = match bill.picojoules {
         Ok(picojoules) => vec![
-            format!("The bill is {} pJ.", form.number(picojoules)),
+            billed(picojoules, form),
             format!("The parts come to {} thousandths of a picojoule.", form.number(bill.thousandths())),
             "The bill is rounded up to whole picojoules once, at the end.".to_string(),
         ],
@@ -104,23 +137,28 @@ pub fn bill(bill: &Bill, form: Form) -> Vec<String> {
     said
 }
 
+/// In a unit that is easy to read, and exactly.
+fn billed(picojoules: u64, form: Form) -> String {
+    let exact = form.number(picojoules);
+    match form.energy(picojoules) {
+        (_, "pJ") => format!("The bill is {exact} pJ."),
+        (easy, unit) => format!("The bill is {easy} {unit} ({exact} pJ)."),
+    }
+}
+
 fn named(refusal: Refusal) -> String {
     format!("refused with {}, {}", refusal.number(), refusal.name())
 }
 
 /// Where in the capture the words stand that were refused with a number.
-pub fn lines(report: &Report, refused: &Refused, form: Form) -> String {
-    if report.fault_before_words() {
-        return "one of the first three".to_string();
-    }
+pub fn lines(refused: &Refused, form: Form) -> String {
     match refused.more {
         0 => form.ranges(&refused.lines),
         more => format!("{} and {} more", form.ranges(&refused.lines), form.number(more)),
     }
 }
 
-/// Name of a refusal, when it comes, and what to do about it.
-pub fn refusal(number: usize) -> (&'static str, String, &'static str) {
-    let Some(refusal) = Refusal::from_number(number as u32) else { return ("", String::new(), "") };
-    (refusal.name(), refusal.meaning().replace('`', "'"), refusal.advice())
+/// Text of the documents, whose marks for code are no part of a report.
+pub fn quoted(text: &str) -> String {
+    text.replace('`', "'")
 }

@@ -1,71 +1,123 @@
-//! Reads what `tally` prints (docs/RULES.md, 7.2).
+//! Reads what `tally` prints (docs/RULES.md, 7.2), or makes it from a capture.
 
-use crate::answers::{Answer, Answers, MOST_RESTORED, PAGES, REFUSALS};
+use crate::answers::{Answers, MOST_RESTORED, PAGES};
+use crate::capture::{self, Begun, Capture, Fault, Reading};
 use crate::complaint::Complaint;
-use crate::lines::{number, Ending, Lines};
-use std::io::BufRead;
+use crate::lines::{values, Ending, Lines};
+use shaftglimmer::{Outcome, Refusal, Way};
 
 pub const FUNCTIONS: usize = 256;
-pub const FIRST_NAMES: &[u8] = b"outcome page fixed";
-pub const SECOND_NAMES: &[u8] = b"function calls";
-/// More than any line of a tally has.
-const LONGEST: u64 = 64;
+pub const FIRST_NAMES: &str = "outcome page fixed";
+pub const SECOND_NAMES: &str = "function calls";
 
 pub struct Tally {
     pub answers: Answers,
-    /// None: the line `function calls` is missing, so it is no tally.
-    pub calls: Option<[u32; FUNCTIONS]>,
-    /// Without a tally: the input ends within a line, which is left out.
-    pub cut: bool,
+    pub calls: Result<[u32; FUNCTIONS], Lack>,
+}
+
+/// Why there are no calls, so that it is no tally.
+pub enum Lack {
+    /// One of the first three lines of the capture is at fault: there are no words either.
+    Fault(Fault),
+    /// The line `function calls` is missing. The last line may be cut besides, and is then left out.
+    Counts { cut: bool },
+    /// The last line is cut, and behind it counts are missing.
+    LastLine,
 }
 
 impl Tally {
     /// The calls, or none of any function.
     pub fn counts(&self) -> [u32; FUNCTIONS] {
-        self.calls.unwrap_or([0; FUNCTIONS])
+        *self.calls.as_ref().unwrap_or(&[0; FUNCTIONS])
+    }
+
+    pub fn fault(&self) -> Option<&Fault> {
+        match &self.calls {
+            Err(Lack::Fault(fault)) => Some(fault),
+            _ => None,
+        }
     }
 }
 
-pub fn read(place: &str, input: impl BufRead) -> Result<Tally, Complaint> {
-    let mut lines = Lines::new(place, input, LONGEST);
-    let mut tally = Tally { answers: Answers::new(), calls: None, cut: false };
-    match lines.advance()? {
-        Ending::Newline if lines.line() == FIRST_NAMES => {}
-        Ending::Cut if FIRST_NAMES.starts_with(lines.line()) => return Ok(Tally { cut: true, ..tally }),
-        Ending::Nothing => return Ok(tally),
-        _ => return Err(lines.fault("not the line 'outcome page fixed', so tally did not print this")),
+/// A tally, or a capture, by its first line.
+pub fn read(mut lines: Lines) -> Result<Tally, Complaint> {
+    let first = lines.advance()?;
+    let line = lines.line();
+    match first {
+        Ending::Newline if line == FIRST_NAMES.as_bytes() => printed(lines),
+        Ending::Newline if line == capture::FIRST_NAMES => counted(lines, first),
+        Ending::Cut if FIRST_NAMES.as_bytes().starts_with(line) => Ok(lacking(Lack::Counts { cut: true })),
+        Ending::Nothing => Ok(lacking(Lack::Counts { cut: false })),
+        _ => Err(lines.fault("neither 'outcome page fixed', as a tally begins, nor 'q n b', as a capture begins")),
     }
+}
+
+fn lacking(lack: Lack) -> Tally {
+    Tally { answers: Answers::new(), calls: Err(lack) }
+}
+
+/// The tally of a capture.
+fn counted(lines: Lines, first: Ending) -> Result<Tally, Complaint> {
+    let mut capture = match Capture::begin(lines, first, Reading::By(Way::Clean))? {
+        Begun::Words(capture) => capture,
+        Begun::Fault(fault) => return Ok(lacking(Lack::Fault(fault))),
+    };
+    let mut answers = Answers::new();
+    while let Some(outcome) = capture.next()? {
+        answers.add(outcome).map_err(|reason| capture.lines.fault(reason))?;
+    }
+    capture.lines.tell_limit();
+    Ok(Tally { answers, calls: Ok(*capture.session.calls()) })
+}
+
+/// What was printed.
+fn printed(mut lines: Lines) -> Result<Tally, Complaint> {
+    let mut answers = Answers::new();
     loop {
         match lines.advance()? {
-            Ending::Newline if lines.line() == SECOND_NAMES => break,
+            Ending::Newline if lines.line() == SECOND_NAMES.as_bytes() => break,
             Ending::Newline => {
                 let answer = answer(lines.line()).map_err(|reason| lines.fault(reason))?;
-                tally.answers.add(answer).map_err(|reason| lines.fault(reason))?;
+                answers.add(answer).map_err(|reason| lines.fault(reason))?;
             }
-            Ending::Cut if begins(lines.line()) => return Ok(Tally { cut: true, ..tally }),
+            Ending::Cut if begins(lines.line()) => return Ok(uncounted(answers, true)),
             Ending::Cut => return Err(lines.fault("not an answer")),
-            Ending::Nothing => return Ok(tally),
+            Ending::TooLong => return Err(lines.fault("the line is too long")),
+            Ending::Nothing => return Ok(uncounted(answers, false)),
         }
     }
-    tally.calls = Some(counts(&mut lines)?);
-    Ok(tally)
+    Ok(Tally { answers, calls: counts(&mut lines)?.ok_or(Lack::LastLine) })
+}
+
+/// Answers without counts. If there is one answer, and it can be that to the first three lines, it is about no word.
+fn uncounted(answers: Answers, cut: bool) -> Tally {
+    let faults = [Refusal::Shape, Refusal::Syntax];
+    let only = answers.refused().map(|(refusal, _)| refusal).find(|refusal| faults.contains(refusal));
+    match only.filter(|_| answers.words() == 1 && !cut) {
+        Some(refusal) => lacking(Lack::Fault(Fault { line: None, refusal, ends: vec![] })),
+        None => Tally { answers, calls: Err(Lack::Counts { cut }) },
+    }
 }
 
 /// A line of the first table.
-fn answer(line: &[u8]) -> Result<Answer, String> {
+fn answer(line: &[u8]) -> Result<Outcome, String> {
     const FORM: &str = "not an answer: 'taken', 'again' or 'refused' and two numbers, with one space before each";
-    let fields: Vec<&[u8]> = line.split(|&byte| byte == b' ').collect();
-    let [outcome, second, third] = fields[..] else { return Err(FORM.to_string()) };
-    let (Some(second), Some(third)) = (number(second), number(third)) else { return Err(FORM.to_string()) };
-    let (second, third) = (second as usize, third as usize);
-    match outcome {
-        b"refused" if second == 0 || second > REFUSALS => Err(format!("there is no refusal {second}")),
-        b"refused" if third != 0 => Err("in a refused word no symbol is restored".to_string()),
-        b"refused" => Ok(Answer::Refused(second)),
-        b"taken" | b"again" if second >= PAGES => Err(format!("there is no page {second}: they end with 1023")),
-        b"taken" | b"again" if third > MOST_RESTORED => Err(format!("no word has {third} symbols restored: 7 at most")),
-        b"taken" => Ok(Answer::Taken { page: second, restored: third }),
-        b"again" => Ok(Answer::Again { page: second, restored: third }),
+    let space = line.iter().position(|&byte| byte == b' ').ok_or(FORM)?;
+    let (kind, numbers) = (&line[..space], values(&line[space + 1..]));
+    let Some(&[number, changed]) = numbers.as_deref() else { return Err(FORM.to_string()) };
+    match kind {
+        b"refused" if changed != 0 => Err("in a refused word no symbol is restored".to_string()),
+        b"refused" => {
+            Refusal::from_number(number).map(Outcome::Refused).ok_or_else(|| format!("there is no refusal {number}"))
+        }
+        b"taken" | b"again" if number as usize >= PAGES => {
+            Err(format!("there is no page {number}: they end with 1023"))
+        }
+        b"taken" | b"again" if changed as usize > MOST_RESTORED => {
+            Err(format!("no word has {changed} symbols restored: 7 at most"))
+        }
+        b"taken" => Ok(Outcome::Taken { page: number, changed }),
+        b"again" => Ok(Outcome::Again { page: number, changed }),
         _ => Err(FORM.to_string()),
     }
 }
@@ -80,30 +132,42 @@ fn begins(line: &[u8]) -> bool {
         [word, ref numbers @ ..] => answers.contains(&word) && numbers.len() <= 2 && numbers.iter().all(digits),
         [] => false,
     };
-    answer || SECOND_NAMES.starts_with(line)
+    answer || SECOND_NAMES.as_bytes().starts_with(line)
 }
 
-/// The second table.
-fn counts(lines: &mut Lines<impl BufRead>) -> Result<[u32; FUNCTIONS], Complaint> {
+/// The second table. None: its last line is cut.
+fn counts(lines: &mut Lines) -> Result<Option<[u32; FUNCTIONS]>, Complaint> {
     let mut calls = [0; FUNCTIONS];
     let mut last = 0;
-    while lines.whole()? {
-        let fields: Vec<Option<u32>> = lines.line().split(|&byte| byte == b' ').map(number).collect();
-        let [Some(function), Some(count)] = fields[..] else {
-            return Err(lines.fault("not a function and its calls: two numbers with one space between"));
-        };
-        let function = function as usize;
-        if function == 0 || function >= FUNCTIONS {
-            return Err(lines.fault(format!("no calls are counted of function {function}: they go from 1 to 255")));
+    loop {
+        match lines.advance()? {
+            Ending::Newline => {
+                let (function, count) = count(lines.line(), last).map_err(|reason| lines.fault(reason))?;
+                calls[function] = count;
+                last = function;
+            }
+            Ending::Cut => return Ok(None),
+            Ending::TooLong => return Err(lines.fault("the line is too long")),
+            Ending::Nothing => return Ok(Some(calls)),
         }
-        if function <= last {
-            return Err(lines.fault(format!("function {function} after function {last}: the numbers rise")));
-        }
-        if count == 0 {
-            return Err(lines.fault(format!("function {function} has no calls, so it has no line")));
-        }
-        calls[function] = count;
-        last = function;
     }
-    Ok(calls)
+}
+
+/// A line of the second table, in which the functions rise.
+fn count(line: &[u8], last: usize) -> Result<(usize, u32), String> {
+    let numbers = values(line);
+    let Some(&[function, count]) = numbers.as_deref() else {
+        return Err("not a function and its calls: two numbers with one space between".to_string());
+    };
+    let function = function as usize;
+    if function == 0 || function >= FUNCTIONS {
+        return Err(format!("no calls are counted of function {function}: they go from 1 to 255"));
+    }
+    if function <= last {
+        return Err(format!("function {function} after function {last}: the numbers rise"));
+    }
+    if count == 0 {
+        return Err(format!("function {function} has no calls, so it has no line"));
+    }
+    Ok((function, count))
 }

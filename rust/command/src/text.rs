@@ -1,5 +1,6 @@
 //! The report for a terminal, with the same figures as the page.
 
+mod comparison;
 mod layout;
 
 use crate::bill::Bill;
@@ -9,22 +10,33 @@ use crate::report::{several, Report, TERMINAL};
 use crate::run::{highest, Part};
 use crate::sentences;
 use crate::tally::FUNCTIONS;
+pub use comparison::page as comparison;
 use layout::{heading, paragraph, Row, Table, COLUMNS};
 
 /// Rows of the table over the run.
 const ROWS: usize = 16;
 
 pub fn page(report: &Report) -> String {
-    let mut sections = vec![format!("{}\n", fitted(&format!("Tally report of {}", report.source), COLUMNS))];
-    sections.extend(sentences::no_tally(report).iter().map(|said| paragraph(said, 0)));
-    sections.push(run(report));
-    if report.tally.calls.is_some() {
+    let title = report.title.as_ref().map(|title| format!("{}\n", fitted(title, COLUMNS)));
+    let mut sections: Vec<String> = title.into_iter().collect();
+    sections.push(format!("{}\n", fitted(&format!("Tally report of {}", report.origin()), COLUMNS)));
+    sections.extend(sentences::alarms(report).iter().map(|said| paragraph(said, 0)));
+    if report.tally.fault().is_none() {
+        sections.extend(parts(report));
+    }
+    sections.concat()
+}
+
+/// What stands under the first lines, if there are words.
+fn parts(report: &Report) -> Vec<String> {
+    let mut sections = vec![run(report)];
+    if report.tally.calls.is_ok() {
         sections.push(functions(report));
         sections.extend(report.bill.as_ref().map(|bill| energy(report, bill)));
         sections.push(coverage(report));
     }
     sections.extend([refusals(report), pages(report), restored(report)]);
-    sections.concat()
+    sections
 }
 
 fn run(report: &Report) -> String {
@@ -37,7 +49,8 @@ fn run(report: &Report) -> String {
     };
     let rows = vec![one("taken", answers.taken), one("again", answers.again), one("refused", answers.refusals())];
     let table = Table { head: vec!["outcome", "words", "share"], rows, bars: 40 };
-    let most = report.tally.calls.map(|_| paragraph(&sentences::most_called(report, TERMINAL), 0)).unwrap_or_default();
+    let counted = report.tally.calls.is_ok();
+    let most = if counted { paragraph(&sentences::most_called(report, TERMINAL), 0) } else { String::new() };
     let came = several(TERMINAL, words, "word came.", "words came.");
     heading("The run") + &paragraph(&came, 0) + &table.lines() + &most
 }
@@ -113,7 +126,7 @@ fn pages(report: &Report) -> String {
 
 fn restored(report: &Report) -> String {
     let said = heading("Symbols restored over the run") + &paragraph(&sentences::restored(report, TERMINAL), 0);
-    if report.tally.answers.words() == 0 || report.fault_before_words() {
+    if report.tally.answers.words() == 0 {
         return said;
     }
     said + &over_the_run(report) + &by_symbols(&report.tally.answers.restored)
@@ -156,12 +169,11 @@ fn by_symbols(restored: &[u64]) -> String {
 }
 
 fn refusals(report: &Report) -> String {
-    let refused = report.tally.answers.refused.iter().enumerate().filter(|(_, refused)| refused.words > 0);
-    let said = refused.map(|(number, refused)| {
-        let (name, meaning, advice) = sentences::refusal(number);
+    let said = report.tally.answers.refused().map(|(refusal, refused)| {
         let words = several(TERMINAL, refused.words, "word", "words");
-        let lines = format!("Lines of the capture: {}.", sentences::lines(report, refused, TERMINAL));
-        format!("{number} {name}: {words}\n{}", [&meaning, advice, &lines].map(|said| paragraph(said, 4)).concat())
+        let lines = format!("Lines of the capture: {}.", sentences::lines(refused, TERMINAL));
+        let said = [&sentences::quoted(refusal.meaning()), refusal.advice(), &lines].map(|said| paragraph(said, 4));
+        format!("{} {}: {words}\n{}", refusal.number(), refusal.name(), said.concat())
     });
     let said: String = said.collect();
     let said =

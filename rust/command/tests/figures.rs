@@ -7,7 +7,7 @@ use common::drawn::{bars, chart, lengths, lines, pages, signs, strength, styles}
 use common::expected::{numbers, HTML, TEXT};
 use common::facts::{random_tally, Facts};
 use common::markup::{sections, Section, Tag};
-use common::{run, Random, Scratch, ROOT};
+use common::{report, Random, Scratch, ROOT};
 use std::collections::BTreeMap;
 use std::fs;
 
@@ -37,7 +37,7 @@ impl Case {
 
     fn report(&self, more: &[&str]) -> String {
         let files = self.files.iter().flat_map(|(option, file)| [*option, file.name()]);
-        run(&files.chain(more.iter().copied()).collect::<Vec<_>>(), self.tally.as_bytes()).report()
+        report(&files.chain(more.iter().copied()).collect::<Vec<_>>(), self.tally.as_bytes()).whole()
     }
 
     fn check(&self) {
@@ -48,7 +48,7 @@ impl Case {
         for (section, (heading, expected)) in page[1..].iter().zip(&parts) {
             assert_eq!(&numbers(&section.text, HTML.separator), expected, "{heading}");
         }
-        assert_eq!(numbers(&page[0].text, HTML.separator), Vec::<String>::new());
+        assert_eq!(numbers(&page[0].text, HTML.separator), alarm(&self.facts));
         assert_eq!(numbers(&page.last().unwrap().text, HTML.separator), ["0"]);
         self.drawn(&page);
         let text = self.report(&["--text"]);
@@ -144,6 +144,16 @@ impl Case {
     }
 }
 
+/// What is said first, if every word was refused: it names line 2, unless every line is malformed.
+fn alarm(facts: &Facts) -> Vec<String> {
+    let all = facts.taken + facts.again == 0 && facts.refused.keys().any(|&refusal| refusal != 10);
+    if all {
+        vec!["2".to_string()]
+    } else {
+        vec![]
+    }
+}
+
 /// The parts of a text with their headings.
 fn texts(text: &str) -> Vec<(String, String)> {
     let mut parts: Vec<(String, String)> = vec![];
@@ -212,9 +222,26 @@ fn a_bill_is_rounded_up_once() {
         [("1 1\n2 1\n3 1\n", "1"), ("1 400\n2 400\n3 200\n", "1"), ("1 400\n2 400\n3 201\n", "2"), ("0 9\n", "0")]
     {
         let file = Scratch::new(prices.as_bytes());
-        let text = run(&["--text", "--prices", file.name()], tally.as_bytes()).report();
+        let text = report(&["--text", "--prices", file.name()], tally.as_bytes()).whole();
         assert!(text.contains(&format!("The bill is {bill} pJ.")), "{text}");
         assert!(text.contains("rounded up to whole picojoules once, at the end"));
+    }
+}
+
+#[test]
+fn units_of_a_bill() {
+    let bills = [
+        (999, 1000, "999 pJ."),
+        (1000, 1000, "1.000 nJ (1000 pJ)."),
+        (1_234_567, 1000, "1.235 µJ (1,234,567 pJ)."),
+        (999_999_999, 1000, "1000.000 µJ (999,999,999 pJ)."),
+        (u32::MAX, u32::MAX, "18,446,744.065 mJ (18,446,744,065,119,618 pJ)."),
+    ];
+    for (calls, price, said) in bills {
+        let file = Scratch::new(format!("9 {price}\n").as_bytes());
+        let tally = format!("outcome page fixed\nfunction calls\n9 {calls}\n");
+        let text = report(&["--text", "--prices", file.name()], tally.as_bytes()).whole();
+        assert!(text.contains(&format!("The bill is {said}\n")), "{text}");
     }
 }
 
@@ -224,7 +251,7 @@ fn half_of_the_calls() {
         [("1 2\n2 1\n3 1\n", None), ("1 1\n2 1\n3 1\n4 1\n", Some(2)), ("1 3\n2 2\n3 2\n", Some(2)), ("7 9\n", None)];
     for (counts, first) in cases {
         let tally = format!("outcome page fixed\nfunction calls\n{counts}");
-        let text = run(&["--text"], tally.as_bytes()).report().replace('\n', " ");
+        let text = report(&["--text"], tally.as_bytes()).whole().replace('\n', " ");
         let said = first.map(|first| format!("The first {first} functions have half of all calls."));
         assert_eq!(text.contains("half of all calls"), said.is_some(), "{counts}");
         assert!(said.iter().all(|said| text.contains(said)), "{counts}");

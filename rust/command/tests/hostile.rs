@@ -3,7 +3,7 @@
 mod common;
 
 use common::markup::sections;
-use common::{run, Random, Scratch};
+use common::{report, Random, Scratch};
 
 /// A tally in which every function is called.
 fn tally() -> String {
@@ -18,7 +18,7 @@ fn reports(names: &[Vec<u8>]) -> [String; 2] {
     let names = Scratch::new(&lines.collect::<Vec<_>>().concat());
     let prices = Scratch::new((1..256).map(|f| format!("{f} 4294967295\n")).collect::<String>().as_bytes());
     let arguments = ["--names", names.name(), "--prices", prices.name(), "--text"];
-    [&arguments[..4], &arguments].map(|arguments| run(arguments, tally().as_bytes()).report())
+    [&arguments[..4], &arguments].map(|arguments| report(arguments, tally().as_bytes()).whole())
 }
 
 /// Columns of a terminal, counted more generously than a terminal does: two for every character that may be wide.
@@ -79,7 +79,7 @@ fn bytes_that_are_not_to_be_shown() {
     let [page, text] = reports(&names);
     for (place, (name, shown)) in pairs.iter().enumerate() {
         let function = place + 1;
-        assert!(page.contains(&format!("\">{function}</th><td class=\"name\">{shown}</td>")), "{name:?}");
+        assert!(page.contains(&format!("\">{function}</th><td class=\"name\"><span>{shown}</span></td>")), "{name:?}");
         assert!(page.contains(&format!("title=\"{function} {shown}: ")), "{name:?}");
         let row = |line: &str| {
             line.split_whitespace().next() == Some(&function.to_string()) && line.ends_with(&format!("  {shown}"))
@@ -89,15 +89,21 @@ fn bytes_that_are_not_to_be_shown() {
     assert!([&page, &text].iter().all(|report| report.chars().all(|c| c == '\n' || !c.is_control())));
 }
 
+/// On a page 80 characters of a name are shown, and the whole is in its tooltip.
 #[test]
 fn long_names() {
-    let names: Vec<Vec<u8>> =
-        ["x", "ü", "名", "😀", "\u{301}", "word ", "ｆ"].iter().map(|sign| sign.repeat(5000).into_bytes()).collect();
+    let signs = ["x", "ü", "名", "😀", "\u{301}", "word ", "ｆ"];
+    let names: Vec<Vec<u8>> = signs.iter().map(|sign| sign.repeat(3000).into_bytes()).collect();
     let [page, text] = reports(&names);
-    for name in &names {
+    for (name, sign) in names.iter().zip(signs) {
         let whole = String::from_utf8(name.clone()).unwrap();
-        assert!(page.matches(&whole).count() >= 3, "cut nowhere on a page");
+        let shown: String = sign.repeat(80).chars().take(80).collect();
+        let cell = format!("<td class=\"name\" title=\"{whole}\"><span>{shown}…</span></td>");
+        assert_eq!(page.matches(&cell).count(), 2, "by calls and by energy");
+        assert_eq!(page.matches(&whole).count(), 3, "in tooltips alone, that of the map too");
     }
+    let just: Vec<Vec<u8>> = vec!["y".repeat(80).into_bytes()];
+    assert!(reports(&just)[0].contains(&format!("<td class=\"name\"><span>{}</span></td>", "y".repeat(80))));
     // Also the sentence about the most called function.
     assert!(text.lines().all(|line| columns(line) <= 80));
     assert!(text.matches("...\n").count() >= 2 * names.len() && text.contains("xxx...) was called"), "cut in a text");
@@ -132,9 +138,9 @@ fn a_file_with_a_hostile_name() {
     let name = folder.join("<b>&\u{1b}[2J\n'\"x".to_string() + &"n".repeat(150));
     std::fs::copy(&file.0, &name).unwrap();
     let path = name.to_str().unwrap();
-    let page = run(&[path], b"").report();
-    let text = run(&["--text", path], b"").report();
-    let wrong = run(&["--names", path], b"");
+    let page = report(&[path], b"").whole();
+    let text = report(&["--text", path], b"").whole();
+    let wrong = report(&["--names", path], b"");
     let _ = std::fs::remove_file(&name);
     assert!(sections(&page)[0].text.contains("<b>&\u{fffd}[2J\u{fffd}'\"xnnn"));
     assert!(text.lines().all(|line| columns(line) <= 80 && !line.contains('\u{1b}')));

@@ -5,10 +5,10 @@ use super::{escaped, paragraph, part};
 use crate::answers::Refused;
 use crate::report::{Report, PAGE};
 use crate::sentences;
+use shaftglimmer::Refusal;
 
 pub fn section(report: &Report) -> String {
-    let refused = report.tally.answers.refused.iter().enumerate().filter(|(_, refused)| refused.words > 0);
-    let rows: String = refused.map(|(number, refused)| row(report, number, refused)).collect();
+    let rows: String = report.tally.answers.refused().map(|(refusal, refused)| row(refusal, refused)).collect();
     let columns = [("", "Refusal"), ("number", "Words"), ("", "What it means, and what to do")];
     let contents = if rows.is_empty() {
         paragraph("No word was refused.")
@@ -18,14 +18,15 @@ pub fn section(report: &Report) -> String {
     part("Refused words", &contents)
 }
 
-fn row(report: &Report, refusal: usize, refused: &Refused) -> String {
-    let (name, meaning, advice) = sentences::refusal(refusal);
-    let lines = sentences::lines(report, refused, PAGE);
+fn row(refusal: Refusal, refused: &Refused) -> String {
     format!(
-        "<tr><th scope=\"row\">{refusal} {name}</th>{}<td><span class=\"soft\">{}</span> {} \
-         <span class=\"soft\">Lines of the capture: {lines}.</span></td></tr>\n",
+        "<tr><th scope=\"row\">{} {}</th>{}<td><span class=\"soft\">{}</span> {} \
+         <span class=\"soft\">Lines of the capture: {}.</span></td></tr>\n",
+        refusal.number(),
+        refusal.name(),
         number(&PAGE.number(refused.words)),
-        escaped(&meaning),
-        escaped(advice),
+        escaped(&sentences::quoted(refusal.meaning())),
+        escaped(refusal.advice()),
+        sentences::lines(refused, PAGE),
     )
 }

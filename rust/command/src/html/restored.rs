@@ -15,7 +15,7 @@ const BASE: f64 = 76.0;
 pub fn section(report: &Report) -> String {
     let answers = &report.tally.answers;
     let mut contents = paragraph(&sentences::restored(report, PAGE));
-    if answers.words() > 0 && !report.fault_before_words() {
+    if answers.words() > 0 {
         contents += &chart(answers.run.parts());
         contents += &format!("<div class=\"pair\">\n{}{}</div>\n", parts(report), weights(&answers.restored));
     }

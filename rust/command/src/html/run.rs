@@ -20,7 +20,8 @@ pub fn section(report: &Report) -> String {
     let shown = kinds.iter().filter(|(_, number)| *number > 0);
     let stack: String =
         shown.map(|(kind, number)| format!("<span class=\"{kind}\" style=\"flex:{number}\">\u{a0}</span>")).collect();
-    let most = report.tally.calls.map(|_| paragraph(&sentences::most_called(report, PAGE))).unwrap_or_default();
+    let most =
+        if report.tally.calls.is_ok() { paragraph(&sentences::most_called(report, PAGE)) } else { String::new() };
     let contents = format!(
         "<ul class=\"tiles\">\n{tiles}{}</ul>\n<div class=\"stack\" aria-hidden=\"true\">{stack}</div>\n{most}",
         counted(report),
@@ -30,13 +31,14 @@ pub fn section(report: &Report) -> String {
 
 /// What only a tally has.
 fn counted(report: &Report) -> String {
-    if report.tally.calls.is_none() {
+    if report.tally.calls.is_err() {
         return String::new();
     }
     let functions = tile("all", &report.ranked().len().to_string(), "functions <span class=\"soft\">of 255</span>");
     let calls = tile("all", &PAGE.number(report.calls()), if report.calls() == 1 { "call" } else { "calls" });
     let bill = report.bill.as_ref().and_then(|bill| bill.picojoules.ok());
-    let bill = bill.map(|picojoules| tile("all", &PAGE.number(picojoules), "pJ, the bill")).unwrap_or_default();
+    let bill = bill.map(|picojoules| PAGE.energy(picojoules));
+    let bill = bill.map(|(figure, unit)| tile("all", &figure, &format!("{unit}, the bill"))).unwrap_or_default();
     functions + &calls + &bill
 }
 

@@ -6,10 +6,20 @@ use super::escaped;
 const SHOWN: usize = 20;
 const FEW: usize = 4;
 
-/// A row with a bar: how long that is, in percent of the longest.
+/// A row with a bar.
 pub fn bar_row(part: u128, longest: u128, cells: &str) -> String {
+    format!("<tr style=\"{}\">{cells}</tr>\n", bar(part, longest))
+}
+
+/// The same in a class of rows.
+pub fn classed_bar_row(class: &str, part: u128, longest: u128, cells: &str) -> String {
+    format!("<tr class=\"{class}\" style=\"{}\">{cells}</tr>\n", bar(part, longest))
+}
+
+/// How long a bar is, in percent of the longest.
+fn bar(part: u128, longest: u128) -> String {
     let tenths = (part * 1000 + longest / 2) / longest.max(1);
-    format!("<tr style=\"--s:{}.{}%\">{cells}</tr>\n", tenths / 10, tenths % 10)
+    format!("--s:{}.{}%", tenths / 10, tenths % 10)
 }
 
 /// The rest is shown on demand, and on paper.
@@ -43,11 +53,22 @@ pub fn number(text: &str) -> String {
     format!("<td class=\"number\">{}</td>", escaped(text))
 }
 
-/// The cell of a function's name, if the table has such a column.
+/// So many characters of a name are shown. A tooltip has the whole of a longer one.
+const NAME: usize = 80;
+
+/// The cell of a function's name, if the table has such a column. What does not fit into it is clipped.
 pub fn name(named: bool, name: Option<&str>) -> String {
-    if named {
-        format!("<td class=\"name\">{}</td>", escaped(name.unwrap_or("")))
-    } else {
-        String::new()
+    match name {
+        _ if !named => String::new(),
+        None => "<td class=\"name\"></td>".to_string(),
+        Some(name) => name_cell(name),
     }
+}
+
+fn name_cell(name: &str) -> String {
+    let Some((end, _)) = name.char_indices().nth(NAME) else {
+        return format!("<td class=\"name\"><span>{}</span></td>", escaped(name));
+    };
+    let (shown, whole) = (escaped(&name[..end]), escaped(name));
+    format!("<td class=\"name\" title=\"{whole}\"><span>{shown}\u{2026}</span></td>")
 }

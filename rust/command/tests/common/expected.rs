@@ -88,7 +88,7 @@ impl Kind {
         }
         if self.html {
             numbers.extend([facts.calls.len().to_string(), "255".to_string(), self.number(all_calls(facts))]);
-            numbers.extend(bill(facts).and_then(Result::ok).map(|bill| self.number(bill)));
+            numbers.extend(bill(facts).and_then(Result::ok).map(|bill| self.easy(bill)));
         }
         numbers.extend(self.most_called(facts));
         numbers
@@ -134,7 +134,8 @@ impl Kind {
         let parts = facts.parts();
         let sum: u128 = parts.iter().map(|part| part.3).sum();
         let mut numbers = match bill(facts).expect("there are prices") {
-            Ok(bill) => vec![self.number(bill), self.number(sum)],
+            Ok(bill) if bill < 1000 => vec![self.number(bill), self.number(sum)],
+            Ok(bill) => vec![self.easy(bill), self.number(bill), self.number(sum)],
             Err(refusal) => {
                 let advice = &refusals.iter().find(|one| one.number == refusal).expect("it has advice").advice;
                 [vec![refusal.to_string()], self.said(advice)].concat()
@@ -153,6 +154,18 @@ impl Kind {
         }
         numbers.extend(self.folded(parts.len()));
         numbers
+    }
+
+    /// Picojoules below 1000 as they are; otherwise to three places in nJ, µJ or mJ.
+    fn easy(self, picojoules: u128) -> String {
+        if picojoules < 1000 {
+            return self.number(picojoules);
+        }
+        let place = (picojoules.to_string().len() as u32 - 1) / 3;
+        let size = 1000u128.pow(place.min(3));
+        let (down, rest) = (picojoules * 1000 / size, picojoules * 1000 % size);
+        let thousandths = down + u128::from(rest * 2 >= size);
+        format!("{}.{:03}", self.number(thousandths / 1000), thousandths % 1000)
     }
 
     fn said(self, text: &str) -> Numbers {

@@ -5,6 +5,7 @@ pub mod answers;
 pub mod drawn;
 pub mod expected;
 pub mod facts;
+pub mod json;
 pub mod markup;
 
 use std::fs;
@@ -23,37 +24,52 @@ pub struct Ran {
 }
 
 impl Ran {
-    /// The one line that is said about an input that makes no report.
+    /// The one line that is said where there is nothing else to write.
     pub fn complaint(&self) -> &str {
-        assert_eq!((self.status, self.output.as_str()), (Some(1), ""), "{}", self.error);
+        assert_eq!((self.status, self.output.as_str()), (Some(2), ""), "{}", self.error);
         let line = self.error.strip_suffix('\n').expect("a line ends with a newline");
         assert!(!line.contains('\n'), "more than a line: {line}");
-        line.strip_prefix("tally-report: ").expect("the program's name stands first")
+        line.strip_prefix("shaftglimmer: ").expect("the program's name stands first")
     }
 
-    /// The report of a tally.
-    pub fn report(self) -> String {
+    /// What was asked for, without a word besides.
+    pub fn whole(self) -> String {
         assert_eq!((self.status, self.error.as_str()), (Some(0), ""));
         self.output
     }
 }
 
+/// The command with these arguments.
 pub fn run(arguments: &[&str], input: &[u8]) -> Ran {
-    let program = env!("CARGO_BIN_EXE_tally-report");
-    let mut child = Command::new(program)
-        .args(arguments)
-        .stdin(Stdio::piped())
-        .stdout(Stdio::piped())
-        .stderr(Stdio::piped())
-        .spawn()
-        .expect("the program starts");
+    run_program(env!("CARGO_BIN_EXE_shaftglimmer"), arguments, input)
+}
+
+/// The report of this input.
+pub fn report(arguments: &[&str], input: &[u8]) -> Ran {
+    run(&[&["report"], arguments].concat(), input)
+}
+
+/// The proved program, on the same input.
+pub fn proved(arguments: &[&str], input: &[u8]) -> Ran {
+    let built = format!("{ROOT}/target/bin/tally");
+    let program = std::env::var("TALLY").unwrap_or(built);
+    run_program(&program, arguments, input)
+}
+
+fn run_program(program: &str, arguments: &[&str], input: &[u8]) -> Ran {
+    let mut command = Command::new(program);
+    command.args(arguments).stdin(Stdio::piped()).stdout(Stdio::piped()).stderr(Stdio::piped());
+    let mut child = command.spawn().unwrap_or_else(|error| panic!("{program}: {error}"));
+    let mut stdin = child.stdin.take().expect("it is piped");
+    let input = input.to_vec();
     // Fails if the program ends without reading, which is for the test to judge.
-    let _ = child.stdin.take().expect("it is piped").write_all(input);
+    let written = std::thread::spawn(move || stdin.write_all(&input));
     let output = child.wait_with_output().expect("the program ends");
+    let _ = written.join();
     Ran {
         status: output.status.code(),
-        output: String::from_utf8(output.stdout).expect("a report is UTF-8"),
-        error: String::from_utf8(output.stderr).expect("a complaint is UTF-8"),
+        output: String::from_utf8(output.stdout).expect("what is written is UTF-8"),
+        error: String::from_utf8(output.stderr).expect("what is said is UTF-8"),
     }
 }
 
