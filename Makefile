@@ -3,7 +3,7 @@
 PREFIX ?= /usr/local
 
 # Functions that go or change give the shared library another number.
-soname = libshaftglimmer.so.1
+soname = libshaftglimmer.so.2
 
 .PHONY: all run report check test bench libraries examples install install-built uninstall clean
 

@@ -119,7 +119,7 @@ impl Session {
     /// [`arrive`](Session::arrive) with lent working space.
     pub fn arrive_with(&mut self, way: Way, word: &mut [u32], scratch: &mut [u32]) -> Outcome {
         let mut outcome = [0; 3];
-        match done(sys::arrive(self, way.number(), word, scratch, &mut outcome)) {
+        match done(sys::arrive(self, way.number(), word, &mut outcome, scratch)) {
             Ok(()) => Outcome::written(&outcome),
             Err(refusal) => Outcome::Refused(refusal),
         }
@@ -147,7 +147,7 @@ impl Session {
     /// [`arrive_all`](Session::arrive_all) with lent working space.
     pub fn arrive_all_with(&mut self, way: Way, words: &mut [u32], scratch: &mut [u32]) -> Result<Outcomes, Refusal> {
         let mut outcomes = [0; Outcomes::VALUES];
-        done(sys::arrive_all(self, way.number(), words, scratch, &mut outcomes))?;
+        done(sys::arrive_all(self, way.number(), words, &mut outcomes, scratch))?;
         Ok(Outcomes::written(outcomes, words.len().checked_div(self.shape.word_length()).unwrap_or(0)))
     }
 

@@ -24,25 +24,30 @@ macro_rules! pointer {
     };
 }
 
-/// `wrapper = exported(plain: type, ..; slice: *const element, ..; last: type) -> answer`: what crosses as it is, the
-/// slices, and what crosses as it is behind them. Of a slice only the pointer is named; its length goes with it.
+/// `wrapper = exported(plain: type, ..; slice: *const element, ..; fixed: type; last: *mut element) -> answer`: what
+/// crosses as it is, slices, what crosses as it is behind them, and a slice behind that. Of a slice only the pointer is
+/// named; its length goes with it.
 macro_rules! exported {
     ($($wrapper:ident = $name:ident(
-        $($plain:ident: $type:ty),* $(; $($slice:ident: *$access:tt $element:ty),+ $(; $last:ident: $last_type:ty)?)?
+        $($plain:ident: $type:ty),* $(; $($slice:ident: *$access:tt $element:ty),+
+        $(; $fixed:ident: $fixed_type:ty $(; $last:ident: *$last_access:tt $last_element:ty)?)?)?
     ) -> $answer:ty;)*) => {
         extern "C" {
             $(fn $name(
-                $($plain: $type,)* $($($slice: *$access $element, _: usize,)+ $($last: $last_type)?)?
+                $($plain: $type,)* $($($slice: *$access $element, _: usize,)+
+                $($fixed: $fixed_type, $($last: *$last_access $last_element, _: usize)?)?)?
             ) -> $answer;)*
         }
         $(pub(crate) fn $wrapper(
-            $($plain: $type,)* $($($slice: lent!($access $element),)+ $($last: $last_type)?)?
+            $($plain: $type,)* $($($slice: lent!($access $element),)+
+            $($fixed: $fixed_type, $($last: lent!($last_access $last_element))?)?)?
         ) -> $answer {
             // SAFETY: every pointer is that of a live reference, and every length that of its slice, exclusively lent
             // where the function writes. They are aligned and not null, also where a slice is empty. The function
             // writes nothing but numbers, of which any is valid there, and keeps no pointer.
             unsafe {
-                $name($($plain,)* $($(pointer!($access $slice), $slice.len(),)+ $($last)?)?)
+                $name($($plain,)* $($(pointer!($access $slice), $slice.len(),)+
+                    $($fixed, $(pointer!($last_access $last), $last.len())?)?)?)
             }
         })*
     };
@@ -52,8 +57,8 @@ exported! {
     parse_line = shaftglimmer_parse_line(; line: *const u8; values: &mut [u32; 1024]) -> u32;
     read_word = shaftglimmer_read_word(q: u32, n: u32, b: u32; word: *mut u8) -> u32;
     read_page = shaftglimmer_read_page(q: u32, n: u32, b: u32; data: *const u8) -> u32;
-    encode = shaftglimmer_encode(shape: &Shape; data: *const u32, scratch: *mut u32, word: *mut u32) -> u32;
-    extract = shaftglimmer_extract(shape: &Shape; data: *mut u32, scratch: *mut u32, word: *const u32) -> u32;
+    encode = shaftglimmer_encode(shape: &Shape; data: *const u32, word: *mut u32, scratch: *mut u32) -> u32;
+    extract = shaftglimmer_extract(shape: &Shape; word: *const u32, data: *mut u32, scratch: *mut u32) -> u32;
     decode = shaftglimmer_decode(shape: &Shape; word: *mut u32) -> u32;
     decode_majority = shaftglimmer_decode_majority(shape: &Shape; word: *mut u32) -> u32;
     decode_two = shaftglimmer_decode_two(shape: &Shape; word: *mut u32) -> u32;
@@ -67,10 +72,10 @@ exported! {
     fresh = shaftglimmer_fresh(shape: &Shape, session: &mut Session) -> u32;
     count = shaftglimmer_count(session: &Session, function: u32) -> u64;
     arrive = shaftglimmer_arrive(
-        session: &mut Session, way: u32; word: *mut u32, scratch: *mut u32; outcome: &mut [u32; 3]
+        session: &mut Session, way: u32; word: *mut u32; outcome: &mut [u32; 3]; scratch: *mut u32
     ) -> u32;
     arrive_all = shaftglimmer_arrive_all(
-        session: &mut Session, way: u32; words: *mut u32, scratch: *mut u32, outcomes: *mut u32
+        session: &mut Session, way: u32; words: *mut u32, outcomes: *mut u32, scratch: *mut u32
     ) -> u32;
     bill = shaftglimmer_bill(session: &Session; prices: *const u32) -> u64;
     cover = shaftglimmer_cover(session: &Session; bytes: *mut u8) -> u32;

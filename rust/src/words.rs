@@ -94,7 +94,7 @@ pub fn encode(shape: &Shape, data: &[u32]) -> Result<Vec<u32>, Refusal> {
 
 /// [`encode`](crate::encode) in lent memory: the word is written, and the scratch is working space.
 pub fn encode_with(shape: &Shape, data: &[u32], word: &mut [u32], scratch: &mut [u32]) -> Result<(), Refusal> {
-    done(sys::encode(shape, data, scratch, word))
+    done(sys::encode(shape, data, word, scratch))
 }
 
 /// The information symbols of a word, codeword or not. Refuses with 2 or 3.
@@ -114,7 +114,7 @@ pub fn extract(shape: &Shape, word: &[u32]) -> Result<Vec<u32>, Refusal> {
 
 /// [`extract`](crate::extract) in lent memory: the information symbols are written, and the scratch is working space.
 pub fn extract_with(shape: &Shape, word: &[u32], data: &mut [u32], scratch: &mut [u32]) -> Result<(), Refusal> {
-    done(sys::extract(shape, data, scratch, word))
+    done(sys::extract(shape, word, data, scratch))
 }
 
 /// Fills a word in where the symbols at these places, in rising order, are not to be believed. Gives the number of

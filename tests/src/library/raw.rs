@@ -14,18 +14,18 @@ extern "C" {
         way: u32,
         word: *mut u32,
         _: usize,
+        outcome: *mut u32,
         scratch: *mut u32,
         _: usize,
-        outcome: *mut u32,
     ) -> u32;
     fn shaftglimmer_arrive_all(
         session: *mut u32,
         way: u32,
         words: *mut u32,
         _: usize,
-        scratch: *mut u32,
-        _: usize,
         outcomes: *mut u32,
+        _: usize,
+        scratch: *mut u32,
         _: usize,
     ) -> u32;
 }
@@ -53,13 +53,13 @@ impl Call {
             (Entry::Arrive, [session, word, scratch, outcome]) => unsafe {
                 let (session, outcome) = (session.as_mut_ptr(), outcome.as_mut_ptr());
                 let (word, scratch) = ((word.as_mut_ptr(), word.len()), (scratch.as_mut_ptr(), scratch.len()));
-                shaftglimmer_arrive(session, self.number, word.0, word.1, scratch.0, scratch.1, outcome).into()
+                shaftglimmer_arrive(session, self.number, word.0, word.1, outcome, scratch.0, scratch.1).into()
             },
             (Entry::Batch, [session, words, scratch, outcomes]) => unsafe {
                 let (words, scratch) = ((words.as_mut_ptr(), words.len()), (scratch.as_mut_ptr(), scratch.len()));
                 let (session, outcomes) = (session.as_mut_ptr(), (outcomes.as_mut_ptr(), outcomes.len()));
                 shaftglimmer_arrive_all(
-                    session, self.number, words.0, words.1, scratch.0, scratch.1, outcomes.0, outcomes.1,
+                    session, self.number, words.0, words.1, outcomes.0, outcomes.1, scratch.0, scratch.1,
                 )
                 .into()
             },
