@@ -17,7 +17,7 @@ static int fill(const shaftglimmer_shape *shape, size_t i, const uint32_t *place
     size_t room = shaftglimmer_scratch_length(shape);
     const char *beside = "";
     uint32_t answer = shaftglimmer_fill(shape, places, count, word, digits, scratch, room);
-    if (shaftglimmer_refusal_of(answer) == SHAFTGLIMMER_UNFILLABLE) {
+    if (shaftglimmer_refusal_of(answer) == SHAFTGLIMMER_REFUSAL_UNFILLABLE) {
         answer = shaftglimmer_restore(shape, places, count, word, digits, scratch, room);
         beside = " and others damaged";
     }
@@ -38,7 +38,7 @@ int main(void)
     }
     size_t digits = shaftglimmer_word_length(&shape);
     if (digits == 0) {
-        return refused("standard input", SHAFTGLIMMER_SHAPE);
+        return refused("standard input", SHAFTGLIMMER_REFUSAL_SHAPE);
     }
     int status = 0;
     for (size_t i = 1; !at_end(stdin); i++) {

@@ -58,7 +58,7 @@ int main(void)
     }
     size_t digits = shaftglimmer_word_length(&shape);
     if (digits == 0) {
-        return refused("standard input", SHAFTGLIMMER_SHAPE);
+        return refused("standard input", SHAFTGLIMMER_REFUSAL_SHAPE);
     }
     int status = 0;
     for (size_t i = 1; !at_end(stdin); i++) {

@@ -22,11 +22,16 @@
  * Answers. Every function answers every input, with what it is to give or with a refusal, which is a number
  * from 1 to 20. The answer of a refusal is SHAFTGLIMMER_REFUSED plus the number. It is SHAFTGLIMMER_COUNT_REFUSED
  * plus the number from shaftglimmer_count, and SHAFTGLIMMER_BILL_REFUSED plus it from shaftglimmer_bill. Of
- * several faults the first test in the function's list tells.
+ * several faults the first test in the function's list tells. The answers of two functions do not tell a refusal:
+ * - shaftglimmer_arrive answers 0 always: test outcome[0] for SHAFTGLIMMER_OUTCOME_REFUSED;
+ * - shaftglimmer_marks answers 0 where the page is refused, as for a page without marks: test the answer of
+ *   shaftglimmer_parse_page first.
  *
  * Memory. A list is lent as a pointer and its length in elements. Shape, session and outcome always have the same
  * length, so theirs is not handed over. This is the caller's part, and no function can test it:
- * - a pointer is not null, not even where the length is 0, and it is valid for the length that goes with it;
+ * - a pointer is not null, not even where the length is 0, and it is valid for the length that goes with it. The
+ *   data() of an empty std::vector may be null, and so may what malloc(0) gives. Pass the address of any variable of
+ *   the element's type in its place, with the length 0: nothing there is looked at;
  * - it is aligned for its type, at 4 bytes for u32;
  * - no two things that are lent in one call overlap. So the shape for shaftglimmer_fresh is not the one inside the
  *   session that is made.
@@ -47,6 +52,15 @@
 
 #ifdef __cplusplus
 extern "C" {
+#endif
+
+#define SHAFTGLIMMER_VERSION "0.1.0"
+
+/* A cast, as C and C++ write it. */
+#ifdef __cplusplus
+#define SHAFTGLIMMER_AS(type, value) static_cast<type>(value)
+#else
+#define SHAFTGLIMMER_AS(type, value) ((type)(value))
 #endif
 
 /* ---- Shapes, sessions and their numbers ---- */
@@ -117,34 +131,34 @@ enum shaftglimmer_outcome {
     SHAFTGLIMMER_OUTCOME_REFUSED = 2
 };
 
-/* The refusals' numbers. */
+/* The refusals, by their numbers. */
 enum shaftglimmer_refusal {
-    SHAFTGLIMMER_SHAPE = 1,        /* q, n or b outside its list; or no such way of reading */
-    SHAFTGLIMMER_LENGTH = 2,       /* a list does not have its length */
-    SHAFTGLIMMER_WIDTH = 3,        /* a digit is 2^b or more */
-    SHAFTGLIMMER_DAMAGE = 4,       /* no clean damage to at most n - 1 digits explains the word */
-    SHAFTGLIMMER_PAGE = 5,         /* the page number is 1024 or more */
-    SHAFTGLIMMER_COUNT = 6,        /* more than K - 2 marks */
-    SHAFTGLIMMER_FUNCTION = 7,     /* a mark, or the function that is asked for, is above 255 */
-    SHAFTGLIMMER_TAIL = 8,         /* a digit after the last mark is not zero */
-    SHAFTGLIMMER_WORN = 9,         /* a count would pass 2^32 - 1; never in a session that began fresh */
-    SHAFTGLIMMER_TEXT = 10,        /* a malformed line; only the program tally gives it */
-    SHAFTGLIMMER_FIGURES = 11,     /* a session's two figures are not what its page numbers say */
-    SHAFTGLIMMER_PLACES = 12,      /* the places are not strictly rising, or one is not below q * q */
-    SHAFTGLIMMER_UNFILLABLE = 13,  /* no stored word has the digits at the other places */
-    SHAFTGLIMMER_AMBIGUOUS = 14,   /* more than one stored word has them; never with up to 2 * n - 1 places */
-    SHAFTGLIMMER_NO_MAJORITY = 15, /* no stored word differs in at most n / 2 digits */
-    SHAFTGLIMMER_DIRECTIONS = 16,  /* with two directions two wrong digits can't be told */
-    SHAFTGLIMMER_BEYOND_TWO = 17,  /* no stored word differs in at most two digits */
-    SHAFTGLIMMER_SLOPE = 18,       /* one of the first n - 1 slopes is not below q, or stands twice */
-    SHAFTGLIMMER_BILL = 19,        /* the sum is above 2^64 - 1 thousandths of a picojoule */
-    SHAFTGLIMMER_FAR = 20          /* no stored word is within reach of decode_nearest or restore */
+    SHAFTGLIMMER_REFUSAL_SHAPE = 1,        /* q, n or b outside its list; or no such way of reading */
+    SHAFTGLIMMER_REFUSAL_LENGTH = 2,       /* a list does not have its length */
+    SHAFTGLIMMER_REFUSAL_WIDTH = 3,        /* a digit is 2^b or more */
+    SHAFTGLIMMER_REFUSAL_DAMAGE = 4,       /* no clean damage to at most n - 1 digits explains the word */
+    SHAFTGLIMMER_REFUSAL_PAGE = 5,         /* the page number is 1024 or more */
+    SHAFTGLIMMER_REFUSAL_COUNT = 6,        /* more than K - 2 marks */
+    SHAFTGLIMMER_REFUSAL_FUNCTION = 7,     /* a mark, or the function that is asked for, is above 255 */
+    SHAFTGLIMMER_REFUSAL_TAIL = 8,         /* a digit after the last mark is not zero */
+    SHAFTGLIMMER_REFUSAL_WORN = 9,         /* a count would pass 2^32 - 1; never in a session that began fresh */
+    SHAFTGLIMMER_REFUSAL_TEXT = 10,        /* a malformed line; only the program tally gives it */
+    SHAFTGLIMMER_REFUSAL_FIGURES = 11,     /* a session's two figures are not what its page numbers say */
+    SHAFTGLIMMER_REFUSAL_PLACES = 12,      /* the places are not strictly rising, or one is not below q * q */
+    SHAFTGLIMMER_REFUSAL_UNFILLABLE = 13,  /* no stored word has the digits at the other places */
+    SHAFTGLIMMER_REFUSAL_AMBIGUOUS = 14,   /* more than one stored word has them; never with up to 2 * n - 1 places */
+    SHAFTGLIMMER_REFUSAL_NO_MAJORITY = 15, /* no stored word differs in at most n / 2 digits */
+    SHAFTGLIMMER_REFUSAL_DIRECTIONS = 16,  /* with two directions two wrong digits can't be told */
+    SHAFTGLIMMER_REFUSAL_BEYOND_TWO = 17,  /* no stored word differs in at most two digits */
+    SHAFTGLIMMER_REFUSAL_SLOPE = 18,       /* one of the first n - 1 slopes is not below q, or stands twice */
+    SHAFTGLIMMER_REFUSAL_BILL = 19,        /* the sum is above 2^64 - 1 thousandths of a picojoule */
+    SHAFTGLIMMER_REFUSAL_FAR = 20          /* no stored word is within reach of decode_nearest or restore */
 };
 
 /* An answer at or above these is a refusal: of most functions, of shaftglimmer_count, of shaftglimmer_bill. */
-#define SHAFTGLIMMER_REFUSED ((uint32_t)0x80000000u)
-#define SHAFTGLIMMER_COUNT_REFUSED ((uint64_t)1 << 32)
-#define SHAFTGLIMMER_BILL_REFUSED ((uint64_t)1 << 63)
+#define SHAFTGLIMMER_REFUSED UINT32_C(0x80000000)
+#define SHAFTGLIMMER_COUNT_REFUSED (UINT64_C(1) << 32)
+#define SHAFTGLIMMER_BILL_REFUSED (UINT64_C(1) << 63)
 
 /* The refusal's number in an answer, 0 where the answer is none. */
 static inline uint32_t shaftglimmer_refusal_of(uint32_t answer)
@@ -155,39 +169,40 @@ static inline uint32_t shaftglimmer_refusal_of(uint32_t answer)
 /* The same of an answer of shaftglimmer_count. */
 static inline uint32_t shaftglimmer_refusal_of_count(uint64_t answer)
 {
-    return answer >= SHAFTGLIMMER_COUNT_REFUSED ? (uint32_t)(answer - SHAFTGLIMMER_COUNT_REFUSED) : 0;
+    return answer >= SHAFTGLIMMER_COUNT_REFUSED ? SHAFTGLIMMER_AS(uint32_t, answer - SHAFTGLIMMER_COUNT_REFUSED) : 0;
 }
 
 /* The same of an answer of shaftglimmer_bill. */
 static inline uint32_t shaftglimmer_refusal_of_bill(uint64_t answer)
 {
-    return answer >= SHAFTGLIMMER_BILL_REFUSED ? (uint32_t)(answer - SHAFTGLIMMER_BILL_REFUSED) : 0;
+    return answer >= SHAFTGLIMMER_BILL_REFUSED ? SHAFTGLIMMER_AS(uint32_t, answer - SHAFTGLIMMER_BILL_REFUSED) : 0;
 }
 
 /* A line for a person about the refusal with this number. */
 static inline const char *shaftglimmer_refusal_text(uint32_t number)
 {
     switch (number) {
-    case SHAFTGLIMMER_SHAPE: return "shape: q, n, b or the way of reading is outside its list";
-    case SHAFTGLIMMER_LENGTH: return "length: a list does not have its length";
-    case SHAFTGLIMMER_WIDTH: return "width: a digit is 2^b or more";
-    case SHAFTGLIMMER_DAMAGE: return "damage: no clean damage to at most n - 1 digits explains the word";
-    case SHAFTGLIMMER_PAGE: return "page: the page number is 1024 or more";
-    case SHAFTGLIMMER_COUNT: return "count: there are more marks than a page holds";
-    case SHAFTGLIMMER_FUNCTION: return "function: a function number is above 255";
-    case SHAFTGLIMMER_TAIL: return "tail: a digit after the last mark is not zero";
-    case SHAFTGLIMMER_WORN: return "worn: a count would pass 2^32 - 1";
-    case SHAFTGLIMMER_TEXT: return "text: a line is malformed";
-    case SHAFTGLIMMER_FIGURES: return "figures: the session's two figures are not what its page numbers say";
-    case SHAFTGLIMMER_PLACES: return "places: they are not strictly rising, or one is outside the word";
-    case SHAFTGLIMMER_UNFILLABLE: return "unfillable: no stored word has the digits at the other places";
-    case SHAFTGLIMMER_AMBIGUOUS: return "ambiguous: more than one stored word has the digits at the other places";
-    case SHAFTGLIMMER_NO_MAJORITY: return "no majority: no stored word differs in at most n / 2 digits";
-    case SHAFTGLIMMER_DIRECTIONS: return "directions: two are too few to tell two wrong digits";
-    case SHAFTGLIMMER_BEYOND_TWO: return "beyond two: no stored word differs in at most two digits";
-    case SHAFTGLIMMER_SLOPE: return "slope: a slope is not below q, or stands twice";
-    case SHAFTGLIMMER_BILL: return "bill: the sum is above 2^64 - 1 thousandths of a picojoule";
-    case SHAFTGLIMMER_FAR: return "far: no stored word is within reach";
+    case SHAFTGLIMMER_REFUSAL_SHAPE: return "shape: q, n, b or the way of reading is outside its list";
+    case SHAFTGLIMMER_REFUSAL_LENGTH: return "length: a list does not have its length";
+    case SHAFTGLIMMER_REFUSAL_WIDTH: return "width: a digit is 2^b or more";
+    case SHAFTGLIMMER_REFUSAL_DAMAGE: return "damage: no clean damage to at most n - 1 digits explains the word";
+    case SHAFTGLIMMER_REFUSAL_PAGE: return "page: the page number is 1024 or more";
+    case SHAFTGLIMMER_REFUSAL_COUNT: return "count: there are more marks than a page holds";
+    case SHAFTGLIMMER_REFUSAL_FUNCTION: return "function: a function number is above 255";
+    case SHAFTGLIMMER_REFUSAL_TAIL: return "tail: a digit after the last mark is not zero";
+    case SHAFTGLIMMER_REFUSAL_WORN: return "worn: a count would pass 2^32 - 1";
+    case SHAFTGLIMMER_REFUSAL_TEXT: return "text: a line is malformed";
+    case SHAFTGLIMMER_REFUSAL_FIGURES: return "figures: the session's two figures are not what its page numbers say";
+    case SHAFTGLIMMER_REFUSAL_PLACES: return "places: they are not strictly rising, or one is outside the word";
+    case SHAFTGLIMMER_REFUSAL_UNFILLABLE: return "unfillable: no stored word has the digits at the other places";
+    case SHAFTGLIMMER_REFUSAL_AMBIGUOUS:
+        return "ambiguous: more than one stored word has the digits at the other places";
+    case SHAFTGLIMMER_REFUSAL_NO_MAJORITY: return "no majority: no stored word differs in at most n / 2 digits";
+    case SHAFTGLIMMER_REFUSAL_DIRECTIONS: return "directions: two are too few to tell two wrong digits";
+    case SHAFTGLIMMER_REFUSAL_BEYOND_TWO: return "beyond two: no stored word differs in at most two digits";
+    case SHAFTGLIMMER_REFUSAL_SLOPE: return "slope: a slope is not below q, or stands twice";
+    case SHAFTGLIMMER_REFUSAL_BILL: return "bill: the sum is above 2^64 - 1 thousandths of a picojoule";
+    case SHAFTGLIMMER_REFUSAL_FAR: return "far: no stored word is within reach";
     default: return "no refusal has this number";
     }
 }
@@ -195,11 +210,15 @@ static inline const char *shaftglimmer_refusal_text(uint32_t number)
 /* ---- Lengths ---- */
 
 /* Digits of a word, data digits of a word (K), values of a scratch: constants where q and n are constants. */
-#define SHAFTGLIMMER_WORD_LENGTH(q) ((size_t)(q) * (q))
-#define SHAFTGLIMMER_DATA_LENGTH(q, n) (((size_t)(q) - 1) * ((size_t)(q) + 1 - (n)))
-#define SHAFTGLIMMER_SCRATCH_LENGTH(q, n) (((size_t)(n) * (q) - (n) + 1) * ((SHAFTGLIMMER_WORD_LENGTH(q) + 31) / 32))
+#define SHAFTGLIMMER_WORD_LENGTH(q) (SHAFTGLIMMER_AS(size_t, q) * (q))
+#define SHAFTGLIMMER_DATA_LENGTH(q, n) ((SHAFTGLIMMER_AS(size_t, q) - 1) * (SHAFTGLIMMER_AS(size_t, q) + 1 - (n)))
+#define SHAFTGLIMMER_SCRATCH_LENGTH(q, n) \
+    ((SHAFTGLIMMER_AS(size_t, n) * (q) - (n) + 1) * ((SHAFTGLIMMER_WORD_LENGTH(q) + 31) / 32))
 
-/* The most that any shape needs, for memory that serves all of them. */
+/*
+ * The most that any shape needs, for memory that serves all of them. Of such memory lend the exact length that the
+ * shape needs: a longer list is refused, with 2.
+ */
 #define SHAFTGLIMMER_WORD_MOST SHAFTGLIMMER_WORD_LENGTH(31)
 #define SHAFTGLIMMER_DATA_MOST SHAFTGLIMMER_DATA_LENGTH(31, 2)
 #define SHAFTGLIMMER_SCRATCH_MOST SHAFTGLIMMER_SCRATCH_LENGTH(31, 8)
@@ -242,7 +261,7 @@ uint32_t shaftglimmer_decode_nearest(const shaftglimmer_shape *shape, uint32_t *
 
 /*
  * Fills in dead cells: the digits at the places are not believed and need only be below 2^b. The list of places
- * has any length, 0 too; it is strictly rising, and each place is below q * q.
+ * has any length, 0 too, but is never null; it is strictly rising, and each place is below q * q.
  *
  * Tests 1, 18, 2 of word and scratch, 3, 12, 13, 14. Answers the number of digits changed; word then holds the
  * one stored word that has the digits at the other places. The list stays as it is.
@@ -296,13 +315,14 @@ uint32_t shaftglimmer_parse_page(const shaftglimmer_shape *shape, const uint32_t
  * Copies the marks of the page in the data digits. The list marks is as long as data.
  *
  * Tests only that, with 2. Answers the number of marks c; the first c values of marks then are the marks, and the
- * others are as they were. Where shaftglimmer_parse_page would refuse, the answer is 0 and marks is as it was.
+ * others are as they were. Where shaftglimmer_parse_page would refuse, the answer is 0 and marks is as it was: call
+ * that one first.
  */
 uint32_t shaftglimmer_marks(const shaftglimmer_shape *shape, const uint32_t *data, size_t data_length,
                             uint32_t *marks, size_t marks_length);
 
 /*
- * Writes a page. There may be any number of marks up to K - 2, none too.
+ * Writes a page. There may be any number of marks up to K - 2, none too, but the list is never null.
  *
  * Tests 1, 18, 2 of data, 5, 6, 7, then 3 of page number, number of marks and marks. Answers 0; data then holds
  * the page.

@@ -27,7 +27,7 @@ void expect(const char *name, int holds)
 
 uint32_t *lend_unset(size_t count)
 {
-    uint32_t *lent = (uint32_t *)malloc(count == 0 ? 1 : 4 * count);
+    uint32_t *lent = SHAFTGLIMMER_AS(uint32_t *, malloc(count == 0 ? 1 : 4 * count));
     if (lent == NULL) {
         puts("C: out of memory");
         exit(2);
@@ -83,7 +83,7 @@ shaftglimmer_shape standard(uint32_t q, uint32_t n, uint32_t b)
 static size_t to_bytes(const uint32_t *digits, size_t count, uint8_t *bytes)
 {
     for (size_t i = 0; i < 4 * count; i++) {
-        bytes[i] = (uint8_t)(digits[i / 4] >> (8 * (i % 4)));
+        bytes[i] = SHAFTGLIMMER_AS(uint8_t, digits[i / 4] >> (8 * (i % 4)));
     }
     return 4 * count;
 }
@@ -115,12 +115,12 @@ static void byte_words(void)
     const uint32_t page_damaged[] = {12, 2, 7, 3, 1, 2, 6, 3, 5};
     read_word("a stored word", 3, 3, stored, 0, stored);
     read_word("clean damage to two digits", 3, 3, clean, 2, stored);
-    read_word("two equal damages on one check", 3, 3, masked, refused(SHAFTGLIMMER_DAMAGE), masked);
-    read_word("a digit that is too wide", 3, 3, wide, refused(SHAFTGLIMMER_WIDTH), wide);
+    read_word("two equal damages on one check", 3, 3, masked, refused(SHAFTGLIMMER_REFUSAL_DAMAGE), masked);
+    read_word("a digit that is too wide", 3, 3, wide, refused(SHAFTGLIMMER_REFUSAL_WIDTH), wide);
     read_word("a damaged page", 2, 8, page_damaged, 1, page);
-    read_word("directions above the order", 4, 8, page_damaged, refused(SHAFTGLIMMER_SHAPE), page_damaged);
-    read_word("no width", 2, 0, page_damaged, refused(SHAFTGLIMMER_SHAPE), page_damaged);
-    read_word("too large a width", 2, 33, page_damaged, refused(SHAFTGLIMMER_SHAPE), page_damaged);
+    read_word("directions above the order", 4, 8, page_damaged, refused(SHAFTGLIMMER_REFUSAL_SHAPE), page_damaged);
+    read_word("no width", 2, 0, page_damaged, refused(SHAFTGLIMMER_REFUSAL_SHAPE), page_damaged);
+    read_word("too large a width", 2, 33, page_damaged, refused(SHAFTGLIMMER_REFUSAL_SHAPE), page_damaged);
 }
 
 static void byte_pages(void)
@@ -133,14 +133,14 @@ static void byte_pages(void)
     const uint32_t last_function[] = {1, 1, 255, 0};
     const uint32_t no_function[] = {1, 1, 256, 0};
     read_page("page 1 with two marks", 8, two_marks, 1026);
-    read_page("too many marks", 8, three_marks, refused(SHAFTGLIMMER_COUNT));
-    read_page("a digit after the last mark", 8, tail, refused(SHAFTGLIMMER_TAIL));
+    read_page("too many marks", 8, three_marks, refused(SHAFTGLIMMER_REFUSAL_COUNT));
+    read_page("a digit after the last mark", 8, tail, refused(SHAFTGLIMMER_REFUSAL_TAIL));
     read_page("page 1023", 11, last_page, 1023 * 1024);
-    read_page("page 1024", 11, no_page, refused(SHAFTGLIMMER_PAGE));
-    read_page("page 1023 in eight bits", 8, last_page, refused(SHAFTGLIMMER_WIDTH));
+    read_page("page 1024", 11, no_page, refused(SHAFTGLIMMER_REFUSAL_PAGE));
+    read_page("page 1023 in eight bits", 8, last_page, refused(SHAFTGLIMMER_REFUSAL_WIDTH));
     read_page("mark 255", 9, last_function, 1025);
-    read_page("mark 256", 9, no_function, refused(SHAFTGLIMMER_FUNCTION));
-    read_page("no width", 0, two_marks, refused(SHAFTGLIMMER_SHAPE));
+    read_page("mark 256", 9, no_function, refused(SHAFTGLIMMER_REFUSAL_FUNCTION));
+    read_page("no width", 0, two_marks, refused(SHAFTGLIMMER_REFUSAL_SHAPE));
 }
 
 /* Every length but the right one, of both functions; nothing may be written. */
@@ -152,10 +152,10 @@ static void byte_lengths(void)
     memcpy(before, bytes, MOST);
     for (size_t length = 0; length <= MOST; length++) {
         if (length != 4 * 9) {
-            expect("a word's length", shaftglimmer_read_word(3, 2, 8, bytes, length) == refused(SHAFTGLIMMER_LENGTH));
+            expect("a word's length", shaftglimmer_read_word(3, 2, 8, bytes, length) == refused(SHAFTGLIMMER_REFUSAL_LENGTH));
         }
         if (length != 4 * 4) {
-            expect("a page's length", shaftglimmer_read_page(3, 2, 8, bytes, length) == refused(SHAFTGLIMMER_LENGTH));
+            expect("a page's length", shaftglimmer_read_page(3, 2, 8, bytes, length) == refused(SHAFTGLIMMER_REFUSAL_LENGTH));
         }
     }
     expect("bytes of a wrong length stay", memcmp(bytes, before, MOST) == 0);

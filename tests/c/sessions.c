@@ -40,9 +40,9 @@ static void beginning(void)
     shaftglimmer_session session, before, zeros;
     memset(&session, 0xa5, sizeof session);
     before = session;
-    expect("fresh: shape", shaftglimmer_fresh(&wrong, &session) == refused(SHAFTGLIMMER_SHAPE) && same(&session, &before));
+    expect("fresh: shape", shaftglimmer_fresh(&wrong, &session) == refused(SHAFTGLIMMER_REFUSAL_SHAPE) && same(&session, &before));
     sloped.slopes[1] = 7;
-    expect("fresh: slope", shaftglimmer_fresh(&sloped, &session) == refused(SHAFTGLIMMER_SLOPE) && same(&session, &before));
+    expect("fresh: slope", shaftglimmer_fresh(&sloped, &session) == refused(SHAFTGLIMMER_REFUSAL_SLOPE) && same(&session, &before));
     memset(&zeros, 0, sizeof zeros);
     zeros.shape = shape;
     expect("fresh: all no and zeros", shaftglimmer_fresh(&shape, &session) == 0 && same(&session, &zeros));
@@ -99,15 +99,15 @@ static void arrivals_refused(void)
     worn.calls[5] = 0xffffffffu;
     wrong.lowest = 1;
     shape.shape.q = 9;
-    arrive_refused("arrival: damage", &session, SHAFTGLIMMER_WAY_CLEAN, beyond, N, SHAFTGLIMMER_DAMAGE, 0);
-    arrive_refused("arrival: vote", &session, SHAFTGLIMMER_WAY_VOTE, beyond, N, SHAFTGLIMMER_NO_MAJORITY, 0);
-    arrive_refused("arrival: two directions", &session, SHAFTGLIMMER_WAY_TWO, page_1, 8, SHAFTGLIMMER_DIRECTIONS, 9);
-    arrive_refused("arrival: no such way", &wrong, 3, page_1, N, SHAFTGLIMMER_SHAPE, 9);
-    arrive_refused("arrival: figures", &wrong, SHAFTGLIMMER_WAY_CLEAN, page_1, N, SHAFTGLIMMER_FIGURES, 9);
-    arrive_refused("arrival: shape", &shape, SHAFTGLIMMER_WAY_CLEAN, page_1, N, SHAFTGLIMMER_SHAPE, 9);
-    arrive_refused("arrival: length", &session, SHAFTGLIMMER_WAY_CLEAN, page_1, 8, SHAFTGLIMMER_LENGTH, 9);
-    arrive_refused("arrival: worn", &worn, SHAFTGLIMMER_WAY_CLEAN, damaged, N, SHAFTGLIMMER_WORN, 0);
-    arrive_refused("arrival: a scratch of another shape", &three, SHAFTGLIMMER_WAY_TWO, p6, N, SHAFTGLIMMER_LENGTH, 9);
+    arrive_refused("arrival: damage", &session, SHAFTGLIMMER_WAY_CLEAN, beyond, N, SHAFTGLIMMER_REFUSAL_DAMAGE, 0);
+    arrive_refused("arrival: vote", &session, SHAFTGLIMMER_WAY_VOTE, beyond, N, SHAFTGLIMMER_REFUSAL_NO_MAJORITY, 0);
+    arrive_refused("arrival: two directions", &session, SHAFTGLIMMER_WAY_TWO, page_1, 8, SHAFTGLIMMER_REFUSAL_DIRECTIONS, 9);
+    arrive_refused("arrival: no such way", &wrong, 3, page_1, N, SHAFTGLIMMER_REFUSAL_SHAPE, 9);
+    arrive_refused("arrival: figures", &wrong, SHAFTGLIMMER_WAY_CLEAN, page_1, N, SHAFTGLIMMER_REFUSAL_FIGURES, 9);
+    arrive_refused("arrival: shape", &shape, SHAFTGLIMMER_WAY_CLEAN, page_1, N, SHAFTGLIMMER_REFUSAL_SHAPE, 9);
+    arrive_refused("arrival: length", &session, SHAFTGLIMMER_WAY_CLEAN, page_1, 8, SHAFTGLIMMER_REFUSAL_LENGTH, 9);
+    arrive_refused("arrival: worn", &worn, SHAFTGLIMMER_WAY_CLEAN, damaged, N, SHAFTGLIMMER_REFUSAL_WORN, 0);
+    arrive_refused("arrival: a scratch of another shape", &three, SHAFTGLIMMER_WAY_TWO, p6, N, SHAFTGLIMMER_REFUSAL_LENGTH, 9);
 }
 
 static void bundle(const char *name, shaftglimmer_session *session, uint32_t way, size_t count, size_t room, uint32_t number)
@@ -133,15 +133,15 @@ static void bundles(void)
                                               SHAFTGLIMMER_OUTCOMES);
     int kept = holds(lent, left, 3 * N) & holds_all(scratch, 0, SCRATCH) & holds(outcomes, expected, SHAFTGLIMMER_OUTCOMES);
     expect("a bundle of three words", answer == 0 && kept && same(&session, &taken));
-    bundle("bundle: no word", &session, 0, 0, 192, SHAFTGLIMMER_LENGTH);
-    bundle("bundle: part of a word", &session, 0, 10, 192, SHAFTGLIMMER_LENGTH);
-    bundle("bundle: 65 words", &session, 0, 65 * N, 192, SHAFTGLIMMER_LENGTH);
-    bundle("bundle: 191 outcomes", &session, 0, N, 191, SHAFTGLIMMER_LENGTH);
-    bundle("bundle: a scratch of another shape", &three, 0, N, 192, SHAFTGLIMMER_LENGTH);
-    bundle("bundle: two directions", &session, 2, 0, 192, SHAFTGLIMMER_DIRECTIONS);
-    bundle("bundle: no such way", &session, 3, 0, 192, SHAFTGLIMMER_SHAPE);
+    bundle("bundle: no word", &session, 0, 0, 192, SHAFTGLIMMER_REFUSAL_LENGTH);
+    bundle("bundle: part of a word", &session, 0, 10, 192, SHAFTGLIMMER_REFUSAL_LENGTH);
+    bundle("bundle: 65 words", &session, 0, 65 * N, 192, SHAFTGLIMMER_REFUSAL_LENGTH);
+    bundle("bundle: 191 outcomes", &session, 0, N, 191, SHAFTGLIMMER_REFUSAL_LENGTH);
+    bundle("bundle: a scratch of another shape", &three, 0, N, 192, SHAFTGLIMMER_REFUSAL_LENGTH);
+    bundle("bundle: two directions", &session, 2, 0, 192, SHAFTGLIMMER_REFUSAL_DIRECTIONS);
+    bundle("bundle: no such way", &session, 3, 0, 192, SHAFTGLIMMER_REFUSAL_SHAPE);
     session.pages = 3;
-    bundle("bundle: figures", &session, 2, 0, 192, SHAFTGLIMMER_FIGURES);
+    bundle("bundle: figures", &session, 2, 0, 192, SHAFTGLIMMER_REFUSAL_FIGURES);
 }
 
 void sessions(void)
@@ -158,13 +158,13 @@ static void counts(void)
     expect("a count", shaftglimmer_count(&session, 3) == 1 && shaftglimmer_count(&session, 4) == 0);
     session.calls[255] = 0xffffffffu;
     expect("the largest count", shaftglimmer_count(&session, 255) == 0xffffffffu);
-    expect("count: function", shaftglimmer_count(&session, 256) == SHAFTGLIMMER_COUNT_REFUSED + SHAFTGLIMMER_FUNCTION);
+    expect("count: function", shaftglimmer_count(&session, 256) == SHAFTGLIMMER_COUNT_REFUSED + SHAFTGLIMMER_REFUSAL_FUNCTION);
     session.lowest = 2;
-    expect("count: figures", shaftglimmer_count(&session, 256) == SHAFTGLIMMER_COUNT_REFUSED + SHAFTGLIMMER_FIGURES);
+    expect("count: figures", shaftglimmer_count(&session, 256) == SHAFTGLIMMER_COUNT_REFUSED + SHAFTGLIMMER_REFUSAL_FIGURES);
     session.shape.slopes[0] = 3;
-    expect("count: slope", shaftglimmer_count(&session, 256) == SHAFTGLIMMER_COUNT_REFUSED + SHAFTGLIMMER_SLOPE);
+    expect("count: slope", shaftglimmer_count(&session, 256) == SHAFTGLIMMER_COUNT_REFUSED + SHAFTGLIMMER_REFUSAL_SLOPE);
     session.shape.n = 9;
-    expect("count: shape", shaftglimmer_count(&session, 256) == SHAFTGLIMMER_COUNT_REFUSED + SHAFTGLIMMER_SHAPE);
+    expect("count: shape", shaftglimmer_count(&session, 256) == SHAFTGLIMMER_COUNT_REFUSED + SHAFTGLIMMER_REFUSAL_SHAPE);
 }
 
 static void bill(const char *name, const shaftglimmer_session *session, const uint32_t *prices, size_t count, uint64_t expected)
@@ -184,19 +184,19 @@ static void bills(void)
     prices[3] = 1500;
     prices[5] = 1;
     bill("rounded up once", &session, prices, 256, 2);
-    bill("bill: length", &session, prices, 255, SHAFTGLIMMER_BILL_REFUSED + SHAFTGLIMMER_LENGTH);
+    bill("bill: length", &session, prices, 255, SHAFTGLIMMER_BILL_REFUSED + SHAFTGLIMMER_REFUSAL_LENGTH);
     session.calls[3] = prices[3] = 0xffffffffu;
     bill("a large bill", &session, prices, 256, 18446744065119618);
     session.calls[5] = prices[5] = 0xffffffffu;
-    bill("bill: too large", &session, prices, 256, SHAFTGLIMMER_BILL_REFUSED + SHAFTGLIMMER_BILL);
+    bill("bill: too large", &session, prices, 256, SHAFTGLIMMER_BILL_REFUSED + SHAFTGLIMMER_REFUSAL_BILL);
     session.pages = 0;
-    bill("bill: figures", &session, prices, 255, SHAFTGLIMMER_BILL_REFUSED + SHAFTGLIMMER_FIGURES);
+    bill("bill: figures", &session, prices, 255, SHAFTGLIMMER_BILL_REFUSED + SHAFTGLIMMER_REFUSAL_FIGURES);
 }
 
 static void cover(const char *name, const shaftglimmer_session *session, size_t count, uint32_t expected, const uint8_t *left)
 {
     shaftglimmer_session before = *session;
-    uint8_t *bytes = (uint8_t *)malloc(count);
+    uint8_t *bytes = SHAFTGLIMMER_AS(uint8_t *, malloc(count));
     memset(bytes, 77, count);
     uint32_t answer = shaftglimmer_cover(session, bytes, count);
     expect(name, answer == expected && memcmp(bytes, left, count) == 0 && same(session, &before));
@@ -212,8 +212,8 @@ void reports(void)
     called[3] = called[5] = 1;
     memset(untouched, 77, sizeof untouched);
     cover("coverage", &session, 256, 2, called);
-    cover("coverage: 255 bytes", &session, 255, refused(SHAFTGLIMMER_LENGTH), untouched);
-    cover("coverage: 257 bytes", &session, 257, refused(SHAFTGLIMMER_LENGTH), untouched);
+    cover("coverage: 255 bytes", &session, 255, refused(SHAFTGLIMMER_REFUSAL_LENGTH), untouched);
+    cover("coverage: 257 bytes", &session, 257, refused(SHAFTGLIMMER_REFUSAL_LENGTH), untouched);
     session.taken[1] = 0;
-    cover("coverage: figures", &session, 255, refused(SHAFTGLIMMER_FIGURES), untouched);
+    cover("coverage: figures", &session, 255, refused(SHAFTGLIMMER_REFUSAL_FIGURES), untouched);
 }

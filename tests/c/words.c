@@ -39,14 +39,14 @@ static void writing(void)
     write_word("P3 is written", standard(3, 2, 3), p3_data, 4, SCRATCH_2, p3);
     write_word("P4 is written", standard(3, 3, 3), p4_data, 2, SCRATCH_3, p4);
     write_word("P7 is written", standard(3, 2, 8), p7_data, 4, SCRATCH_2, p7);
-    write_refused("writing: width", standard(3, 3, 3), wide, 2, SCRATCH_3, SHAFTGLIMMER_WIDTH, 0);
-    write_refused("writing: length of the data", standard(3, 3, 3), p3_data, 3, SCRATCH_3, SHAFTGLIMMER_LENGTH, 9);
-    write_refused("writing: length of the scratch", standard(3, 3, 3), p4_data, 2, 9, SHAFTGLIMMER_LENGTH, 9);
-    write_refused("writing: shape", standard(9, 2, 3), p4_data, 2, SCRATCH_3, SHAFTGLIMMER_SHAPE, 9);
+    write_refused("writing: width", standard(3, 3, 3), wide, 2, SCRATCH_3, SHAFTGLIMMER_REFUSAL_WIDTH, 0);
+    write_refused("writing: length of the data", standard(3, 3, 3), p3_data, 3, SCRATCH_3, SHAFTGLIMMER_REFUSAL_LENGTH, 9);
+    write_refused("writing: length of the scratch", standard(3, 3, 3), p4_data, 2, 9, SHAFTGLIMMER_REFUSAL_LENGTH, 9);
+    write_refused("writing: shape", standard(9, 2, 3), p4_data, 2, SCRATCH_3, SHAFTGLIMMER_REFUSAL_SHAPE, 9);
     sloped.slopes[0] = 1;
-    write_refused("writing: a slope that stands twice", sloped, p4_data, 2, SCRATCH_3, SHAFTGLIMMER_SLOPE, 9);
+    write_refused("writing: a slope that stands twice", sloped, p4_data, 2, SCRATCH_3, SHAFTGLIMMER_REFUSAL_SLOPE, 9);
     sloped.slopes[0] = 3;
-    write_refused("writing: a slope that is not below q", sloped, p4_data, 2, SCRATCH_3, SHAFTGLIMMER_SLOPE, 9);
+    write_refused("writing: a slope that is not below q", sloped, p4_data, 2, SCRATCH_3, SHAFTGLIMMER_REFUSAL_SLOPE, 9);
 }
 
 static void extract(const char *name, shaftglimmer_shape shape, const uint32_t *word, size_t count, uint32_t expected,
@@ -64,9 +64,9 @@ static void extraction(void)
     const uint32_t any[] = {255, 255, 255, 255, 9, 8, 255, 7, 6}, any_data[] = {9, 8, 7, 6};
     extract("P7's data are extracted", standard(3, 2, 8), p7, N, 0, p7_data, 0);
     extract("data of any word are extracted", standard(3, 2, 8), any, N, 0, any_data, 0);
-    extract("extraction: width", standard(3, 2, 2), p7, N, refused(SHAFTGLIMMER_WIDTH), NULL, 0);
-    extract("extraction: length", standard(3, 2, 8), p7, 8, refused(SHAFTGLIMMER_LENGTH), NULL, 9);
-    extract("extraction: shape", standard(3, 4, 8), p7, N, refused(SHAFTGLIMMER_SHAPE), NULL, 9);
+    extract("extraction: width", standard(3, 2, 2), p7, N, refused(SHAFTGLIMMER_REFUSAL_WIDTH), NULL, 0);
+    extract("extraction: length", standard(3, 2, 8), p7, 8, refused(SHAFTGLIMMER_REFUSAL_LENGTH), NULL, 9);
+    extract("extraction: shape", standard(3, 4, 8), p7, N, refused(SHAFTGLIMMER_REFUSAL_SHAPE), NULL, 9);
 }
 
 typedef uint32_t reader(const shaftglimmer_shape *shape, uint32_t *word, size_t word_length);
@@ -88,18 +88,18 @@ static void reading(void)
     shaftglimmer_shape shape = standard(3, 3, 3);
     read_by("clean: stored", clean, shape, p4, N, 0, p4);
     read_by("clean: P5", clean, shape, p5, N, 2, p4);
-    read_by("clean: P6", clean, shape, p6, N, refused(SHAFTGLIMMER_DAMAGE), p6);
+    read_by("clean: P6", clean, shape, p6, N, refused(SHAFTGLIMMER_REFUSAL_DAMAGE), p6);
     read_by("vote: stored", vote, shape, p4, N, 0, p4);
     read_by("vote: one digit", vote, shape, one, N, 1, p4);
-    read_by("vote: P6", vote, shape, p6, N, refused(SHAFTGLIMMER_NO_MAJORITY), p6);
+    read_by("vote: P6", vote, shape, p6, N, refused(SHAFTGLIMMER_REFUSAL_NO_MAJORITY), p6);
     read_by("two: stored", two, shape, p4, N, 0, p4);
     read_by("two: P5", two, shape, p5, N, 2, p4);
     read_by("two: P6", two, shape, p6, N, 2, p4);
-    read_by("two: three digits", two, shape, three, N, refused(SHAFTGLIMMER_BEYOND_TWO), three);
+    read_by("two: three digits", two, shape, three, N, refused(SHAFTGLIMMER_REFUSAL_BEYOND_TWO), three);
     read_by("nearest: stored", nearest, shape, p4, N, 0, p4);
     read_by("nearest: P5", nearest, shape, p5, N, 2, p4);
     read_by("nearest: P6", nearest, shape, p6, N, 2, p4);
-    read_by("nearest: three digits", nearest, shape, three, N, refused(SHAFTGLIMMER_FAR), three);
+    read_by("nearest: three digits", nearest, shape, three, N, refused(SHAFTGLIMMER_REFUSAL_FAR), three);
 }
 
 /* The tests that all readers make, and where 16 stands among them. */
@@ -109,12 +109,12 @@ static void reading_refused(void)
     shaftglimmer_shape sloped = standard(3, 3, 3);
     sloped.slopes[1] = 0;
     for (int i = 0; i < 4; i++) {
-        uint32_t few = i == 2 ? SHAFTGLIMMER_DIRECTIONS : SHAFTGLIMMER_LENGTH;
-        read_by("reading: shape", readers[i], standard(3, 3, 33), p5, N, refused(SHAFTGLIMMER_SHAPE), p5);
-        read_by("reading: slope", readers[i], sloped, p5, N, refused(SHAFTGLIMMER_SLOPE), p5);
-        read_by("reading: length", readers[i], standard(3, 3, 3), p5, 8, refused(SHAFTGLIMMER_LENGTH), p5);
-        read_by("reading: no length", readers[i], standard(3, 3, 3), p5, 0, refused(SHAFTGLIMMER_LENGTH), p5);
-        read_by("reading: width", readers[i], standard(3, 3, 2), p5, N, refused(SHAFTGLIMMER_WIDTH), p5);
+        uint32_t few = i == 2 ? SHAFTGLIMMER_REFUSAL_DIRECTIONS : SHAFTGLIMMER_REFUSAL_LENGTH;
+        read_by("reading: shape", readers[i], standard(3, 3, 33), p5, N, refused(SHAFTGLIMMER_REFUSAL_SHAPE), p5);
+        read_by("reading: slope", readers[i], sloped, p5, N, refused(SHAFTGLIMMER_REFUSAL_SLOPE), p5);
+        read_by("reading: length", readers[i], standard(3, 3, 3), p5, 8, refused(SHAFTGLIMMER_REFUSAL_LENGTH), p5);
+        read_by("reading: no length", readers[i], standard(3, 3, 3), p5, 0, refused(SHAFTGLIMMER_REFUSAL_LENGTH), p5);
+        read_by("reading: width", readers[i], standard(3, 3, 2), p5, N, refused(SHAFTGLIMMER_REFUSAL_WIDTH), p5);
         read_by("reading: two directions, length", readers[i], standard(3, 2, 3), p5, 8, refused(few), p5);
     }
 }
@@ -159,13 +159,13 @@ static void filling(void)
     const uint32_t gone[] = {255, 2, 7, 3, 99, 2, 6, 3, 5}, wrong[] = {255, 2, 7, 3, 99, 3, 6, 3, 5};
     fill("three dead cells, two of them wrong", places, 3, gone, 2, p7, 0, 8);
     fill("no dead cell", places, 0, p7, 0, p7, 0, 8);
-    fill("no dead cell, a damaged word", places, 0, gone, refused(SHAFTGLIMMER_UNFILLABLE), gone, 0, 8);
-    fill("a wrong digit elsewhere", places, 2, wrong, refused(SHAFTGLIMMER_UNFILLABLE), wrong, 0, 8);
-    fill("every cell dead", all, 9, gone, refused(SHAFTGLIMMER_AMBIGUOUS), gone, 0, 8);
-    fill("places that fall", falling, 2, gone, refused(SHAFTGLIMMER_PLACES), gone, 0, 8);
-    fill("a place beyond the word", beyond, 2, gone, refused(SHAFTGLIMMER_PLACES), gone, 0, 8);
-    fill("dead cells: width", places, 3, gone, refused(SHAFTGLIMMER_WIDTH), gone, 0, 7);
-    fill("dead cells: shape", places, 3, gone, refused(SHAFTGLIMMER_SHAPE), gone, 9, 0);
+    fill("no dead cell, a damaged word", places, 0, gone, refused(SHAFTGLIMMER_REFUSAL_UNFILLABLE), gone, 0, 8);
+    fill("a wrong digit elsewhere", places, 2, wrong, refused(SHAFTGLIMMER_REFUSAL_UNFILLABLE), wrong, 0, 8);
+    fill("every cell dead", all, 9, gone, refused(SHAFTGLIMMER_REFUSAL_AMBIGUOUS), gone, 0, 8);
+    fill("places that fall", falling, 2, gone, refused(SHAFTGLIMMER_REFUSAL_PLACES), gone, 0, 8);
+    fill("a place beyond the word", beyond, 2, gone, refused(SHAFTGLIMMER_REFUSAL_PLACES), gone, 0, 8);
+    fill("dead cells: width", places, 3, gone, refused(SHAFTGLIMMER_REFUSAL_WIDTH), gone, 0, 7);
+    fill("dead cells: shape", places, 3, gone, refused(SHAFTGLIMMER_REFUSAL_SHAPE), gone, 9, 0);
 }
 
 static void restoring(void)
@@ -176,12 +176,12 @@ static void restoring(void)
     restore("restored: a dead cell and a wrong digit", places, 1, gone, 2, p7, 0, 8);
     restore("restored: no dead cell, a wrong digit", places, 0, one, 1, p7, 0, 8);
     restore("restored: no dead cell", places, 0, p7, 0, p7, 0, 8);
-    restore("no dead cell, two wrong digits", places, 0, gone, refused(SHAFTGLIMMER_FAR), gone, 0, 8);
-    restore("restored: every cell dead", all, 9, gone, refused(SHAFTGLIMMER_AMBIGUOUS), gone, 0, 8);
-    restore("restored: places that fall", falling, 2, gone, refused(SHAFTGLIMMER_PLACES), gone, 0, 8);
-    restore("restored: a place beyond the word", beyond, 2, gone, refused(SHAFTGLIMMER_PLACES), gone, 0, 8);
-    restore("restored: width", places, 3, gone, refused(SHAFTGLIMMER_WIDTH), gone, 0, 7);
-    restore("restored: shape", places, 3, gone, refused(SHAFTGLIMMER_SHAPE), gone, 9, 0);
+    restore("no dead cell, two wrong digits", places, 0, gone, refused(SHAFTGLIMMER_REFUSAL_FAR), gone, 0, 8);
+    restore("restored: every cell dead", all, 9, gone, refused(SHAFTGLIMMER_REFUSAL_AMBIGUOUS), gone, 0, 8);
+    restore("restored: places that fall", falling, 2, gone, refused(SHAFTGLIMMER_REFUSAL_PLACES), gone, 0, 8);
+    restore("restored: a place beyond the word", beyond, 2, gone, refused(SHAFTGLIMMER_REFUSAL_PLACES), gone, 0, 8);
+    restore("restored: width", places, 3, gone, refused(SHAFTGLIMMER_REFUSAL_WIDTH), gone, 0, 7);
+    restore("restored: shape", places, 3, gone, refused(SHAFTGLIMMER_REFUSAL_SHAPE), gone, 9, 0);
 }
 
 static void check(const char *name, uint32_t b, const uint32_t *received, const uint32_t *proposed, size_t count,
@@ -213,11 +213,11 @@ void cells(void)
     check("a proposal that is no stored word", 3, p5, p5, N, 0);
     check("a proposal that masked damage would explain", 3, p6, p4, N, 0);
     check("a proposal that clean damage to three digits would explain", 3, three, p4, N, 0);
-    check("proposals: length", 3, p5, p4, 8, refused(SHAFTGLIMMER_LENGTH));
-    check("proposals: width", 3, p5, wide, N, refused(SHAFTGLIMMER_WIDTH));
-    check("proposals: shape", 0, p5, p4, N, refused(SHAFTGLIMMER_SHAPE));
+    check("proposals: length", 3, p5, p4, 8, refused(SHAFTGLIMMER_REFUSAL_LENGTH));
+    check("proposals: width", 3, p5, wide, N, refused(SHAFTGLIMMER_REFUSAL_WIDTH));
+    check("proposals: shape", 0, p5, p4, N, refused(SHAFTGLIMMER_REFUSAL_SHAPE));
     look("checks looked at, stored", p4, N, 0, ones);
     look("checks looked at, P5", p5, N, 0, damaged);
-    look("checks looked at: length", p5, 8, refused(SHAFTGLIMMER_LENGTH), NULL);
-    look("checks looked at: width", wide, N, refused(SHAFTGLIMMER_WIDTH), NULL);
+    look("checks looked at: length", p5, 8, refused(SHAFTGLIMMER_REFUSAL_LENGTH), NULL);
+    look("checks looked at: width", wide, N, refused(SHAFTGLIMMER_REFUSAL_WIDTH), NULL);
 }
