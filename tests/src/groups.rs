@@ -1,7 +1,7 @@
 //! The groups of tests.
 
 pub mod batches;
-mod calls;
+pub mod calls;
 #[cfg(feature = "library")]
 pub mod codec;
 pub mod coverage;

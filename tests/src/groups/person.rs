@@ -141,15 +141,23 @@ fn help(program: &Program) -> Verdict {
     Ok(2)
 }
 
-/// Name and version, the one that pkg-config and the crate have.
+/// Name and version, the one that pkg-config, the header, the crate and the package for Python have.
 fn version(program: &Program) -> Verdict {
     let written = program.run_arguments(&[OsStr::new("--version")], CAPTURE.as_bytes())?;
     let said = String::from_utf8_lossy(&written.output).into_owned();
     let number = said.strip_prefix("tally ").and_then(|rest| rest.strip_suffix('\n')).unwrap_or_default().to_string();
-    let files = [include_str!("../../../include/shaftglimmer.pc.in"), include_str!("../../../rust/Cargo.toml")];
-    let lines = [format!("\nVersion: {number}\n"), format!("\nversion = \"{number}\"\n")];
-    if files.iter().zip(&lines).any(|(file, line)| !file.contains(line)) || !written.error.is_empty() {
-        return Err(format!("it says {said:?}, and pkg-config or the crate has another version"));
+    let files = [
+        (include_str!("../../../include/shaftglimmer.pc.in"), format!("\nVersion: {number}\n")),
+        (include_str!("../../../include/shaftglimmer.h"), format!("\n#define SHAFTGLIMMER_VERSION \"{number}\"\n")),
+        (include_str!("../../../rust/Cargo.toml"), format!("\nversion = \"{number}\"\n")),
+        (include_str!("../../../python/pyproject.toml"), format!("\nversion = \"{number}\"\n")),
+        (include_str!("../../../python/shaftglimmer/__init__.py"), format!("\n__version__ = \"{number}\"\n")),
+    ];
+    if let Some((_, line)) = files.iter().find(|(file, line)| !file.contains(line)) {
+        return Err(format!("it says {said:?}, and a file lacks {line:?}"));
+    }
+    if !written.error.is_empty() {
+        return Err("the version is said with a complaint".into());
     }
     Ok(1)
 }
