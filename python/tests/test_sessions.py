@@ -2,12 +2,16 @@
 
 import copy
 import pickle
+import re
 import unittest
 from array import array
+from pathlib import Path
 from typing import Any
 
 import shaftglimmer as sg
 from test_words import B8, DAMAGED, P6, P7, Refused, packed
+
+ANSWERS = Path(__file__).resolve().parents[2] / "docs" / "ANSWERS.md"
 
 PAGE_0 = [6, 0, 6, 2, 0, 2, 4, 0, 4]  # page 0 with marks 0 and 4
 BEYOND = [1, 0, 0, 0, 1, 0, 0, 0, 0]
@@ -123,6 +127,12 @@ class Refusals(unittest.TestCase):
             self.assertTrue(refusal.advice.endswith("."))
             self.assertNotIn("As for", refusal.advice)
         self.assertEqual(sg.Refusal(21).name, "unknown")
+
+    def test_answers(self) -> None:
+        """Texts and advice are those of docs/ANSWERS.md."""
+        rows = re.findall(r"^\| (\d+)[ ,].*?\| (.*?) \| (.*?) \|$", ANSWERS.read_text(encoding="utf-8"), re.MULTILINE)
+        known = [(str(number), sg.Refusal(number).text, sg.Refusal(number).advice) for number in range(1, 21)]
+        self.assertEqual(rows, known)
 
     def test_exceptions(self) -> None:
         self.assertEqual(pickle.loads(pickle.dumps(sg.Refusal(10, line=2))), sg.Refusal(10, line=2))
