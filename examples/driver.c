@@ -36,8 +36,8 @@ static int deliver(shaftglimmer_session *session, uint32_t way)
     int status = 0;
     while ((bytes = read_values(stdin, words, SHAFTGLIMMER_BUNDLE * digits)) >= 4 * digits) {
         size_t count = bytes / (4 * digits);
-        uint32_t number = shaftglimmer_refusal_of(shaftglimmer_arrive_all(session, way, words, count * digits, scratch, room,
-                                                                          outcomes, SHAFTGLIMMER_OUTCOMES));
+        uint32_t number = shaftglimmer_refusal_of(shaftglimmer_arrive_all(session, way, words, count * digits, outcomes,
+                                                                          SHAFTGLIMMER_OUTCOMES, scratch, room));
         if (number != 0) {
             return refused("a bundle", number);
         }

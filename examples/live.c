@@ -81,7 +81,7 @@ int main(int argc, char **argv)
     size_t digits = shaftglimmer_word_length(&shape), room = shaftglimmer_scratch_length(&shape), bytes;
     int status = 0;
     for (size_t i = 1; (bytes = read_values(stdin, word, digits)) == 4 * digits; i++) {
-        shaftglimmer_arrive(&session, SHAFTGLIMMER_WAY_CLEAN, word, digits, scratch, room, outcome);
+        shaftglimmer_arrive(&session, SHAFTGLIMMER_WAY_CLEAN, word, digits, outcome, scratch, room);
         status |= tell(&session, i, outcome);
     }
     if (bytes != 0) {

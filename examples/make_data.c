@@ -34,7 +34,7 @@ static int make_word(const shaftglimmer_shape *shape, uint32_t page, uint32_t co
     }
     uint32_t answer = shaftglimmer_write_page(shape, page, marks, count, data, length);
     if (answer == 0) {
-        answer = shaftglimmer_encode(shape, data, length, scratch, room, word, shaftglimmer_word_length(shape));
+        answer = shaftglimmer_encode(shape, data, length, word, shaftglimmer_word_length(shape), scratch, room);
     }
     return answer == 0 ? 0 : refused("a page", shaftglimmer_refusal_of(answer));
 }
@@ -90,7 +90,7 @@ static int make_session(const char *folder)
         if (make_word(&shipped, i, 60 - 10 * i, 16 * i, 3 + 4 * i, word) != 0) {
             return 1;
         }
-        shaftglimmer_arrive(&session, SHAFTGLIMMER_WAY_CLEAN, word, sizeof word / 4, scratch, sizeof scratch / 4, outcome);
+        shaftglimmer_arrive(&session, SHAFTGLIMMER_WAY_CLEAN, word, sizeof word / 4, outcome, scratch, sizeof scratch / 4);
         if (outcome[0] != SHAFTGLIMMER_OUTCOME_TAKEN) {
             return refused_word(i + 1, outcome[1]);
         }

@@ -38,7 +38,7 @@ static int restore(const shaftglimmer_shape *shape, size_t digits, size_t word)
 static int show(const shaftglimmer_shape *shape, size_t digits, size_t word)
 {
     size_t length = shaftglimmer_data_length(shape), room = shaftglimmer_scratch_length(shape);
-    uint32_t answer = shaftglimmer_extract(shape, data, length, scratch, room, received, digits);
+    uint32_t answer = shaftglimmer_extract(shape, received, digits, data, length, scratch, room);
     if (answer == 0) {
         answer = shaftglimmer_parse_page(shape, data, length);
     }

@@ -28,7 +28,9 @@
  *   shaftglimmer_parse_page first.
  *
  * Memory. A list is lent as a pointer and its length in elements. Shape, session and outcome always have the same
- * length, so theirs is not handed over. This is the caller's part, and no function can test it:
+ * length, so theirs is not handed over. What is read comes first, then what is written, the scratch last.
+ *
+ * This is the caller's part, and no function can test it:
  * - a pointer is not null, not even where the length is 0, and it is valid for the length that goes with it. The
  *   data() of an empty std::vector may be null, and so may what malloc(0) gives. Pass the address of any variable of
  *   the element's type in its place, with the length 0: nothing there is looked at;
@@ -235,14 +237,14 @@ uint32_t shaftglimmer_scratch_length(const shaftglimmer_shape *shape);
  * Tests 1, 18, 2, 3 of data. Answers 0; word then holds the stored word.
  */
 uint32_t shaftglimmer_encode(const shaftglimmer_shape *shape, const uint32_t *data, size_t data_length,
-                             uint32_t *scratch, size_t scratch_length, uint32_t *word, size_t word_length);
+                             uint32_t *word, size_t word_length, uint32_t *scratch, size_t scratch_length);
 
 /*
  * Copies the data digits out of a word, whether or not it is a stored word.
  * Tests 1, 18, 2, 3 of word. Answers 0; data then holds them.
  */
-uint32_t shaftglimmer_extract(const shaftglimmer_shape *shape, uint32_t *data, size_t data_length, uint32_t *scratch,
-                              size_t scratch_length, const uint32_t *word, size_t word_length);
+uint32_t shaftglimmer_extract(const shaftglimmer_shape *shape, const uint32_t *word, size_t word_length,
+                              uint32_t *data, size_t data_length, uint32_t *scratch, size_t scratch_length);
 
 /*
  * Four readers of a damaged word. Each answers the number of digits changed; word then holds the stored word.
@@ -351,7 +353,7 @@ uint32_t shaftglimmer_fresh(const shaftglimmer_shape *shape, shaftglimmer_sessio
  * SHAFTGLIMMER_OUTCOME_REFUSED, number of the refusal, 0: word and session are as they were.
  */
 uint32_t shaftglimmer_arrive(shaftglimmer_session *session, uint32_t way, uint32_t *word, size_t word_length,
-                             uint32_t *scratch, size_t scratch_length, uint32_t outcome[SHAFTGLIMMER_OUTCOME]);
+                             uint32_t outcome[SHAFTGLIMMER_OUTCOME], uint32_t *scratch, size_t scratch_length);
 
 /*
  * Several words arrive, first word first, all by one way: 1 to 64, one behind the other. The list outcomes has 192
@@ -363,8 +365,8 @@ uint32_t shaftglimmer_arrive(shaftglimmer_session *session, uint32_t way, uint32
  * as it was, and the others go on. The outcomes past the last word are zero, and so is the scratch.
  */
 uint32_t shaftglimmer_arrive_all(shaftglimmer_session *session, uint32_t way, uint32_t *words, size_t words_length,
-                                 uint32_t *scratch, size_t scratch_length, uint32_t *outcomes,
-                                 size_t outcomes_length);
+                                 uint32_t *outcomes, size_t outcomes_length, uint32_t *scratch,
+                                 size_t scratch_length);
 
 /*
  * Tells how often a function was called.

@@ -12,7 +12,7 @@ from typing import Any, Iterator, List, Tuple, Type
 from ._lend import Lent, test_apart, u32
 from ._refusal import Refusal
 
-SONAME = "libshaftglimmer.so.1"
+SONAME = "libshaftglimmer.so.2"
 
 # What has one length only, and crosses without it.
 ShapeMemory = ctypes.c_uint32 * 10
@@ -147,8 +147,8 @@ word_length = Function("word_length", _shape)
 data_length = Function("data_length", _shape)
 scratch_length = Function("scratch_length", _shape)
 
-encode = Function("encode", _shape, _read("data"), _scratch, _written("word"))
-extract = Function("extract", _shape, _written("data"), _scratch, _read("word"))
+encode = Function("encode", _shape, _read("data"), _written("word"), _scratch)
+extract = Function("extract", _shape, _read("word"), _written("data"), _scratch)
 decode = Function("decode", _shape, _written("word"))
 decode_majority = Function("decode_majority", _shape, _written("word"))
 decode_two = Function("decode_two", _shape, _written("word"))
@@ -163,8 +163,8 @@ marks = Function("marks", _shape, _read("data"), _written("marks"))
 write_page = Function("write_page", _shape, Number("number"), _read("marks"), _written("data"))
 
 fresh = Function("fresh", _shape, _session)
-arrive = Function("arrive", _session, Number("way"), _written("word"), _scratch, Fixed("outcome", OutcomeMemory))
-arrive_all = Function("arrive_all", _session, Number("way"), _written("words"), _scratch, _written("outcomes"))
+arrive = Function("arrive", _session, Number("way"), _written("word"), Fixed("outcome", OutcomeMemory), _scratch)
+arrive_all = Function("arrive_all", _session, Number("way"), _written("words"), _written("outcomes"), _scratch)
 count = Function("count", _session, Number("function"), answer=ctypes.c_uint64, refused=1 << 32)
 bill = Function("bill", _session, _read("prices"), answer=ctypes.c_uint64, refused=1 << 63)
 cover = Function("cover", _session, _written("bytes", element=1))

@@ -141,7 +141,7 @@ class Session:
         it came. A refused word is an outcome, and raises nothing.
         """
         outcome = _library.OutcomeMemory()
-        _library.arrive(self, _number(way), word, self._scratch, outcome)
+        _library.arrive(self, _number(way), word, outcome, self._scratch)
         return _outcome(outcome)
 
     def arrive_all(self, words: Buffer, way: Union[Way, int] = Way.CLEAN) -> List[Outcome]:
@@ -155,7 +155,7 @@ class Session:
         ['taken 1 0', 'again 1 1']
         """
         outcomes = zeros(3 * BUNDLE)
-        _library.arrive_all(self, _number(way), words, self._scratch, outcomes)
+        _library.arrive_all(self, _number(way), words, outcomes, self._scratch)
         count = memoryview(words).nbytes // (4 * self._shape.word_length)
         return [_outcome(outcomes[3 * word : 3 * word + 3]) for word in range(count)]
 

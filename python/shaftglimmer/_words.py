@@ -20,7 +20,7 @@ def encode(shape: Shape, data: Union[Buffer, Sequence[int]]) -> array[int]:
     array('I', [7, 5, 2, 6, 3, 5, 1, 6, 7])
     """
     scratch, word = space(shape), zeros(shape.word_length)
-    _library.encode(shape, numbers("data", data), scratch, word)
+    _library.encode(shape, numbers("data", data), word, scratch)
     return word
 
 
@@ -31,7 +31,7 @@ def extract(shape: Shape, word: Union[Buffer, Sequence[int]]) -> array[int]:
     array('I', [3, 5, 6, 7])
     """
     scratch, data = space(shape), zeros(shape.data_length)
-    _library.extract(shape, data, scratch, numbers("word", word))
+    _library.extract(shape, numbers("word", word), data, scratch)
     return data
 
 

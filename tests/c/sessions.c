@@ -54,7 +54,7 @@ static void arrive(const char *name, shaftglimmer_session *session, uint32_t way
 {
     uint32_t expected[SHAFTGLIMMER_OUTCOME] = {kind, number, changed};
     uint32_t *lent = lend(word, count), *scratch = lend_all(9, SCRATCH), *outcome = lend_all(77, SHAFTGLIMMER_OUTCOME);
-    uint32_t answer = shaftglimmer_arrive(session, way, lent, count, scratch, SCRATCH, outcome);
+    uint32_t answer = shaftglimmer_arrive(session, way, lent, count, outcome, scratch, SCRATCH);
     int kept = holds(lent, left, count) & holds_all(scratch, scratch_left, SCRATCH) &
                holds(outcome, expected, SHAFTGLIMMER_OUTCOME);
     expect(name, answer == 0 && kept);
@@ -114,7 +114,7 @@ static void bundle(const char *name, shaftglimmer_session *session, uint32_t way
 {
     shaftglimmer_session before = *session;
     uint32_t *lent = lend_all(1, count), *scratch = lend_all(9, SCRATCH), *outcomes = lend_all(77, room);
-    uint32_t answer = shaftglimmer_arrive_all(session, way, lent, count, scratch, SCRATCH, outcomes, room);
+    uint32_t answer = shaftglimmer_arrive_all(session, way, lent, count, outcomes, room, scratch, SCRATCH);
     int kept = holds_all(lent, 1, count) & holds_all(scratch, 9, SCRATCH) & holds_all(outcomes, 77, room);
     expect(name, answer == refused(number) && kept && same(session, &before));
 }
@@ -129,8 +129,8 @@ static void bundles(void)
     memcpy(left, words, sizeof left);
     memcpy(left + 2 * N, page_1, sizeof page_1);
     uint32_t *lent = lend(words, 3 * N), *scratch = lend_unset(SCRATCH), *outcomes = lend_all(77, SHAFTGLIMMER_OUTCOMES);
-    uint32_t answer = shaftglimmer_arrive_all(&session, SHAFTGLIMMER_WAY_CLEAN, lent, 3 * N, scratch, SCRATCH, outcomes,
-                                              SHAFTGLIMMER_OUTCOMES);
+    uint32_t answer = shaftglimmer_arrive_all(&session, SHAFTGLIMMER_WAY_CLEAN, lent, 3 * N, outcomes, SHAFTGLIMMER_OUTCOMES,
+                                              scratch, SCRATCH);
     int kept = holds(lent, left, 3 * N) & holds_all(scratch, 0, SCRATCH) & holds(outcomes, expected, SHAFTGLIMMER_OUTCOMES);
     expect("a bundle of three words", answer == 0 && kept && same(&session, &taken));
     bundle("bundle: no word", &session, 0, 0, 192, SHAFTGLIMMER_REFUSAL_LENGTH);

@@ -17,7 +17,7 @@ static void write_word(const char *name, shaftglimmer_shape shape, const uint32_
                        const uint32_t *word)
 {
     uint32_t *lent = lend(data, length), *scratch = lend_unset(room), *written = lend_unset(N);
-    uint32_t answer = shaftglimmer_encode(&shape, lent, length, scratch, room, written, N);
+    uint32_t answer = shaftglimmer_encode(&shape, lent, length, written, N, scratch, room);
     int left = holds(lent, data, length) & holds_all(scratch, 0, room) & holds(written, word, N);
     expect(name, answer == 0 && left);
 }
@@ -27,7 +27,7 @@ static void write_refused(const char *name, shaftglimmer_shape shape, const uint
                           uint32_t number, uint32_t scratch_left)
 {
     uint32_t *lent = lend(data, length), *scratch = lend_all(9, room), *written = lend(p5, N);
-    uint32_t answer = shaftglimmer_encode(&shape, lent, length, scratch, room, written, N);
+    uint32_t answer = shaftglimmer_encode(&shape, lent, length, written, N, scratch, room);
     int left = holds(lent, data, length) & holds_all(scratch, scratch_left, room) & holds(written, p5, N);
     expect(name, answer == refused(number) && left);
 }
@@ -53,7 +53,7 @@ static void extract(const char *name, shaftglimmer_shape shape, const uint32_t *
                     const uint32_t *data, uint32_t scratch_left)
 {
     uint32_t *lent = lend(word, count), *scratch = lend_all(9, SCRATCH_2), *out = lend_all(77, 4);
-    uint32_t answer = shaftglimmer_extract(&shape, out, 4, scratch, SCRATCH_2, lent, count);
+    uint32_t answer = shaftglimmer_extract(&shape, lent, count, out, 4, scratch, SCRATCH_2);
     int left = holds(lent, word, count) & holds_all(scratch, scratch_left, SCRATCH_2);
     left &= data == NULL ? holds_all(out, 77, 4) : holds(out, data, 4);
     expect(name, answer == expected && left);

@@ -64,7 +64,7 @@ static void make(enum kind kind) {
     for (size_t i = 0; i < words; i++) {
         uint32_t *word = stored + i * size, *symbols = data + i * room, answer;
         for (size_t k = 0; k < room; k++) symbols[k] = random_number() & mask();
-        if (after_shaftglimmer_encode(shape, symbols, room, scratch, rows, whole, size) != 0) exit(1);
+        if (after_shaftglimmer_encode(shape, symbols, room, whole, size, scratch, rows) != 0) exit(1);
         do {
             memcpy(word, whole, size * sizeof *word);
             if (kind == DAMAGED) damage(word, 1 + i % (n - 1), 0);
@@ -89,7 +89,7 @@ static double turn(const struct build *build, enum kind kind) {
         if (kind != WRITE) memcpy(lent, stored, words * size * sizeof *lent);
         double start = now();
         for (size_t i = 0; i < words; i++)
-            answers += kind == WRITE ? build->encode(shape, data + i * room, room, scratch, rows, lent + i * size, size)
+            answers += kind == WRITE ? build->encode(shape, data + i * room, room, lent + i * size, size, scratch, rows)
                                      : build->decode(shape, lent + i * size, size);
         double took = now() - start;
         spent += took;
