@@ -5,8 +5,8 @@
  *
  *     dead_cells < text
  *
- * The text has decimal numbers: q, n and b; then for each word how many of its cells are gone, their places, which
- * count from 0 and rise, and the digits of the word.
+ * The text has q, n and b in a line, then two lines for each word. The first says how many of its cells are gone, and
+ * their places, which count from 0 and rise. The second has the digits of the word. Empty lines are passed over.
  */
 #include "input.h"
 
@@ -31,7 +31,7 @@ static int fill(const shaftglimmer_shape *shape, size_t i, const uint32_t *place
 
 int main(void)
 {
-    static uint32_t places[SHAFTGLIMMER_WORD_MOST], word[SHAFTGLIMMER_WORD_MOST];
+    static uint32_t list[SHAFTGLIMMER_LINE_VALUES], word[SHAFTGLIMMER_LINE_VALUES];
     shaftglimmer_shape shape;
     if (!read_text_shape(stdin, &shape)) {
         return complain("standard input", "has no shape");
@@ -40,16 +40,16 @@ int main(void)
     if (digits == 0) {
         return refused("standard input", SHAFTGLIMMER_REFUSAL_SHAPE);
     }
+    uint32_t count;
     int status = 0;
-    for (size_t i = 1; !at_end(stdin); i++) {
-        uint32_t count;
-        if (!read_number(stdin, &count) || count > digits) {
-            return complain("standard input", "has no number of cells where one is due");
+    for (size_t i = 1; (count = read_line(stdin, list)) != 0; i++) {
+        if (shaftglimmer_refusal_of(count) != 0 || list[0] != count - 1) {
+            return complain("standard input", "has no list of cells where one is due");
         }
-        if (!read_numbers(stdin, places, count) || !read_numbers(stdin, word, digits)) {
+        if (read_line(stdin, word) != digits) {
             return complain("standard input", "has a word that is not whole");
         }
-        status |= fill(&shape, i, places, count, word, digits);
+        status |= fill(&shape, i, list + 1, list[0], word, digits);
     }
     return status;
 }

@@ -7,8 +7,6 @@
  */
 #include "input.h"
 
-#include <string.h>
-
 /* What became of the words of a bundle. A refused one is named, and the others are counted all the same. */
 static int tell(const uint32_t *outcomes, size_t words, size_t before)
 {

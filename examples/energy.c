@@ -3,13 +3,12 @@
  *
  *     energy SESSION PRICES
  *
- * SESSION is a session as live.c saves it. PRICES is a text with two decimal numbers a line: a function, and what
- * one call of it costs, in thousandths of a picojoule. A function without a line costs nothing.
+ * SESSION is a session as live.c saves it. PRICES is a text with two values a line: a function, and what one call of
+ * it costs, in thousandths of a picojoule. A function without a line costs nothing.
  */
 #include "input.h"
 
 #include <errno.h>
-#include <string.h>
 
 static int load(const char *name, shaftglimmer_session *session)
 {
@@ -24,20 +23,16 @@ static int load(const char *name, shaftglimmer_session *session)
 
 static int read_prices(const char *name, uint32_t *prices)
 {
-    uint32_t pair[2];
-    int whole = 1;
+    uint32_t values[SHAFTGLIMMER_LINE_VALUES], count;
     FILE *file = fopen(name, "r");
     if (file == NULL) {
         return complain(name, strerror(errno));
     }
-    while (whole && !at_end(file)) {
-        whole = read_numbers(file, pair, 2) && pair[0] < SHAFTGLIMMER_FUNCTIONS;
-        if (whole) {
-            prices[pair[0]] = pair[1];
-        }
+    while ((count = read_line(file, values)) == 2 && values[0] < SHAFTGLIMMER_FUNCTIONS) {
+        prices[values[0]] = values[1];
     }
     fclose(file);
-    return whole ? 0 : complain(name, "has something other than a function and its price");
+    return count == 0 ? 0 : complain(name, "has something other than a function and its price");
 }
 
 /* Sixteen functions a row. */

@@ -6,6 +6,9 @@
 
 #include <inttypes.h>
 #include <stdio.h>
+#include <string.h>
+
+enum { LINE = 16384 };
 
 /* One line on standard error, behind all that was printed before. Gives the exit status. */
 static inline int complain(const char *about, const char *what)
@@ -45,48 +48,38 @@ static inline int read_shape(FILE *file, shaftglimmer_shape *shape)
     return read_values(file, &shape->q, 1) + read_values(file, &shape->n, 1) + read_values(file, &shape->b, 1) == 12;
 }
 
-/* Whether a text has come to its end, spaces and newlines apart. */
-static inline int at_end(FILE *file)
+/*
+ * The values of the next line of a text that is not empty: how many there are, 0 at the end of the text. A line that is
+ * malformed, too long or without its newline is a refusal.
+ */
+static inline uint32_t read_line(FILE *file, uint32_t values[SHAFTGLIMMER_LINE_VALUES])
 {
-    int c = getc(file);
-    while (c == ' ' || c == '\n') {
-        c = getc(file);
+    static char line[LINE + 1];
+    do {
+        if (fgets(line, sizeof line, file) == NULL) {
+            return 0;
+        }
+    } while (line[0] == '\n');
+    size_t length = strcspn(line, "\n");
+    if (line[length] != '\n') {
+        return SHAFTGLIMMER_REFUSED + SHAFTGLIMMER_REFUSAL_TEXT;
     }
-    return ungetc(c, file) == EOF;
+    return shaftglimmer_parse_line((const uint8_t *)line, length, values);
 }
 
-/* One decimal number of a text. 0 where no u32 number comes next. */
-static inline int read_number(FILE *file, uint32_t *number)
-{
-    uint64_t value = 0;
-    int digits = 0, c;
-    if (at_end(file)) {
-        return 0;
-    }
-    for (c = getc(file); c >= '0' && c <= '9' && value <= UINT32_MAX; c = getc(file)) {
-        value = 10 * value + (uint64_t)(c - '0');
-        digits++;
-    }
-    *number = (uint32_t)value;
-    return digits > 0 && value <= UINT32_MAX && (c == ' ' || c == '\n' || c == EOF);
-}
-
-/* So many of them. 0 where one is missing. */
-static inline int read_numbers(FILE *file, uint32_t *numbers, size_t count)
-{
-    size_t done = 0;
-    while (done < count && read_number(file, &numbers[done])) {
-        done++;
-    }
-    return done == count;
-}
-
-/* A shape with the standard slopes, whose q, n and b stand at the beginning of a text. 0 if there is none. */
+/* A shape with the standard slopes, whose q, n and b are the first line of a text. 0 if there is none. */
 static inline int read_text_shape(FILE *file, shaftglimmer_shape *shape)
 {
+    uint32_t values[SHAFTGLIMMER_LINE_VALUES];
     const shaftglimmer_shape standard = {0, 0, 0, SHAFTGLIMMER_STANDARD};
     *shape = standard;
-    return read_number(file, &shape->q) && read_number(file, &shape->n) && read_number(file, &shape->b);
+    if (read_line(file, values) != 3) {
+        return 0;
+    }
+    shape->q = values[0];
+    shape->n = values[1];
+    shape->b = values[2];
+    return 1;
 }
 
 /* Numbers to the end of the line. */

@@ -8,7 +8,6 @@
 #include "input.h"
 
 #include <errno.h>
-#include <string.h>
 
 /* The session in the file. It comes from elsewhere, so it is tested: a count query makes all the tests. */
 static int resume(FILE *file, const char *name, const shaftglimmer_shape *shape, shaftglimmer_session *session)

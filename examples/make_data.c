@@ -6,7 +6,6 @@
 #include "input.h"
 
 #include <errno.h>
-#include <string.h>
 
 enum { DIGITS = 25, HEAD = 3 };
 

@@ -5,13 +5,12 @@
  *
  *     plugin < text
  *
- * The text has decimal numbers: q, n and b, then pairs of words, first as received, then as proposed.
+ * The text has q, n and b in a line, then pairs of words, a line each, first as received, then as proposed. Empty lines
+ * are passed over.
  */
 #include "input.h"
 
-#include <string.h>
-
-static uint32_t received[SHAFTGLIMMER_WORD_MOST], proposed[SHAFTGLIMMER_WORD_MOST];
+static uint32_t received[SHAFTGLIMMER_LINE_VALUES], proposed[SHAFTGLIMMER_LINE_VALUES];
 static uint32_t data[SHAFTGLIMMER_DATA_MOST], marks[SHAFTGLIMMER_DATA_MOST], scratch[SHAFTGLIMMER_SCRATCH_MOST];
 
 /* Leaves the stored word in `received`. */
@@ -60,9 +59,10 @@ int main(void)
     if (digits == 0) {
         return refused("standard input", SHAFTGLIMMER_REFUSAL_SHAPE);
     }
+    uint32_t count;
     int status = 0;
-    for (size_t i = 1; !at_end(stdin); i++) {
-        if (!read_numbers(stdin, received, digits) || !read_numbers(stdin, proposed, digits)) {
+    for (size_t i = 1; (count = read_line(stdin, received)) != 0; i++) {
+        if (count != digits || read_line(stdin, proposed) != digits) {
             return complain("standard input", "has a word or a proposal that is not whole");
         }
         status |= restore(&shape, digits, i) || show(&shape, digits, i);

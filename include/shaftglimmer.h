@@ -27,8 +27,9 @@
  * - shaftglimmer_marks answers 0 where the page is refused, as for a page without marks: test the answer of
  *   shaftglimmer_parse_page first.
  *
- * Memory. A list is lent as a pointer and its length in elements. Shape, session and outcome always have the same
- * length, so theirs is not handed over. What is read comes first, then what is written, the scratch last.
+ * Memory. A list is lent as a pointer and its length in elements. Shape, session, outcome and the values of a line
+ * always have the same length, so theirs is not handed over. What is read comes first, then what is written, the
+ * scratch last.
  *
  * This is the caller's part, and no function can test it:
  * - a pointer is not null, not even where the length is 0, and it is valid for the length that goes with it. The
@@ -37,9 +38,9 @@
  * - it is aligned for its type, at 4 bytes for u32;
  * - no two things that are lent in one call overlap. So the shape for shaftglimmer_fresh is not the one inside the
  *   session that is made.
- * A refusal leaves all that was lent as it was, the scratch apart. A scratch is working space. What it holds does
- * not matter, and it need not be set. Refusals 1, 18, 11, 16 and 2 leave it as it was. After every other answer it
- * holds zeros.
+ * A refusal leaves all that was lent as it was, the scratch and the values of a line apart. A scratch is working
+ * space. What it holds does not matter, and it need not be set. Refusals 1, 18, 11, 16 and 2 leave it as it was. After
+ * every other answer it holds zeros.
  *
  * Threads. The library has no state. A call touches what it is lent and nothing else, and keeps no pointer.
  * So any threads may call at once, each with memory of its own; what is only read may be shared.
@@ -56,7 +57,12 @@
 extern "C" {
 #endif
 
+/* The header's version, as a text and as a number: major * 10000 + minor * 100 + patch. */
 #define SHAFTGLIMMER_VERSION "0.1.0"
+#define SHAFTGLIMMER_VERSION_NUMBER 100
+
+/* The library's version, as such a number. */
+uint32_t shaftglimmer_version(void);
 
 /* A cast, as C and C++ write it. */
 #ifdef __cplusplus
@@ -73,6 +79,8 @@ extern "C" {
 #define SHAFTGLIMMER_BUNDLE 64      /* words of a bundle at most */
 #define SHAFTGLIMMER_OUTCOME 3      /* values of an outcome */
 #define SHAFTGLIMMER_OUTCOMES (SHAFTGLIMMER_OUTCOME * SHAFTGLIMMER_BUNDLE)
+#define SHAFTGLIMMER_LINE_VALUES 1024 /* values of a line of text at most */
+#define SHAFTGLIMMER_TEXT_LENGTH 96   /* bytes for a refusal's text */
 
 /*
  * The order q is 3, 5, 7, 11, 13, 17, 19, 23, 29 or 31. There are n directions, from 2 to the smaller of q and 8.
@@ -144,7 +152,7 @@ enum shaftglimmer_refusal {
     SHAFTGLIMMER_REFUSAL_FUNCTION = 7,     /* a mark, or the function that is asked for, is above 255 */
     SHAFTGLIMMER_REFUSAL_TAIL = 8,         /* a digit after the last mark is not zero */
     SHAFTGLIMMER_REFUSAL_WORN = 9,         /* a count would pass 2^32 - 1; never in a session that began fresh */
-    SHAFTGLIMMER_REFUSAL_TEXT = 10,        /* a malformed line; only the program tally gives it */
+    SHAFTGLIMMER_REFUSAL_TEXT = 10,        /* a malformed line of text */
     SHAFTGLIMMER_REFUSAL_FIGURES = 11,     /* a session's two figures are not what its page numbers say */
     SHAFTGLIMMER_REFUSAL_PLACES = 12,      /* the places are not strictly rising, or one is not below q * q */
     SHAFTGLIMMER_REFUSAL_UNFILLABLE = 13,  /* no stored word has the digits at the other places */
@@ -180,7 +188,7 @@ static inline uint32_t shaftglimmer_refusal_of_bill(uint64_t answer)
     return answer >= SHAFTGLIMMER_BILL_REFUSED ? SHAFTGLIMMER_AS(uint32_t, answer - SHAFTGLIMMER_BILL_REFUSED) : 0;
 }
 
-/* A line for a person about the refusal with this number. */
+/* A line for a person about the refusal with this number. shaftglimmer_text has it for other languages. */
 static inline const char *shaftglimmer_refusal_text(uint32_t number)
 {
     switch (number) {
@@ -388,6 +396,25 @@ uint64_t shaftglimmer_bill(const shaftglimmer_session *session, const uint32_t *
  * Tests 1, 18, 11, 2 of bytes. Answers how many have a count above zero; their bytes then are 1, the others 0.
  */
 uint32_t shaftglimmer_cover(const shaftglimmer_session *session, uint8_t *bytes, size_t bytes_length);
+
+/* ---- Lines of text, and texts ---- */
+
+/*
+ * Reads the values of a line of a capture, which is lent without its newline: decimal values up to 2^32 - 1 without
+ * leading zeros, and one space between two of them. That a line of a capture has at most 16,383 bytes beside its
+ * newline is not tested here.
+ *
+ * Tests 10. Answers the number of values, at least 1 and at most 1024; they then stand at the front of values. Of more
+ * than 1024 these are the first. What stands behind them, and what stands there after a refusal, may be anything.
+ */
+uint32_t shaftglimmer_parse_line(const uint8_t *line, size_t line_length, uint32_t values[SHAFTGLIMMER_LINE_VALUES]);
+
+/*
+ * Gives the text of the refusal with this number, as shaftglimmer_refusal_text does. There are 96 bytes.
+ * Tests 2 of text. Answers the text's length; text then holds it, and zeros behind it. A number that is no refusal has
+ * no text: the answer is 0, and all bytes are zero.
+ */
+uint32_t shaftglimmer_text(uint32_t refusal, uint8_t *text, size_t text_length);
 
 /* ---- Digits as bytes: four a digit, low byte first; the slopes are 0, 1, 2, .. ; length is in bytes ---- */
 

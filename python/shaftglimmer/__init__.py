@@ -26,6 +26,7 @@ What to use for what:
     check a word that somebody else restored    check
     read a page, get its marks, write one       parse_page, marks, write_page
     count pages that come as words              Session
+    read a capture, or a line of one            read_capture, parse_line
 
 Memory. A list is anything with the buffer protocol that lies in one piece:
 array("I"), a numpy array of uint32, or bytes, four a symbol, low byte first.
@@ -48,6 +49,7 @@ The library is found where SHAFTGLIMMER_LIB says, a file or a folder; without
 it beside the package, or by the loader.
 """
 
+from ._capture import Capture, parse_line, read_capture
 from ._page import Page, marks, parse_page, write_page
 from ._refusal import Refusal
 from ._session import Outcome, Session, Way
@@ -68,6 +70,7 @@ from ._words import (
 __version__ = "0.1.0"
 
 __all__ = [
+    "Capture",
     "Outcome",
     "Page",
     "Refusal",
@@ -84,7 +87,9 @@ __all__ = [
     "fill",
     "looked",
     "marks",
+    "parse_line",
     "parse_page",
+    "read_capture",
     "restore",
     "write_page",
 ]

@@ -18,6 +18,7 @@ SONAME = "libshaftglimmer.so.2"
 ShapeMemory = ctypes.c_uint32 * 10
 SessionMemory = ctypes.c_uint32 * 1292
 OutcomeMemory = ctypes.c_uint32 * 3
+LineMemory = ctypes.c_uint32 * 1024
 
 
 def _places() -> Iterator[str]:
@@ -131,8 +132,8 @@ class Function:
         return answer
 
 
-def _read(name: str) -> Slice:
-    return Slice(name)
+def _read(name: str, element: int = 4) -> Slice:
+    return Slice(name, element=element)
 
 
 def _written(name: str, element: int = 4) -> Slice:
@@ -142,6 +143,10 @@ def _written(name: str, element: int = 4) -> Slice:
 _shape = Fixed("shape", ShapeMemory)
 _session = Fixed("session", SessionMemory)
 _scratch = _written("scratch")
+
+version = Function("version")
+text = Function("text", Number("refusal"), _written("text", element=1))
+parse_line = Function("parse_line", _read("line", element=1), Fixed("values", LineMemory))
 
 word_length = Function("word_length", _shape)
 data_length = Function("data_length", _shape)

@@ -2,6 +2,7 @@
 
 import array
 import ctypes
+import io
 import subprocess
 import sys
 import unittest
@@ -104,6 +105,17 @@ class Lists(Untouched):
             self.raises(TypeError, sg.write_page, shape, 1, [])
             self.raises(TypeError, sg.Session, shape)
             self.raises(TypeError, sg.Session.fresh, shape)
+
+
+class Lines(Untouched):
+    def test_types(self) -> None:
+        for line in None, 5, "1 2 3", [49, 32, 50], values([1, 2, 3]), memoryview(b"1 2 3 4 ")[::2]:
+            self.raises((TypeError, BufferError), sg.parse_line, line)
+
+    def test_files(self) -> None:
+        for file in None, 5, b"q n b", io.StringIO("q n b\n3 2 8\nword\n"):
+            self.raises(TypeError, sg.read_capture, file)
+        self.raises(OSError, sg.read_capture, "/nowhere")
 
 
 class Numbers(Untouched):

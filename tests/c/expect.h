@@ -31,6 +31,7 @@ uint32_t refused(uint32_t number);
 shaftglimmer_shape standard(uint32_t q, uint32_t n, uint32_t b);
 
 /* The groups. */
+void lines(void);
 void words(void);
 void cells(void);
 void pages(void);

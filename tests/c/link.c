@@ -1,11 +1,11 @@
 /*
  * Links the library from C or C++ and calls every function on the rules' values. From the repository's root:
  *
- * cc -std=c99 -Wall -Wextra -pedantic -Iinclude tests/c/link.c tests/c/words.c tests/c/pages.c tests/c/sessions.c \
- *     target/libshaftglimmer.a -o target/link
+ * cc -std=c99 -Wall -Wextra -pedantic -Iinclude tests/c/link.c tests/c/lines.c tests/c/words.c tests/c/pages.c \
+ *     tests/c/sessions.c target/libshaftglimmer.a -o target/link
  * target/link
  *
- * This file has the functions over bytes, the lengths and the texts.
+ * This file has the functions over bytes, the lengths, the texts and the version.
  */
 #include "expect.h"
 
@@ -207,8 +207,48 @@ static void texts(void)
                                            shaftglimmer_refusal_of_bill(SHAFTGLIMMER_BILL_REFUSED - 1) == 0);
 }
 
+/* The text of each number in 96 bytes, and zeros behind it; none where the number is no refusal. */
+static void library_texts(void)
+{
+    const uint32_t none[] = {0, 21, 0x7fffffffu, 0xffffffffu};
+    char text[SHAFTGLIMMER_TEXT_LENGTH + 1];
+    uint8_t *lent = SHAFTGLIMMER_AS(uint8_t *, malloc(SHAFTGLIMMER_TEXT_LENGTH));
+    for (uint32_t number = 1; number <= 20; number++) {
+        memset(text, 0, sizeof text);
+        strcpy(text, shaftglimmer_refusal_text(number));
+        memset(lent, 77, SHAFTGLIMMER_TEXT_LENGTH);
+        expect("a refusal's text", shaftglimmer_text(number, lent, SHAFTGLIMMER_TEXT_LENGTH) == strlen(text) &&
+                                       memcmp(lent, text, SHAFTGLIMMER_TEXT_LENGTH) == 0);
+    }
+    memset(text, 0, sizeof text);
+    for (size_t i = 0; i < 4; i++) {
+        memset(lent, 77, SHAFTGLIMMER_TEXT_LENGTH);
+        expect("no text", shaftglimmer_text(none[i], lent, SHAFTGLIMMER_TEXT_LENGTH) == 0 &&
+                              memcmp(lent, text, SHAFTGLIMMER_TEXT_LENGTH) == 0);
+    }
+    memset(lent, 77, SHAFTGLIMMER_TEXT_LENGTH);
+    memset(text, 77, sizeof text);
+    for (size_t length = 0; length < SHAFTGLIMMER_TEXT_LENGTH; length++) {
+        expect("texts: length", shaftglimmer_text(4, lent, length) == refused(SHAFTGLIMMER_REFUSAL_LENGTH));
+    }
+    expect("bytes of a wrong length stay", memcmp(lent, text, SHAFTGLIMMER_TEXT_LENGTH) == 0);
+    free(lent);
+}
+
+/* The header and the library are of one version, and its text and its number are the same. */
+static void version(void)
+{
+    const uint32_t number = SHAFTGLIMMER_VERSION_NUMBER;
+    char text[40];
+    snprintf(text, sizeof text, "%u.%u.%u", number / 10000, number / 100 % 100, number % 100);
+    expect("the version", shaftglimmer_version() == number && strcmp(text, SHAFTGLIMMER_VERSION) == 0);
+}
+
 int main(void)
 {
+    version();
+    library_texts();
+    lines();
     byte_words();
     byte_pages();
     byte_lengths();
