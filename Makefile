@@ -86,13 +86,16 @@ install-built:
 	for file in $$(cd rust && find Cargo.toml build.rs README.md src examples -type f); do \
 		install -D -m 644 rust/$$file "$(place)/share/shaftglimmer/rust/$$file" || exit 1; \
 	done
+	for file in $$(cd python && find pyproject.toml shaftglimmer -type f ! -path '*/__pycache__/*'); do \
+		install -D -m 644 python/$$file "$(place)/share/shaftglimmer/python/$$file" || exit 1; \
+	done
 
 uninstall:
 	rm -f "$(place)/bin/tally" "$(place)/bin/shaftglimmer" "$(place)/include/shaftglimmer.h"
 	rm -f "$(place)/lib/libshaftglimmer.a" "$(place)/lib/$(soname)" "$(place)/lib/libshaftglimmer.so"
 	rm -f "$(place)/share/man/man1/tally.1" "$(place)/share/man/man1/shaftglimmer.1" "$(place)/share/man/man3/shaftglimmer.3"
 	rm -f "$(place)/lib/pkgconfig/shaftglimmer.pc"
-	rm -rf "$(place)/share/shaftglimmer/rust"
+	rm -rf "$(place)/share/shaftglimmer/rust" "$(place)/share/shaftglimmer/python"
 
 clean:
 	rm -rf target tests/target rust/target rust/command/target
