@@ -400,12 +400,11 @@ uint32_t shaftglimmer_cover(const shaftglimmer_session *session, uint8_t *bytes,
 /* ---- Lines of text, and texts ---- */
 
 /*
- * Reads the values of a line of a capture, which is lent without its newline: decimal values up to 2^32 - 1 without
- * leading zeros, and one space between two of them. That a line of a capture has at most 16,383 bytes beside its
- * newline is not tested here.
+ * Reads the values of a line of a capture, which is lent without its newline: at most 16,383 bytes, decimal values up
+ * to 2^32 - 1 without leading zeros, and one space between two of them.
  *
- * Tests 10. Answers the number of values, at least 1 and at most 1024; they then stand at the front of values. Of more
- * than 1024 these are the first. What stands behind them, and what stands there after a refusal, may be anything.
+ * Tests 10. Answers the number of values; they then stand at the front of values, and what stands behind them is as it
+ * was. Of more than 1024 the first 1024 stand there.
  */
 uint32_t shaftglimmer_parse_line(const uint8_t *line, size_t line_length, uint32_t values[SHAFTGLIMMER_LINE_VALUES]);
 

@@ -25,7 +25,7 @@ pub fn parse_line(line: &[u8]) -> Result<Vec<u32>, Refusal> {
     parse_line_with(line, &mut [0; LINE_MOST]).map(|values| values.to_vec())
 }
 
-/// [`parse_line`](crate::parse_line) in lent memory: the values are its first part. What follows them may be anything.
+/// [`parse_line`](crate::parse_line) in lent memory: the values are its first part. What follows them is as lent.
 pub fn parse_line_with<'a>(line: &[u8], values: &'a mut [u32; LINE_MOST]) -> Result<&'a mut [u32], Refusal> {
     let count = answered(sys::parse_line(line, values))? as usize;
     Ok(values.get_mut(..count.min(LINE_MOST)).unwrap_or_default())

@@ -8,8 +8,12 @@ static void parse(const char *name, const char *text, size_t length, uint32_t ex
     uint32_t *lent = lend_all(77, SHAFTGLIMMER_LINE_VALUES);
     memcpy(line, text, length);
     uint32_t answer = shaftglimmer_parse_line(line, length, lent);
-    int left = memcmp(line, text, length) == 0;
-    left = left && (shaftglimmer_refusal_of(answer) != 0 || memcmp(lent, values, 4 * answer) == 0);
+    size_t count = shaftglimmer_refusal_of(answer) != 0 ? 0 : answer;
+    size_t stored = count < SHAFTGLIMMER_LINE_VALUES ? count : SHAFTGLIMMER_LINE_VALUES;
+    int left = memcmp(line, text, length) == 0 && (stored == 0 || memcmp(lent, values, 4 * stored) == 0);
+    for (size_t i = stored; i < SHAFTGLIMMER_LINE_VALUES; i++) {
+        left = left && lent[i] == 77;
+    }
     expect(name, answer == expected && left);
     free(line);
     free(lent);
@@ -20,7 +24,7 @@ static void malformed(const char *text)
     parse(text, text, strlen(text), refused(SHAFTGLIMMER_REFUSAL_TEXT), NULL);
 }
 
-/* So many values, all 7; of more than 1024 these many come. */
+/* So many values, all 7; of more than 1024 the first 1024 come. */
 static void many(size_t count)
 {
     size_t length = 2 * count - 1;
@@ -29,8 +33,8 @@ static void many(size_t count)
     for (size_t i = 0; i < length; i++) {
         text[i] = i % 2 == 0 ? '7' : ' ';
     }
-    size_t expected = count < SHAFTGLIMMER_LINE_VALUES ? count : SHAFTGLIMMER_LINE_VALUES;
-    parse("many values", text, length, SHAFTGLIMMER_AS(uint32_t, expected), values);
+    uint32_t expected = length > 16383 ? refused(SHAFTGLIMMER_REFUSAL_TEXT) : SHAFTGLIMMER_AS(uint32_t, count);
+    parse("many values", text, length, expected, values);
     free(text);
     free(values);
 }
@@ -53,4 +57,6 @@ void lines(void)
     many(1024);
     many(1025);
     many(3000);
+    many(8192);
+    many(8193);
 }
