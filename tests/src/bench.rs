@@ -71,7 +71,7 @@ all; reading by vote at most 1.20 of the tuned vote; reading two wrong symbols a
 the nearest codeword at most 1.15 of it for undamaged words, 1.50 for random ones and 8.00 for stripes on
 (17, 4, 32), checking a proposal at most 1.00 of it; restoring words with n dead cells and nothing else wrong at
 most 1.30 of filling them in; a bundle of 64 words at most 0.90 of 64 single arrivals, and on (17, 4, 32) at
-most 2.50 of reading them.";
+most 3.00 of reading them.";
 
 /// Prints a table; gives the rows that miss their target.
 type Table = fn() -> Vec<String>;

@@ -13,7 +13,7 @@ use std::time::Duration;
 
 /// How much of the single arrivals' time is allowed, and of the time of reading, for each shape.
 const TARGETS: [(Shape, [f64; 2]); 2] =
-    [(Shape::new(17, 4, 32), [0.9, 2.5]), (Shape::new(3, 2, 8), [0.9, f64::INFINITY])];
+    [(Shape::new(17, 4, 32), [0.9, 3.0]), (Shape::new(3, 2, 8), [0.7, f64::INFINITY])];
 
 /// Prints the table; gives the rows that miss their target.
 pub fn table() -> Vec<String> {
