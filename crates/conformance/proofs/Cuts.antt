@@ -1,29 +1,17 @@
 -- The paper's cut of a text into lines: there is one, and no other.
-use mathlib.Core.Path.{_≡_, refl, sym, subst}
-use mathlib.Core.Bool.{true, false}
+use mathlib.Core.Path.{_≡_, refl, sym, ap, subst}
+use mathlib.Core.Bool.{true, false, not}
 use mathlib.Core.List.{List, [], _∷_, _++_, append-assoc, append-nil, head-eq-of-cons-eq, tail-eq-of-cons-eq}
 use mathlib.Core.Logic.{⊎-elim}
 use Prim.Native.Nat.{ℕ, zero, suc, _<_, suc-le-suc}
 use native.Mathlib.Nat.{not-suc-le-zero, zero-lt-suc, le-of-suc-le-suc}
 use lib.Dec.{eqb}
 use lib.ListN.{length}
-use borrow.Author.Tests.{eqb-true, eqb-false}
-use Rattle.parity.proofs.Tests.{either}
+use borrow.Author.Tests.{eqb-true}
+use Rattle.parity.proofs.Tests.{either, and-both}
 use Rattle.paper.specs.Program as paper
-
--- a text with no newline in it, byte by byte
-abbrev Plain : List ℕ → Type 0
-Plain [] = Unit {0}
-Plain (b ∷ text) = (b ≡ 10 → ⊥) × Plain text
-
-plain-append : (a b : List ℕ) → Plain a → Plain b → Plain (a ++ b)
-plain-append [] b h k = k
-plain-append (x ∷ a) b h k = (h .0, plain-append a b (h .1) k)
-
-plain-unbroken : (l : List ℕ) → Plain l → paper.Unbroken l
-plain-unbroken [] h i l e = not-suc-le-zero l
-plain-unbroken (b ∷ t) h zero l e = h .0 e
-plain-unbroken (b ∷ t) h (suc i) l e = plain-unbroken t (h .1) i (le-of-suc-le-suc l) e
+use Rattle.capture.specs.Print.{Unbroken}
+use Rattle.capture.proofs.Print.{unbroken-append, unbroken-none}
 
 -- no line has a newline in it
 pub record Each (lines : List (List ℕ)) : Type 0 where
@@ -48,33 +36,33 @@ pub record Cut (bytes : List ℕ) : Type 0 where
   pub unended : paper.Unbroken rest
 
 -- `held` stands before the bytes that are left
-cut-after : (held bytes : List ℕ) → Plain held → Cut (held ++ bytes)
+cut-after : (held bytes : List ℕ) → Unbroken held → Cut (held ++ bytes)
 cut-after held [] h = record {
   lines = [];
   rest = held;
   read = append-nil held;
   each = record { line = λ i l. absurd (not-suc-le-zero l) };
-  unended = plain-unbroken held h;
+  unended = unbroken-none held h;
 }
 cut-after held (b ∷ bytes) h =
     ⊎-elim
     (λ (t : eqb b 10 ≡ true).
-    let c = cut-after [] bytes tt in
+    let c = cut-after [] bytes refl in
     let newline : b ≡ 10 = eqb-true b 10 t in
     record {
       lines = held ∷ c .lines;
       rest = c .rest;
       read = λ i. held ++ newline i ∷ c .read i;
-      each = record { line = each-cons held (c .lines) (plain-unbroken held h) (c .each) };
+      each = record { line = each-cons held (c .lines) (unbroken-none held h) (c .each) };
       unended = c .unended;
     })
     (λ (f : eqb b 10 ≡ false).
     subst Cut (append-assoc held (b ∷ []) bytes)
-    (cut-after (held ++ (b ∷ [])) bytes (plain-append held (b ∷ []) h (eqb-false b 10 f, tt))))
+    (cut-after (held ++ (b ∷ [])) bytes (unbroken-append held (b ∷ []) h (and-both (ap not f) refl))))
     (either (eqb b 10))
 
 pub cut : (bytes : List ℕ) → Cut bytes
-cut bytes = cut-after [] bytes tt
+cut bytes = cut-after [] bytes refl
 
 -- ---- no other
 unbroken-tail : (b : ℕ) (text : List ℕ) → paper.Unbroken (b ∷ text) → paper.Unbroken text
