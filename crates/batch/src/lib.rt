@@ -1,4 +1,6 @@
 // A bundle of words: the arrivals of a whole run in one call.
+#![tactic(auto)]
+
 ghost use Rattle.std.specs.Prelude.{◌≡◌, length};
 ghost use Rattle.gtb.specs.Shape.{Lawful, word_length, info_length};
 ghost use Rattle.session.specs.Arrival.{way_of};
@@ -19,14 +21,14 @@ pub const WORDS: usize = 64;
 pub const OUTCOMES: usize = 192;
 
 // The session after the run beside the answer to the whole call.
-#[derive(Drop)]
+#[derive(Clone, Copy)]
 pub struct Delivered {
     pub session: Session,
     pub status: Status,
 }
 
 // What is left to do for a word: nothing, where it is answered; or a page that is new, by page number, number of marks and symbols changed.
-#[derive(Drop)]
+#[derive(Clone, Copy)]
 enum Seen {
     Known,
     New(u32, u32, u32),

@@ -1,4 +1,6 @@
 // The tally program without its input and output: a capture comes in blocks of bytes, and text goes out.
+#![tactic(auto)]
+
 mod counting;
 mod glance;
 mod head;
@@ -18,7 +20,7 @@ use gtb::{Refusal, Shape};
 use session::{Outcome, Session};
 
 // What should stand in one of the first three lines. `Shape` where line 2 has three values.
-#[derive(Drop)]
+#[derive(Clone, Copy)]
 pub enum Expected {
     ShapeNames,
     ShapeValues,
@@ -27,7 +29,7 @@ pub enum Expected {
 }
 
 // One of the first three lines is at fault. `marked`: it begins with a byte order mark. `returned`: it ends with a carriage return.
-#[derive(Drop)]
+#[derive(Clone, Copy)]
 pub struct Fault {
     pub expected: Expected,
     pub marked: bool,
@@ -35,7 +37,7 @@ pub struct Fault {
 }
 
 // Which line is next: the first three, a word line, or none any more after a fault.
-#[derive(Drop)]
+#[derive(Clone, Copy)]
 pub enum Phase {
     ShapeNames,
     ShapeValues,
@@ -44,28 +46,28 @@ pub enum Phase {
     Ended(Fault),
 }
 
-#[derive(Drop)]
+#[derive(Clone, Copy)]
 pub struct Tally {
     pub phase: Phase,
     pub session: Session,
 }
 
 // What a line is answered with: nothing, the outcome of a word line, or the refusal of one of the first three.
-#[derive(Drop)]
+#[derive(Clone, Copy)]
 pub enum Answer {
     Nothing,
     Word(Outcome),
     Head(Refusal),
 }
 
-#[derive(Drop)]
+#[derive(Clone, Copy)]
 pub struct Judged {
     pub tally: Tally,
     pub answer: Answer,
 }
 
 // What a look at a line tells: the outcome, where that leaves the tally as it is; a page that is new, by page number, number of marks and symbols changed; or that it is no word line.
-#[derive(Drop)]
+#[derive(Clone, Copy)]
 enum Seen {
     Known(Outcome),
     New(u32, u32, u32),
@@ -73,7 +75,7 @@ enum Seen {
 }
 
 // Answers to words by kind. A number that is full stays so.
-#[derive(Drop)]
+#[derive(Clone, Copy)]
 pub struct Counts {
     pub taken: u32,
     pub again: u32,
@@ -81,7 +83,7 @@ pub struct Counts {
 }
 
 // The tally, the length of the line so far, the length of the output that waits, and the answers so far. A line too long counts as 16,384.
-#[derive(Drop)]
+#[derive(Clone, Copy)]
 pub struct Reader {
     pub tally: Tally,
     pub held: usize,

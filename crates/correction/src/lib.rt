@@ -1,5 +1,7 @@
 // What the ways of reading share: tests and answer, the checks on a position and what they show, corrections tried on the syndromes and
 // written to the word.
+#![tactic(auto)]
+
 pub mod cancel;
 pub mod checks;
 pub mod guesses;
@@ -16,7 +18,7 @@ ghost use Rattle.correction.specs.Steps.{tests_of, Within, Mends};
 use gtb::{Refusal, Shape, Status};
 
 // The answer of reading: the number of symbols changed, or a refusal.
-#[derive(Drop)]
+#[derive(Clone, Copy)]
 pub enum Decoded {
     Corrected(u32),
     Refused(Refusal),

@@ -1,4 +1,6 @@
 // The coverage viewer: which functions were called at all.
+#![tactic(auto)]
+
 pub mod number;
 
 ghost use Rattle.std.specs.Prelude.{◌≡◌, ltb, length};
@@ -12,7 +14,7 @@ use gtb::{Refusal, Status};
 use session::Session;
 
 // The answer of the viewer: how many functions were called.
-#[derive(Drop)]
+#[derive(Clone, Copy)]
 pub enum Covered {
     Functions(u32),
     Refused(Refusal),

@@ -1,4 +1,6 @@
 // Reading a damaged word, the clean way.
+#![tactic(auto)]
+
 mod correct;
 mod error;
 mod locate;

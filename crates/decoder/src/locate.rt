@@ -10,7 +10,7 @@ use correction::row::{check_in_row, shifts_by};
 use gtb::Shape;
 
 // What is known of a position once it is judged: whether it is located, and how many of its checks were looked at.
-#[derive(Drop)]
+#[derive(Clone, Copy)]
 pub struct Judgement {
     pub located: bool,
     pub looked: u32,

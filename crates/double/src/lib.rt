@@ -1,4 +1,6 @@
 // Reading a word with at most two wrong symbols, whether they cancel on a check or not.
+#![tactic(auto)]
+
 mod attempt;
 pub mod lines;
 mod restore;
@@ -12,7 +14,7 @@ use correction::{Decoded, test};
 use gtb::{Shape, Status};
 
 // Two corrections, x at position a and y at position b, and whether they silence every check.
-#[derive(Drop)]
+#[derive(Clone, Copy)]
 struct Pair {
     works: bool,
     a: usize,

@@ -1,5 +1,7 @@
 // Gaussian elimination over bits, with a value on the right of each row, to which XOR applies as to the bits.
 // Row i is the values i * width up to (i + 1) * width of the scratch; column k is bit k % 32 of its value k / 32.
+#![tactic(auto)]
+
 ghost use Rattle.std.specs.Prelude.{◌≡◌, false, not, ◌&&◌, ℕ, ◌+◌, ◌*◌, ◌%◌, ◌<◌, ◌≤◌, ◌⊎◌, eqb, length};
 ghost use Rattle.parity.specs.Xor.{when};
 ghost use Rattle.parity.specs.Lists.{at};
@@ -8,7 +10,7 @@ ghost use Rattle.elimination.specs.Outcome.{Room, Eliminated};
 ghost use Rattle.elimination.specs.Steps.{lifted, cleared, Reduced, First, Row, RunAdded, RowsCombined, Progress, TakenOff, Substituted};
 
 // How many solutions there are.
-#[derive(Drop)]
+#[derive(Clone, Copy)]
 pub enum Outcome {
     Solved, // one
     Unsolvable, // none

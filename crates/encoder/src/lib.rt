@@ -1,4 +1,6 @@
 // Writing and data extraction.
+#![tactic(auto)]
+
 mod checks;
 mod interpolation;
 mod runs;

@@ -1,4 +1,6 @@
 // The energy of a run: calls times price, in whole picojoules.
+#![tactic(auto)]
+
 pub mod number;
 
 ghost use Rattle.std.specs.Prelude.{◌≡◌, ◌*◌, length, get_or};
@@ -10,7 +12,7 @@ use gtb::{Refusal, Status};
 use session::Session;
 
 // The answer of a bill.
-#[derive(Drop)]
+#[derive(Clone, Copy)]
 pub enum Billed {
     Picojoules(u64),
     Refused(Refusal),

@@ -1,6 +1,6 @@
 -- 13 stays possible however few the places are: a codeword with one symbol changed that is not listed.
 use mathlib.Core.Path.{◌≡◌, refl, sym, ap, ap₂, ◌∙◌}
-use mathlib.Core.Bool.{Bool, true, false, not, ◌&&◌, ◌||◌, and_true}
+use mathlib.Core.Bool.{Bool, true, false, not, ◌&&◌, ◌||◌, and-true}
 use mathlib.Core.List.{List}
 use mathlib.Core.Logic.{inl, inr, ⊎_elim}
 use Prim.Native.Nat.{ℕ, ◌+◌, ◌%◌, ◌^◌, ◌<◌}
@@ -104,7 +104,7 @@ count_and_one n l p k lk free =
     ∙ sum_add n (λ i. bit (l i && p i)) (λ i. bit (l i && eqb i k))
     ∙ ap (λ (x : ℕ). sum n (λ i. bit (l i && p i)) + x)
     (sum_only n k (λ i. bit (l i && eqb i k)) lk (λ i _ ne. bit_false (and_no_right (l i) (ne_eqb i k ne)))
-    ∙ ap bit (ap (λ (b : Bool). l k && b) (eq-eqb k k refl) ∙ and_true (l k)))
+    ∙ ap bit (ap (λ (b : Bool). l k && b) (eq-eqb k k refl) ∙ and-true (l k)))
 
 -- a part of a set is smaller if it has an even number on a line where the set has an odd one
 part_smaller : (n : ℕ) (l a b : ℕ → Bool) → ((i : ℕ) → i < n → a i ≡ true → b i ≡ true) → count n (λ i. l i && a i) % 2 ≡ 0

@@ -1,4 +1,6 @@
 // Filling in the symbols at places that are named as gone.
+#![tactic(auto)]
+
 pub mod list;
 mod system;
 

@@ -1,4 +1,6 @@
 // A capture taken in by value, from a fresh session to the bill: what a program in Rattle does with the library. Words of shape (5, 3, 8) arrive, each read the way that it names.
+#![tactic(auto)]
+
 ghost use Rattle.std.specs.Prelude.{◌≡◌};
 ghost use Rattle.session.specs.Arrival.{the_ways, presented, session_after};
 

@@ -9,7 +9,6 @@ use lib.ListN.{get_or}
 use borrow.Author.Tests.{eqb-true, not-false}
 use Rattle.parity.specs.Count.{all}
 use Rattle.parity.proofs.Tests.{either, clash, and_both, all_elim, all_intro}
-use Rattle.gtb.specs.declared.Shape.{Shape}
 use Rattle.gtb.specs.declared.Refusal.{Refusal}
 use Rattle.gtb.specs.Shape.{standard_slopes, standard, regular, sloped, lawful, shape_refusal, slope_of}
 use Rattle.gtb.specs.Square.{line_of}

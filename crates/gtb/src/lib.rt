@@ -1,4 +1,6 @@
 // The code of the trace square: its shape, and the answers that every entry gives.
+#![tactic(auto)]
+
 pub mod lent;
 pub mod number;
 pub mod size;
@@ -11,7 +13,7 @@ ghost use Rattle.gtb.specs.Positions.{extract_of};
 
 // (q, n, b): order, directions and width in bits; then the slopes of the directions from 1 on, of which the first n - 1 count.
 // A caller's shape may hold any numbers.
-#[derive(Drop)]
+#[derive(Clone, Copy)]
 pub struct Shape {
     pub q: u32,
     pub n: u32,
@@ -20,7 +22,7 @@ pub struct Shape {
 }
 
 // What is turned down; specs/Answer.antt has the numbers. Three have another word in the trade.
-#[derive(Drop)]
+#[derive(Clone, Copy)]
 pub enum Refusal {
     Shape,
     Length,
@@ -45,7 +47,7 @@ pub enum Refusal {
 }
 
 // The answer of an entry that carries no value.
-#[derive(Drop)]
+#[derive(Clone, Copy)]
 pub enum Status {
     Done,
     Refused(Refusal),

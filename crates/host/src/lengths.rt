@@ -6,7 +6,7 @@ ghost use Rattle.paper.specs.Boundary.{shape_in, LengthOf};
 use crate::crossing::load_shape;
 use gtb::size::{info_length, scratch_length, word_length};
 
-#[derive(Drop)]
+#[derive(Clone, Copy)]
 struct Sizes {
     word: u32,
     info: u32,

@@ -1,18 +1,20 @@
 // The house text form (RULES 7): one line of input to numbers, one answer to bytes.
+#![tactic(auto)]
+
 ghost use Rattle.std.specs.Prelude.{◌≡◌, [], ◌∷◌, ◌+◌, ◌≤◌, length, set};
 ghost use Rattle.lines.specs.Text.{decimal, same_bytes, names_shape, names_word, names_outcome, names_calls, outcome_name, outcome_text, count_text, Put};
 ghost use Rattle.lines.specs.Parse.{Parsing, FirstNewline};
 ghost use Rattle.lines.specs.Scan.{Scanning};
 
 // What a line holds: so many values, or no values in the house form.
-#[derive(Drop)]
+#[derive(Clone, Copy)]
 pub enum Parsed {
     Values(usize),
     Malformed,
 }
 
 // One value and the place after it, or none.
-#[derive(Drop)]
+#[derive(Clone, Copy)]
 enum Number {
     Value(u32, usize),
     Missing,

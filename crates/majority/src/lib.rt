@@ -1,4 +1,6 @@
 // Reading a damaged word by vote.
+#![tactic(auto)]
+
 mod correct;
 mod locate;
 mod vote;

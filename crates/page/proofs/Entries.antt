@@ -1,6 +1,6 @@
 -- Tests over the entries of a list: below 2^b, function numbers, zeros.
 use mathlib.Core.Path.{◌≡◌, refl, sym, ap, ◌∙◌}
-use mathlib.Core.Bool.{Bool, true, ◌&&◌, and_true, and_assoc}
+use mathlib.Core.Bool.{Bool, true, ◌&&◌, and-true, and_assoc}
 use mathlib.Core.List.{List, [], ◌∷◌, ◌++◌}
 use Prim.Native.Nat.{ℕ, zero, suc, ◌+◌, ◌<◌, ◌^◌}
 use native.Mathlib.Omega.{arith}
@@ -29,7 +29,7 @@ narrow_zeros xs = all_cong (length xs) _ _ (λ i l. below_one (get_or xs i 0))
 -- the first number apart
 all_cons : (n : ℕ) (p : ℕ → Bool) → all (suc n) p ≡ (p 0 && all n (λ i. p (suc i)))
 unfolding all
-all_cons zero p = sym (and_true (p 0))
+all_cons zero p = sym (and-true (p 0))
 all_cons (suc n) p = ap (λ (x : Bool). x && p (suc n)) (all_cons n p) ∙ and_assoc (p 0) (all n (λ i. p (suc i))) (p (suc n))
 
 narrow_cons : (b x : ℕ) (xs : List ℕ) → narrow b (x ∷ xs) ≡ (ltb x (2 ^ b) && narrow b xs)

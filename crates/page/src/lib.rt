@@ -1,4 +1,6 @@
 // The page in the information symbols of a word: page number, number of marks, marks, zeros.
+#![tactic(auto)]
+
 pub mod number;
 
 ghost use Rattle.std.specs.Prelude.{true, List, ◌∷◌, ◌≡◌, ℕ, ◌≤◌, length};
@@ -13,7 +15,7 @@ use gtb::size::info_length;
 use gtb::{Refusal, Shape, Status};
 
 // The answer of the page reader: page number and number of marks, or a refusal.
-#[derive(Drop)]
+#[derive(Clone, Copy)]
 pub enum PageRead {
     Page(u32, u32),
     Refused(Refusal),

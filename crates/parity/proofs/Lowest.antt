@@ -47,7 +47,7 @@ exists (suc n) p =
       suc k,
       record {
         upto = suc-le-suc l.upto;
-        below = λ i. elim i [ zero ↦ λ li. t | suc i' ↦ λ li. l.below i' (le_of_suc-le-suc li) ];
+        below = λ i. elim i as (λ j. j < suc k → p j ≡ true) [ zero ↦ λ li. t | suc i' ↦ λ li. l.below i' (le_of_suc-le-suc li) ];
         fails = λ lk. l.fails (le_of_suc-le-suc lk);
       },
     ))

@@ -4,7 +4,7 @@ ghost use Rattle.program.specs.Choice.{choice_of, meaning_of};
 ghost use Rattle.program.specs.Shown.{usage_text, version_text};
 
 // What to do: read standard input, or the file that is named, or say how the program is used, or its version. The last two are faults.
-#[derive(Drop)]
+#[derive(Clone, Copy)]
 pub enum Choice {
     Standard,
     File,

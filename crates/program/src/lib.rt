@@ -1,4 +1,6 @@
 // What the program does next, step by step, from what came of the step before, and what it tells a person (RULES 7.5). `main` makes the system calls and reports.
+#![tactic(auto)]
+
 mod argument;
 mod said;
 mod shown;
@@ -14,14 +16,14 @@ pub use said::{complaint, ending, too_many, unknown};
 pub use shown::progress;
 
 // A short text: the first `size` bytes.
-#[derive(Drop)]
+#[derive(Clone, Copy)]
 pub struct Text {
     pub bytes: [u8; 400],
     pub size: usize,
 }
 
 // Read a block; hand over the block; write the output that waits; look at the clock; draw the progress line; hand over the reader at the end of the input; say what there is to say; name what failed, with the system's reason; stop.
-#[derive(Drop)]
+#[derive(Clone, Copy)]
 pub enum Action {
     Read,
     Take,
@@ -36,7 +38,7 @@ pub enum Action {
 }
 
 // `more`: there may be more to read. The limit leaves `left` bytes. The block has `count` bytes that are not taken.
-#[derive(Drop)]
+#[derive(Clone, Copy)]
 pub struct Input {
     pub more: bool,
     pub left: usize,
@@ -44,7 +46,7 @@ pub struct Input {
 }
 
 // `error`: standard error is a terminal. `progress`: and standard output is none. `drawn`: a progress line stands there. `second` is that in which it was drawn, or the program began.
-#[derive(Drop)]
+#[derive(Clone, Copy)]
 pub struct Watch {
     pub error: bool,
     pub progress: bool,
@@ -53,7 +55,7 @@ pub struct Watch {
 }
 
 // What is next, the input, the size of the output that waits, and what a person is shown.
-#[derive(Drop)]
+#[derive(Clone, Copy)]
 pub struct State {
     pub action: Action,
     pub input: Input,
@@ -61,7 +63,7 @@ pub struct State {
     pub watch: Watch,
 }
 
-#[derive(Drop)]
+#[derive(Clone, Copy)]
 pub struct Taken {
     pub reader: Reader,
     pub state: State,

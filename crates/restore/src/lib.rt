@@ -1,4 +1,6 @@
 // Dead cells and damage together, up to half the distance between codewords.
+#![tactic(auto)]
+
 mod list;
 mod marks;
 mod search;

@@ -1,6 +1,6 @@
 -- The two figures: counted and searched for, tested, and kept by an arrival.
 use mathlib.Core.Path.{◌≡◌, refl, sym, ap, ap₂, ◌∙◌}
-use mathlib.Core.Bool.{Bool, true, false, not, ◌&&◌, and_true}
+use mathlib.Core.Bool.{Bool, true, false, not, ◌&&◌, and-true}
 use mathlib.Core.List.{List}
 use mathlib.Core.Logic.{⊎_elim}
 use Prim.Native.Nat.{ℕ, ◌+◌, ◌-◌, ◌<◌, ◌≤◌}
@@ -148,7 +148,7 @@ module _ (taken : List Bool) (number : ℕ) (size : length taken ≡ 1024) (l : 
           (λ (e : eqb p number ≡ true).
           and_no_right (marked (set taken number true) p) (not_of_true e) ∙ sym new ∙ ap (marked taken) (sym (eqb-true p number e)))
           (λ (n : eqb p number ≡ false).
-          ap₂ (λ (a b : Bool). a && b) (page_other p (eqb-false p number n)) (not_of_false n) ∙ and_true (marked taken p))
+          ap₂ (λ (a b : Bool). a && b) (page_other p (eqb-false p number n)) (not_of_false n) ∙ and-true (marked taken p))
           (either (eqb p number))
 
 -- ---- what taking a page asks of a session whose figures are right

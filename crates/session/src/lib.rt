@@ -1,4 +1,6 @@
 // The session: which pages have come, and how often each function was called.
+#![tactic(auto)]
+
 mod figures;
 pub mod number;
 pub mod open;
@@ -19,7 +21,7 @@ use gtb::size::info_length;
 use gtb::{Refusal, Shape, Status};
 
 // A session handed in from elsewhere may hold anything, a bad shape too.
-#[derive(Drop)]
+#[derive(Clone, Copy)]
 pub struct Session {
     pub shape: Shape,
     pub taken: [bool; Session::PAGES],
@@ -31,7 +33,7 @@ pub struct Session {
 }
 
 // The answer of an arrival: page number and symbols changed, or a refusal.
-#[derive(Drop)]
+#[derive(Clone, Copy)]
 pub enum Outcome {
     Taken(u32, u32),
     Again(u32, u32),
@@ -39,28 +41,28 @@ pub enum Outcome {
 }
 
 // An arrival's answer beside the session after it.
-#[derive(Drop)]
+#[derive(Clone, Copy)]
 pub struct Arrived {
     pub session: Session,
     pub outcome: Outcome,
 }
 
 // The answer of an arrival's first step: page number, number of marks and symbols changed, the word restored; or a refusal, and whether the word was read, so that it stands restored too.
-#[derive(Drop)]
+#[derive(Clone, Copy)]
 pub enum Opening {
     Page(u32, u32, u32),
     Refused(Refusal, bool),
 }
 
 // A fresh session beside the answer. An enum holds no array, so one stands beside a refusal too; it is of no use there.
-#[derive(Drop)]
+#[derive(Clone, Copy)]
 pub struct Fresh {
     pub session: Session,
     pub status: Status,
 }
 
 // The answer of a count query.
-#[derive(Drop)]
+#[derive(Clone, Copy)]
 pub enum Counted {
     Calls(u32),
     Refused(Refusal),

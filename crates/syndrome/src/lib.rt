@@ -1,4 +1,6 @@
 // The syndromes of a word.
+#![tactic(auto)]
+
 mod doubled;
 pub mod flat;
 mod literal;

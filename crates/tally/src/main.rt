@@ -1,4 +1,6 @@
 // The tally of a capture, a file or standard input, to standard output. What to do is decided in `program`; this makes the system calls and reports what came of them.
+#![tactic(auto)]
+
 ghost use Rattle.std.specs.Prelude.{◌≡◌, ◌≤◌, ◌<◌, length};
 ghost use Rattle.program.specs.declared.Action.TheVariants as action;
 ghost use Rattle.program.specs.Moves.{toward_of};

@@ -1,4 +1,6 @@
 // Checking a proposal: a word that somebody else restored, against the word that was received. Both are only read.
+#![tactic(auto)]
+
 mod compare;
 mod locate;
 pub mod number;
@@ -12,7 +14,7 @@ use gtb::size::word_length;
 use gtb::{Refusal, Shape, Status};
 
 // The answer to a proposal.
-#[derive(Drop)]
+#[derive(Clone, Copy)]
 pub enum Verdict {
     Yes,
     No,

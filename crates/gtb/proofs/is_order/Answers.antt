@@ -4,15 +4,14 @@ use borrow.Author.Tests.{eq-eqb, ne_eqb}
 use mathlib.Core.Path.{◌≡◌, ◌∙◌, sym, ap, ap₂}
 use mathlib.Core.Bool.{Bool, true, false, ◌||◌}
 use mathlib.Core.List.{List}
-use Prim.Native.Nat.{ℕ, ◌+◌, ◌-◌, ◌≤◌, ◌<◌}
+use Prim.Native.Nat.{ℕ, ◌+◌, ◌≤◌, ◌<◌}
 use native.Mathlib.Omega.{arith}
 use lib.Dec.{eqb}
 use lib.ListN.{get_or}
 use Rattle.parity.specs.Count.{any}
 use Rattle.parity.proofs.Tests.{any_intro, any_more}
 use Rattle.gtb.specs.Shape.{orders, is_order}
-use Rattle.gtb.proofs.is_order.Statement.{statement}
-use Rattle.gtb.proofs.is_order.Tie as tie
+use Rattle.gtb.proofs.is_order.Goals as goal
 
 -- the test that `is_order` makes at a place of the table
 abbrev test : ℕ → ℕ → Bool
@@ -36,24 +35,15 @@ end : (q k : ℕ) → k ≤ 10 → 10 ≤ k → any k (test q) ≡ false → fal
 unfolding is_order
 end q k l g n = sym n ∙ ap (λ (m : ℕ). any m (test q)) (omega arith)
 
-abbrev invariant-loop : tie.invariant-loop
-invariant-loop q table k₀ k = (k ≤ 10) × (table ≡ orders) × (any k (test q) ≡ false)
-
-abbrev decreases-loop : tie.decreases-loop
-decreases-loop q table k₀ k = 10 - k
-
-loop-holds : tie.Need-loop-init invariant-loop decreases-loop
+pub loop-k-init : goal.loop-k-init
 unfolding orders any
-loop-holds c = search rules
+loop-k-init c = search rules
 
-returns : tie.Need-returns invariant-loop decreases-loop
-returns c = hit _ _ _ c.before.before.loop.invariant.1 c.before.loop-test.true c.if1.true
+pub returns-then-table-k : goal.returns-then-table-k
+returns-then-table-k c = hit _ _ _ c.loop-k.invariant.1 c.loop-k-test.true c.if-table-k.true
 
-loop-again : tie.Need-loop-preserved invariant-loop decreases-loop
-loop-again c = (search rules, search rules, miss _ _ _ c.before.before.loop.invariant.1 c.before.before.loop.invariant.2 c.if1.false)
+pub loop-k-preserved : goal.loop-k-preserved
+loop-k-preserved c = (search rules, search rules, miss _ _ _ c.loop-k.invariant.1 c.loop-k.invariant.2 c.if-table-k.false)
 
-returns-2 : tie.Need-returns-2 invariant-loop decreases-loop
-returns-2 c = end _ _ c.before.loop.invariant.0 (omega arith) c.before.loop.invariant.2
-
-pub is-order-spec : {M : Type 1} → statement M
-is-order-spec = tie.close (tie.spec invariant-loop decreases-loop loop-holds (λ c. search rules) (λ c. search rules) returns (λ c. search rules) (λ c. search rules) loop-again returns-2)
+pub returns : goal.returns
+returns c = end _ _ c.loop-k.invariant.0 (omega arith) c.loop-k.invariant.2
