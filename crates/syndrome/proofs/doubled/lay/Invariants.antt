@@ -1,0 +1,10 @@
+-- `syndrome::doubled::lay` meets its contract. The loop's invariant is the contract for the first r rows.
+use Prim.Native.Nat.{◌-◌, ◌≤◌}
+use native.Mathlib.Nat.{le_antisymm}
+use borrow.Author.Rules.{rules}
+use Rattle.syndrome.specs.Sweep.{Doubled}
+use Rattle.syndrome.proofs.Doubles.{doubled_none}
+use Rattle.syndrome.proofs.doubled.lay.Given as goal
+
+abbrev pub invariant-loop-r : goal.invariant-loop-r
+invariant-loop-r l = (l.r ≤ l.q) × Doubled l.q l.r l.word l.twice
