@@ -13,7 +13,7 @@ use Rattle.gtb.specs.Square.{narrow}
 use Rattle.gtb.specs.Answer.{unless}
 use Rattle.gtb.proofs.Answers.{unless_never, Foreign}
 use Rattle.page.specs.declared.PageRead.{PageRead}
-use Rattle.page.specs.declared.PageRead.TheVariants.{Page, Refused}
+use Rattle.page.specs.declared.PageRead.TheVariants.{Refused}
 use Rattle.page.specs.Page.{functions, zeros, most, page_of}
 
 next : (t : Bool) (e e' : Refusal) (r : PageRead) → (t ≡ false → e ≡ e' → ⊥) → (r ≡ Refused e' → ⊥) → unless t (Refused e) r ≡ Refused e' → ⊥
