@@ -10,7 +10,7 @@ use Rattle.parity.specs.Xor.{◌⊕◌, xor_sum}
 use Rattle.parity.specs.Cyclic.{Order, walk}
 use Rattle.parity.proofs.Xors.{lt_pow}
 use Rattle.parity.proofs.XorSums.{cong}
-use Rattle.parity.proofs.Cycles.{wrap, same, shift, both}
+use Rattle.parity.proofs.Cycles.{wrap, both}
 use Rattle.parity.proofs.Modular.{no_step}
 use Rattle.parity.proofs.Walk.{walk_period, quotient, divided}
 use Rattle.parity.proofs.Walk as parity

@@ -1,0 +1,6 @@
+-- The proof of the cycle of calls {interpolate}. The measure is n less k.
+use Prim.Native.Nat.{◌-◌}
+use Rattle.encoder.proofs.interpolation.+interpolate.Given as goal
+
+abbrev pub decreases-interpolate : goal.decreases-interpolate
+decreases-interpolate l = l.shape.n - l.k
