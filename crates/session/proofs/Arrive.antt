@@ -27,7 +27,7 @@ use Rattle.session.specs.declared.Session.{Session}
 use Rattle.session.specs.declared.Outcome.TheVariants.{Taken, Again, Refused}
 use Rattle.session.specs.declared.Arrived.{Arrived}
 use Rattle.session.specs.Session.{consistent, Consistent, session_status, past, overflows}
-use Rattle.session.specs.Arrival.{Ways, is_way, way_of, the_ways, Opened, Page, Bad, open_page, open_word, opened, arrival_status, presented, outcome_of, session_after, outcome_scratch, Answering, Arriving, Stepping}
+use Rattle.session.specs.Arrival.{Ways, is_way, way_of, the_ways, Opened, Bad, open_page, open_word, opened, arrival_status, presented, outcome_of, session_after, outcome_scratch, Answering, Arriving, Stepping}
 use Rattle.session.specs.Steps.{session_tests, arrival_tests, word_tests, Admitted, Openable, opened_by, Deciding}
 use Rattle.session.proofs.Late.{late_zeros, page_zeros}
 use Rattle.session.proofs.Ways.{all_read}

@@ -1,6 +1,6 @@
 -- The session against the plain machine: they hold the same after every arrival, from a fresh session on.
 use mathlib.Core.Path.{◌≡◌, refl, sym, ap, ap₂, ◌∙◌, subst}
-use mathlib.Core.Bool.{Bool, true, false, cond, ◌&&◌, ◌||◌, or_false}
+use mathlib.Core.Bool.{Bool, true, false, cond, ◌&&◌, ◌||◌, or-false}
 use mathlib.Core.List.{List, [], ◌∷◌}
 use mathlib.Core.Logic.{⊎_elim}
 use Prim.Native.Nat.{ℕ, zero, suc, ◌+◌, ◌*◌, ◌^◌, ◌<◌, ◌≤◌}
@@ -94,7 +94,7 @@ taken_after s σ m g number marks l new p lp =
     ⊎_elim
     (λ (t : eqb p number ≡ true). rw (t, eqb-true p number t, new) (page_own σ.taken number g.size l))
     (λ (f : eqb p number ≡ false).
-    rw f (page_other σ.taken number g.size l p (eqb-false p number f) ∙ g.agrees.taken p lp ∙ sym (or_false (m.pages p))))
+    rw f (page_other σ.taken number g.size l p (eqb-false p number f) ∙ g.agrees.taken p lp ∙ sym (or-false (m.pages p))))
     (either (eqb p number))
 
 -- after a page the session holds what the machine then holds
@@ -217,4 +217,4 @@ every_list ways s sound arrivals answers end run = record {
     grown = rw (run_end run) (grown_end ways s sound arrivals (fresh_of s) empty_machine (fresh_grown s))
 
     refused : (j : ℕ) → j < length arrivals → (e : Refusal) → answer_at answers j ≡ Refused e → TurnedDown ways s (arrival_at arrivals j) e
-    refused j l e h = record { by = reply_refused _ _ e (sym (run_reply ways s sound run j l) ∙ h) }
+    refused j l e h = record { by = reply_refused (machine ways s empty_machine (take j arrivals)) (opened_at ways s arrivals j) e (sym (run_reply ways s sound run j l) ∙ h) }

@@ -1,6 +1,6 @@
 -- Laws of the plain machine: what one more arrival adds to it.
 use mathlib.Core.Path.{◌≡◌, refl, sym, ap, ◌∙◌}
-use mathlib.Core.Bool.{Bool, true, false, cond, ◌||◌, or_false}
+use mathlib.Core.Bool.{Bool, true, false, cond, ◌||◌, or-false}
 use mathlib.Core.List.{List, [], ◌∷◌}
 use mathlib.Core.Logic.{⊎_elim}
 use Prim.Native.Nat.{ℕ, zero, suc, ◌+◌, ◌<◌, ◌≤◌}
@@ -22,14 +22,14 @@ use Rattle.session.specs.Claim.{has_number, come, empty_machine, Machine, machin
 fed_pages : (m : Machine) (number : ℕ) (marks : List ℕ) (known : Bool) → m.pages number ≡ known → (p : ℕ)
     → (machine_page m number marks known).pages p ≡ (m.pages p || eqb number p)
 fed_pages m number marks true h p =
-    ⊎_elim (λ (t : eqb number p ≡ true). rw (← eqb-true number p t, h)) (λ (f : eqb number p ≡ false). rw f (sym (or_false (m.pages p))))
+    ⊎_elim (λ (t : eqb number p ≡ true). rw (← eqb-true number p t, h)) (λ (f : eqb number p ≡ false). rw f (sym (or-false (m.pages p))))
     (either (eqb number p))
 fed_pages m number marks false h p = ap (λ (b : Bool). m.pages p || b) (same_eqb p number number p sym sym)
 
 -- and after an arrival
 pub feed_pages : (m : Machine) (o : Opened) (p : ℕ) → (machine_step m o).pages p ≡ (m.pages p || has_number p o)
 feed_pages m (Page number marks k) p = fed_pages m number marks (m.pages number) refl p
-feed_pages m (Bad e) p = sym (or_false (m.pages p))
+feed_pages m (Bad e) p = sym (or-false (m.pages p))
 
 -- a new page adds its marks
 pub fed_counts : (m : Machine) (number : ℕ) (marks : List ℕ) (known : Bool) (f : ℕ)
@@ -75,7 +75,7 @@ pub machine_more : (ways : Ways) (s : Shape) (m : Machine) (arrivals : List Arri
     → machine ways s m (take (suc j) arrivals) ≡ machine_step (machine ways s m (take j arrivals)) (opened_at ways s arrivals j)
 machine_more ways s m [] j l = absurd (not-suc-le-zero l)
 machine_more ways s m (a ∷ rest) zero l = refl
-machine_more ways s m (a ∷ rest) (suc j) l = machine_more ways s _ rest j (le_of_suc-le-suc l)
+machine_more ways s m (a ∷ rest) (suc j) l = machine_more ways s (machine_step m (opened_at ways s (a ∷ rest) 0)) rest j (le_of_suc-le-suc l)
 
 -- the machine after the first j arrivals
 abbrev pub held : Ways → Shape → List Arrival → ℕ → Machine

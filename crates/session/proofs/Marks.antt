@@ -55,7 +55,7 @@ added_none calls len = is_tabulate 256 (λ f. get_or calls f 0 + 0) calls len (�
 module _ (calls : List ℕ) (m : ℕ) (rest : List ℕ) (size : length calls ≡ 256) (small : m < 256) where
   mark_at : (f : ℕ) → Dec (f ≡ m) → get_or (set calls m (get_or calls m 0 + bit (is_call m))) f 0 + count_of f rest ≡ get_or calls f 0 + count_of f (m ∷ rest)
   unfolding count_of bit
-  mark_at f (yes h) = rw (h, get_or-set_same calls m (get_or calls m 0 + bit (is_call m)) 0 (rw size small), eq-eqb m m refl) (omega arith)
+  mark_at f (yes h) = rw (h, get_or-set_same calls m (get_or calls m 0 + bit (is_call m)) 0 (rw size small), eq-eqb m m refl) (omega (arith, ap (λ (x : ℕ). count_of x rest) h))
   mark_at f (no n) = rw (get_or-set_other calls m f (get_or calls m 0 + bit (is_call m)) 0 n, ne_eqb m f (λ e. n (sym e))) (omega arith)
 
   added_one : added (set calls m (get_or calls m 0 + bit (is_call m))) rest ≡ added calls (m ∷ rest)

@@ -55,7 +55,7 @@ one_each s legal way known suits [] accepted = ([], refl, λ i l. absurd (not-su
 one_each s legal way known suits (p ∷ pages) accepted =
     let (a, b) = undamaged s legal (way 0) (known 0) (suits 0) p (accepted 0 (suc-le-suc zero-le)) in
     let (rest, long, brings) = one_each s legal (λ i. way (suc i)) (λ i. known (suc i)) (λ i. suits (suc i)) pages (λ i l. accepted (suc i) (suc-le-suc l)) in
-    (a ∷ rest, ap suc long, λ i. elim i [ zero ↦ λ l. b | suc i' ↦ λ l. brings i' (le_of_suc-le-suc l) ])
+    (a ∷ rest, ap suc long, λ i. elim i as (λ k. k < length (p ∷ pages) → Undamaged s (way k) (sheet_at (p ∷ pages) k) (arrival_at (a ∷ rest) k)) [ zero ↦ λ l. b | suc i' ↦ λ l. brings i' (le_of_suc-le-suc l) ])
 
 pub fitting_list : (s : Shape) (pages : List Sheet) → Recording s pages → (way : ℕ → ℕ) → ((i : ℕ) → is_way (way i) ≡ true) → ((i : ℕ) → (way_of (way i)).suits s ≡ true)
     → (arrivals : List Arrival) × Fits the_ways s pages arrivals × ((i : ℕ) → i < length pages → (arrival_at arrivals i).way ≡ way i)

@@ -1,0 +1,23 @@
+-- `session::status::arrival_status` meets its contract: the tests turn down in their order.
+use mathlib.Core.Path.{◌≡◌, sym, ◌∙◌}
+use mathlib.Core.Bool.{true}
+use Rattle.session.specs.Arrival.{is_way}
+use Rattle.session.proofs.status.arrival_status.Goals as goal
+
+pub returns-then-not-is_way : goal.returns-then-not-is_way
+returns-then-not-is_way c = rw (sym c.is_way.ensures ∙ c.if-not-is_way.true)
+
+pub returns-in-Refused : goal.returns-in-Refused
+returns-in-Refused c =
+    let known : is_way c.args.way ≡ true = sym c.is_way.ensures ∙ c.if-not-is_way.false in
+    rw (known, sym c.session_status.ensures ∙ c.in-Refused.is)
+
+pub returns-then-not-suits : goal.returns-then-not-suits
+returns-then-not-suits c =
+    let known : is_way c.args.way ≡ true = sym c.is_way.ensures ∙ c.if-not-is_way.false in
+    rw (known, sym c.session_status.ensures ∙ c.in_default.is, sym c.suits.ensures ∙ c.if-not-suits.true)
+
+pub returns : goal.returns
+returns c =
+    let known : is_way c.args.way ≡ true = sym c.is_way.ensures ∙ c.if-not-is_way.false in
+    rw (known, sym c.session_status.ensures ∙ c.in_default.is, sym c.suits.ensures ∙ c.if-not-suits.false)
