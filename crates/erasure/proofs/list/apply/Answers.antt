@@ -18,7 +18,7 @@ pub loop-k-init : goal.loop-k-init
 loop-k-init c = (search rules, search rules, record { word = toggled_none _ _ _; changed = sym (count_zero _) })
 
 pub overflow_cast-j : goal.overflow_cast-j
-overflow_cast-j c = omega (arith, c.shared_slice_known-in-loop-k-1.given c.loop-k.k)
+overflow_cast-j c = omega (arith, c.type_inv.places c.loop-k.k)
 
 pub offset_bounds-changes-k : goal.offset_bounds-changes-k
 offset_bounds-changes-k c =

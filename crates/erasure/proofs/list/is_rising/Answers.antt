@@ -14,7 +14,7 @@ pub loop-i-init : goal.loop-i-init
 loop-i-init c = (search rules, search rules, all_zero _, above_none _)
 
 pub overflow_cast-j : goal.overflow_cast-j
-overflow_cast-j c = omega (arith, c.shared_slice_known-1.given c.loop-i.i)
+overflow_cast-j c = omega (arith, c.type_inv.places c.loop-i.i)
 
 pub returns-then-j-next : goal.returns-then-j-next
 unfolding rising

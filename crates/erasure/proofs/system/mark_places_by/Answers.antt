@@ -11,7 +11,7 @@ pub loop-k-init : goal.loop-k-init
 loop-k-init c = let a = c.args in (search rules, search rules, places_none a.shape a.places.now _)
 
 pub overflow_cast-j : goal.overflow_cast-j
-overflow_cast-j c = omega (arith, c.shared_slice_known-in-loop-k-1.given c.loop-k.k)
+overflow_cast-j c = omega (arith, c.type_inv.places c.loop-k.k)
 
 pub mark_place-requires : goal.mark_place-requires
 mark_place-requires c =

@@ -14,7 +14,7 @@ pub loop-i-init : goal.loop-i-init
 loop-i-init c = (search rules, search rules, below_none _)
 
 pub overflow_cast-places : goal.overflow_cast-places
-overflow_cast-places c = omega (arith, c.shared_slice_known-1.given c.loop-i.i)
+overflow_cast-places c = omega (arith, c.type_inv.places c.loop-i.i)
 
 pub returns-then-places-i : goal.returns-then-places-i
 unfolding is_listed

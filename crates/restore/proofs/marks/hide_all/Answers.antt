@@ -11,7 +11,7 @@ pub loop-k-init : goal.loop-k-init
 loop-k-init c = (search rules, search rules, hides_none _ _ _)
 
 pub overflow_cast-j : goal.overflow_cast-j
-overflow_cast-j c = omega (arith, c.shared_slice_known-in-loop-k-1.given c.loop-k.k)
+overflow_cast-j c = omega (arith, c.type_inv.places c.loop-k.k)
 
 pub hide-requires : goal.hide-requires
 hide-requires c = let p = c.requires in
