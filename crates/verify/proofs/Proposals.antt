@@ -3,7 +3,7 @@ use mathlib.Core.Path.{◌≡◌, refl, sym, ap, ap₂, ◌∙◌, subst₂}
 use mathlib.Core.Bool.{Bool, true, false, cond}
 use mathlib.Core.List.{List, [], ◌∷◌}
 use mathlib.Core.Logic.{◌⊎◌, ⊎_elim}
-use Prim.Native.Nat.{ℕ, zero, suc, suc-le-suc, zero-le}
+use Prim.Native.Nat.{◌<◌, ℕ, zero, suc, suc-le-suc, zero-le}
 use native.Mathlib.Nat.{le_of_suc-le-suc}
 use native.Mathlib.Omega.{arith}
 use lib.Dec.{eqb}
@@ -28,7 +28,7 @@ use Rattle.session.specs.declared.Outcome.{Outcome}
 use Rattle.session.specs.declared.Outcome.TheVariants.{Taken, Again, Refused}
 use Rattle.session.specs.Session.{past, overflows}
 use Rattle.session.specs.Arrival.{is_way, way_of, the_ways, Opened, Page, Bad, open_page, opened, arrival_status, presented, outcome_of, session_by, session_after}
-use Rattle.session.specs.Recording.{Arrival}
+use Rattle.session.specs.Recording.{arrival_at, Arrival}
 use Rattle.session.specs.Claim.{Run, answer_at}
 use Rattle.session.proofs.Alikes.{shape_kept}
 use Rattle.session.proofs.Fed.{brought, answers_of, end_of, run_answers, run_end}
@@ -130,7 +130,7 @@ proposed_take (suc m) (a ∷ arrivals) (b ∷ others) p =
     let t = proposed_take m arrivals others (proposed_rest p) in
     record {
       size = ap suc t.size;
-      each = λ j. elim j [ zero ↦ λ l. p.each 0 (suc-le-suc zero-le) | suc i ↦ λ l. t.each i (le_of_suc-le-suc l) ];
+      each = λ j. elim j as (λ k. k < suc (length (take m arrivals)) → (arrival_at (b ∷ take m others) k ≡ arrival_at (a ∷ take m arrivals) k) ⊎ Replaced s (arrival_at (a ∷ take m arrivals) k) (arrival_at (b ∷ take m others) k)) [ zero ↦ λ l. p.each 0 (suc-le-suc zero-le) | suc i ↦ λ l. t.each i (le_of_suc-le-suc l) ];
     }
 
 ends_alike : (s : Shape) (arrivals others : List Arrival) (σ : Session) → σ.shape ≡ s → Proposed s arrivals others
@@ -147,7 +147,7 @@ ends_alike s (a ∷ arrivals) (b ∷ others) σ e p =
       record {
         size = ap suc (ap (λ (τ : Session). length (answers_of the_ways τ others)) same ∙ answers.size);
         each = λ j.
-            elim j [
+            elim j as (λ k. without_number (answer_at (answers_of the_ways σ (b ∷ others)) k) ≡ without_number (answer_at (answers_of the_ways σ (a ∷ arrivals)) k)) [
               | zero ↦ outcome_plain σ (brought the_ways σ b) ∙ ap (λ (o : Opened). without_number (outcome_of σ o)) one ∙ sym (outcome_plain σ (brought the_ways σ a))
               | suc i ↦ ap (λ (τ : Session). without_number (answer_at (answers_of the_ways τ others) i)) same ∙ answers.each i
             ];
