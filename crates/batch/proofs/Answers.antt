@@ -10,7 +10,7 @@ use Rattle.parity.proofs.Tests.{and_left, and_right}
 use Rattle.gtb.specs.declared.Refusal.{Refusal}
 use Rattle.gtb.specs.declared.Status.{Status}
 use Rattle.gtb.specs.declared.Status.TheVariants as status
-use Rattle.gtb.specs.Shape.{lawful, word_length, scratch_length}
+use Rattle.gtb.specs.Shape.{word_length, scratch_length}
 use Rattle.gtb.proofs.Answers.{never_done, never_refused, unless_done}
 use Rattle.session.specs.declared.Session.{Session}
 use Rattle.session.specs.declared.Outcome.{Outcome}
