@@ -126,7 +126,7 @@ proposed_take zero arrivals others p = record { size = refl; each = λ j l. absu
 proposed_take (suc m) [] [] p = p
 proposed_take (suc m) [] (b ∷ others) p = absurd (omega (arith, p.size))
 proposed_take (suc m) (a ∷ arrivals) [] p = absurd (omega (arith, p.size))
-proposed_take (suc m) (a ∷ arrivals) (b ∷ others) p =
+proposed_take {s = s} (suc m) (a ∷ arrivals) (b ∷ others) p =
     let t = proposed_take m arrivals others (proposed_rest p) in
     record {
       size = ap suc t.size;

@@ -1,8 +1,6 @@
 -- `verify::check` meets its contract. Each way out is one of Answers.antt.
 use mathlib.Core.Path.{◌≡◌, sym, ◌∙◌}
 use lib.ListN.{length}
-use borrow.Author.Rules.{rules}
-use borrow.Author.Tests.{not-true, not-false}
 use Rattle.gtb.specs.Shape.{Lawful, word_length}
 use Rattle.gtb.proofs.Words.{status_word}
 use Rattle.verify.proofs.Paper.{checking_asked}

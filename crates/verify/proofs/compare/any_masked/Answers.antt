@@ -1,11 +1,8 @@
 -- `verify::compare::any_masked` meets its contract. The loop's invariant: none of the places passed is on a silent check.
-use mathlib.Core.Path.{◌≡◌, sym, ap₂, ◌∙◌}
-use mathlib.Core.Bool.{Bool, false, ◌||◌}
-use Prim.Native.Nat.{◌-◌, ◌<◌, ◌≤◌}
-use Rattle.parity.specs.Count.{any}
+use mathlib.Core.Path.{sym, ap₂, ◌∙◌}
+use mathlib.Core.Bool.{Bool, ◌||◌}
+use Prim.Native.Nat.{◌<◌}
 use Rattle.parity.proofs.Tests.{any_zero, any_more, any_intro}
-use Rattle.gtb.specs.Square.{at}
-use Rattle.verify.specs.Steps.{is_masked}
 use native.Mathlib.Nat.{le_antisymm}
 use native.Mathlib.Omega.{arith}
 use borrow.Author.Rules.{rules}
@@ -25,7 +22,7 @@ bounds-places-x c =
     inside
 
 pub is_masked-requires : goal.is_masked-requires
-is_masked-requires c =    let p = c.requires in
+is_masked-requires c = let p = c.requires in
     (p.0, p.1, p.2.below c.loop-x.x c.loop-x-test.true)
 
 pub returns-then-is_masked : goal.returns-then-is_masked

@@ -14,11 +14,11 @@ pub returns-then-n-count : goal.returns-then-n-count
 returns-then-n-count c = differ_many _ c.requires.0 _ _ (c.locate-count.ensures.many (omega (arith, c.if-n-count.true)))
 
 pub list_differences-requires : goal.list_differences-requires
-list_differences-requires c =    (
-      omega (arith, c.if-n-count.false, (bounds c.args.shape c.requires.0).n8),
-      search rules,
-      differ_inside c.args.shape c.args.received.now c.args.proposed.now c.requires.1 c.requires.2 (c.locate-count.ensures.few c.if-n-count.false),
-    )
+list_differences-requires c = (
+  omega (arith, c.if-n-count.false, (bounds c.args.shape c.requires.0).n8),
+  search rules,
+  differ_inside c.args.shape c.args.received.now c.args.proposed.now c.requires.1 c.requires.2 (c.locate-count.ensures.few c.if-n-count.false),
+)
 
 pub is_clean_by-requires : goal.is_clean_by-requires
 is_clean_by-requires c =
@@ -27,7 +27,7 @@ is_clean_by-requires c =
     (p.0, tabled _ (sym c.is_shipped.ensures ∙ c.if-is_shipped.true) _ c.check_numbers-table.ensures, p.3.size, inside)
 
 pub returns-then-is_shipped : goal.returns-then-is_shipped
-returns-then-is_shipped c =    let p = c.requires in
+returns-then-is_shipped c = let p = c.requires in
     c.is_clean_by.ensures.1
     ∙ differ_few _ _ _ p.0 (c.locate-count.ensures.few c.if-n-count.false) c.list_differences.ensures p.3 (test_silent _ _ p.4) c.is_clean_by.ensures.0 c.if-n-count.false
 
@@ -38,6 +38,6 @@ is_clean_by-requires-2 c =
     (p.0, untabled _ _ refl, p.3.size, inside)
 
 pub returns : goal.returns
-returns c =    let p = c.requires in
+returns c = let p = c.requires in
     c.is_clean_by-2.ensures.1
     ∙ differ_few _ _ _ p.0 (c.locate-count.ensures.few c.if-n-count.false) c.list_differences.ensures p.3 (test_silent _ _ p.4) c.is_clean_by-2.ensures.0 c.if-n-count.false

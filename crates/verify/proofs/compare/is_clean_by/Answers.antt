@@ -1,7 +1,6 @@
 -- `verify::compare::is_clean_by` meets its contract.
 use mathlib.Core.Path.{ap}
 use mathlib.Core.Bool.{not}
-use borrow.Author.Rules.{rules}
 use Rattle.verify.proofs.compare.is_clean_by.Goals as goal
 
 pub returns : goal.returns

@@ -1,9 +1,8 @@
 -- `verify::compare::is_masked` meets its contract. The loop's invariant: no check passed is silent.
-use mathlib.Core.Path.{◌≡◌, sym, ap, ap₂, ◌∙◌}
-use mathlib.Core.Bool.{Bool, false, ◌||◌}
-use Prim.Native.Nat.{◌-◌, ◌<◌, ◌≤◌}
+use mathlib.Core.Path.{sym, ap, ap₂, ◌∙◌}
+use mathlib.Core.Bool.{Bool, ◌||◌}
+use Prim.Native.Nat.{◌<◌}
 use lib.Dec.{eqb}
-use Rattle.parity.specs.Count.{any}
 use Rattle.parity.proofs.Tests.{any_zero, any_more, any_intro}
 use Rattle.gtb.specs.Square.{at}
 use Rattle.gtb.proofs.Bounds.{bounds}
@@ -31,17 +30,17 @@ bounds-syn-number_by c =
 
 pub returns-then-syn-number_by-eq0 : goal.returns-then-syn-number_by-eq0
 unfolding is_masked
-returns-then-syn-number_by-eq0 c =    let s = c.args in
+returns-then-syn-number_by-eq0 c = let s = c.args in
     sym
     (any_intro _ (λ u. eqb (at s.syn.now (check_of s.shape s.j u)) 0) c.loop-t.t c.loop-t-test.true
     (eq-eqb _ 0 (sym (ap (at s.syn.now) c.number_by.ensures) ∙ c.if-syn-number_by-eq0.true)))
 
 pub loop-t-preserved : goal.loop-t-preserved
-loop-t-preserved c =    let s = c.args in (
-      search rules,
-      any_more _ _
-          ∙ ap₂ (λ (x y : Bool). x || y) c.loop-t.invariant.1 (ne_eqb _ 0 (λ z. c.if-syn-number_by-eq0.false (ap (at s.syn.now) c.number_by.ensures ∙ z))),
-    )
+loop-t-preserved c = let s = c.args in (
+  search rules,
+  any_more _ _
+      ∙ ap₂ (λ (x y : Bool). x || y) c.loop-t.invariant.1 (ne_eqb _ 0 (λ z. c.if-syn-number_by-eq0.false (ap (at s.syn.now) c.number_by.ensures ∙ z))),
+)
 
 pub returns : goal.returns
 unfolding is_masked

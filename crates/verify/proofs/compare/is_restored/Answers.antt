@@ -1,8 +1,6 @@
 -- `verify::compare::is_restored` meets its contract.
 use mathlib.Core.Path.{◌≡◌, sym, ◌∙◌}
 use mathlib.Core.Bool.{true}
-use borrow.Author.Rules.{rules}
-use borrow.Author.Tests.{not-true, not-false}
 use Rattle.gtb.specs.Square.{at, silent_test}
 use Rattle.correction.proofs.Tables.{silent_shown}
 use Rattle.verify.proofs.Answers.{no_codeword, codeword_decides}

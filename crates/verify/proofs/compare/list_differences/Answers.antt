@@ -1,12 +1,10 @@
 -- `verify::compare::list_differences` meets its contract. The loop's invariant is the contract for the first x errors.
 use mathlib.Core.Path.{refl}
-use Prim.Native.Nat.{◌-◌, ◌<◌, ◌≤◌}
+use Prim.Native.Nat.{◌<◌}
 use lib.ListN.{length}
-use Rattle.parity.specs.Lists.{Begins}
 use Rattle.parity.specs.Xor.{◌⊕◌}
 use Rattle.gtb.specs.Square.{at}
 use Rattle.parity.proofs.Writes.{begins_none, begins_more}
-use Rattle.verify.specs.Verify.{difference}
 use native.Mathlib.Nat.{le_antisymm}
 use native.Mathlib.Omega.{arith}
 use borrow.Author.Rules.{rules}

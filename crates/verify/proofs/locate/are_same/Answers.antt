@@ -1,7 +1,7 @@
 -- `verify::locate::are_same` meets its contract. The loop's invariant: `bits` is 0 exactly if the symbols passed are the same.
-use mathlib.Core.Path.{◌≡◌, refl, sym, ap, ◌∙◌}
+use mathlib.Core.Path.{refl, sym, ap, ◌∙◌}
 use mathlib.Core.Bool.{Bool, ◌&&◌}
-use Prim.Native.Nat.{◌+◌, ◌-◌, ◌≤◌}
+use Prim.Native.Nat.{◌+◌}
 use lib.Dec.{eqb}
 use Rattle.parity.specs.Xor.{◌⊕◌}
 use Rattle.parity.specs.Count.{all}
@@ -18,7 +18,7 @@ loop-i-init c = (search rules, refl)
 
 pub loop-i-preserved : goal.loop-i-preserved
 unfolding ◌⊕◌
-loop-i-preserved c =    let a = c.args in
+loop-i-preserved c = let a = c.args in
     let entry = difference a.received.now a.proposed.now (a.from + c.loop-i.i) in
     (search rules, no_bits c.loop-i.bits entry ∙ ap (λ (b : Bool). b && eqb entry 0) c.loop-i.invariant.1 ∙ sym (all_more _ _))
 

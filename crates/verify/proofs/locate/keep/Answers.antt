@@ -1,5 +1,4 @@
 -- `verify::locate::keep` meets its contract.
-use borrow.Author.Rules.{rules}
 use Rattle.correction.proofs.Listing.{listed_keep, listed_skip}
 use Rattle.verify.proofs.Table.{differ_yes, differ_no}
 use Rattle.verify.proofs.locate.keep.Goals as goal

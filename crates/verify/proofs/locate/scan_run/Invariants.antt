@@ -1,13 +1,7 @@
 -- `verify::locate::scan_run` meets its contract. The loop's invariant: the list holds the differing positions up to here, fewer than n.
-use mathlib.Core.Path.{sym, ◌∙◌}
-use Prim.Native.Nat.{◌+◌, ◌-◌, ◌<◌, ◌≤◌}
+use Prim.Native.Nat.{◌+◌, ◌<◌, ◌≤◌}
 use Rattle.correction.specs.Steps.{Listed}
 use Rattle.verify.specs.Steps.{differs}
-use native.Mathlib.Nat.{add-zero, add_assoc, le_antisymm}
-use native.Mathlib.Omega.{arith}
-use borrow.Author.Rules.{rules}
-use Rattle.correction.proofs.Listing.{listed_skips, scanned_few, scanned_many}
-use Rattle.verify.proofs.Table.{same_run}
 use Rattle.verify.proofs.locate.scan_run.Given as goal
 
 abbrev pub invariant-loop-i : goal.invariant-loop-i

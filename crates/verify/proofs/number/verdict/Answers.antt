@@ -1,6 +1,5 @@
 -- `verify::number::verdict` meets its contract.
 use mathlib.Core.Path.{sym, ap, ◌∙◌}
-use borrow.Author.Rules.{rules}
 use Rattle.verify.specs.Verify.{verdict_number}
 use Rattle.verify.proofs.number.verdict.Goals as goal
 
