@@ -3,7 +3,6 @@ pub mod Spelling
 pub mod Scans
 pub mod Parses
 pub mod Same
-pub mod Finding
 pub mod Pasting
 pub mod Examples
 pub mod Contents

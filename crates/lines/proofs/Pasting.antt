@@ -5,9 +5,9 @@ use Prim.Native.Nat.{ℕ, zero, suc, ◌+◌, ◌-◌, ◌/◌, ◌%◌, ◌≤�
 use native.Mathlib.Nat.{add_assoc, add-zero}
 use native.Mathlib.Numerals.{add-one}
 use native.Mathlib.Omega.{arith}
-use borrow.Rule.Slice.PartMut.{mid_of, put_mid}
-use lib.ListN.{length, take, drop, set, length-append, length-take, length-drop, length-set, drop_of_length-le, take-append-drop}
-use lib.Seq.{take_all, take-length, length-take-le, set_split, append_snoc, take_at, drop_at, drop-drop}
+use borrow.Rule.Slice.PartMut.{put_mid}
+use lib.ListN.{length, take, drop, set, length-append, length-take, length-drop, length-set, take-append-drop}
+use lib.Seq.{length-take-le, set_split, append_snoc, take_at, drop_at, drop-drop}
 use Rattle.lines.specs.Text.{space, newline, ascii, digit, decimal, outcome_name, count_text, outcome_text, pasted, Put}
 use Rattle.lines.proofs.Decimals.{decimal_more}
 
@@ -21,22 +21,20 @@ put_one old at b l =
       room = rw length-set (omega arith);
     }
 
--- a text copied over the part from `at` on
-module _ (old text part : List ℕ) (at : ℕ) (fits : at + length text ≤ length old)
-    (is : part ≡ take (length text) text ++ drop (length text) (mid_of at (length old - at) old)) where
-  copied_written : put_mid at (length old - at) old part ≡ pasted old at text
+-- a text in the place of the part from `at` on that is as long
+module _ (old text : List ℕ) (at : ℕ) (fits : at + length text ≤ length old) where
+  copied_written : put_mid at (at + length text - at) old text ≡ pasted old at text
   unfolding pasted
   copied_written =
-      let rest : take (length old - at) (drop at old) ≡ drop at old = take_all (length old - at) (drop at old) (rw length-drop (omega arith)) in
-      let none : drop (length old - at) (drop at old) ≡ [] = drop_of_length-le (drop at old) {i = length old - at} (rw length-drop (omega arith)) in
-      rw (is, rest, none, take-length, drop-drop, append-nil) (simp append_assoc)
+      let n : at + length text - at ≡ length text = omega arith in
+      rw (n, drop-drop) (simp append_assoc)
 
-  pub copied : (r : ℕ) → r ≡ length text → Put old at text (put_mid at (length old - at) old part) (at + r)
+  pub copied : Put old at text (put_mid at (at + length text - at) old text) (at + length text)
   unfolding pasted
-  copied r all =
+  copied =
       record {
         written = copied_written;
-        next = ap (λ (k : ℕ). at + k) all;
+        next = refl;
         room = rw copied_written (simp (length-append, length-take, length-drop) (omega arith));
       }
 

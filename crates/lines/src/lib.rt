@@ -94,7 +94,7 @@ pub fn parse(line: &[u8], values: &mut [u32; 1024]) -> Parsed
 pub fn is_text(bytes: &[u8], text: &[u8]) -> bool
     ensures { result ≡ same_bytes bytes.now text.now }
 {
-    check::same(bytes, text)
+    bytes == text
 }
 
 pub fn is_shape_names(line: &[u8]) -> bool
@@ -114,7 +114,12 @@ pub fn find_newline(block: &[u8], from: usize, to: usize) -> usize
     requires { (from ≤ to) × (to ≤ length block.now) }
     ensures { FirstNewline block.now from to result }
 {
-    bytes::scan::find(block, from, to, b'\n')
+    for i in from..to {
+        if block[i] == b'\n' {
+            return i;
+        }
+    }
+    to
 }
 
 // Writes the text over `out` from `at` on, and answers the place after it.
@@ -122,7 +127,9 @@ pub fn put_text(out: &mut [u8], at: usize, text: &[u8]) -> usize
     requires { at + length text.now ≤ length out.old }
     ensures { Put out.old at text.now out.new result }
 {
-    at + bytes::copy(text, &mut out[at..])
+    let end = at + text.len();
+    out[at..end].copy_from_slice(text);
+    end
 }
 
 fn put_byte(out: &mut [u8], at: usize, byte: u8) -> usize

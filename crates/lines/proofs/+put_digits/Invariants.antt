@@ -1,0 +1,5 @@
+-- The recursion of `lines::put_digits`: the value falls.
+use Rattle.lines.proofs.+put_digits.Given as goal
+
+abbrev pub decreases-put_digits : goal.decreases-put_digits
+decreases-put_digits l = l.value
