@@ -7,7 +7,6 @@ ghost use Rattle.session.specs.Arrival.{the_ways, presented, session_after};
 use coverage::Covered;
 use energy::Billed;
 use gtb::{Refusal, Shape, Status};
-use libc::STDOUT_FILENO;
 use session::{Counted, Outcome, Session};
 
 // The stored words of page 1 with marks 3 and 5, of page 2 with marks 7, 7 and 0, which is the idle loop, and of page 4 with mark 255.
@@ -23,92 +22,94 @@ const FOURTH: [u32; 25] = [
     0, 250, 4, 1, 255, 250, 254, 5, 254, 255, 250, 4, 1, 255, 0, 0, 0, 0, 0, 0, 0, 0, 0, 0, 0,
 ];
 
-// A line of output: a name and a number.
-fn print_value(name: &[u8], value: u64) {
-    io::write_all(STDOUT_FILENO, name);
-    io::print_decimal(STDOUT_FILENO, value);
-    io::write_all(STDOUT_FILENO, b"\n");
+// A line of output: a name and a number. What can't be written is not written elsewhere.
+fn print_value(rt: &impl Print, name: &str, value: u64) {
+    let _ = println!(rt; "{name}{value}");
 }
 
 // A name and two numbers.
-fn print_line(name: &[u8], first: u64, second: u64) {
-    io::write_all(STDOUT_FILENO, name);
-    io::print_decimal(STDOUT_FILENO, first);
-    print_value(b" ", second);
+fn print_line(rt: &impl Print, name: &str, first: u64, second: u64) {
+    let _ = println!(rt; "{name}{first} {second}");
 }
 
 // What a query turns down.
-fn print_refusal(refusal: Refusal) {
-    print_value(b"refused ", gtb::number::refusal(refusal) as u64);
+fn print_refusal(rt: &impl Print, refusal: Refusal) {
+    print_value(rt, "refused ", gtb::number::refusal(refusal) as u64);
 }
 
 // The answer of an arrival: page number and symbols changed, or the refusal's number.
-fn print_outcome(outcome: Outcome) {
+fn print_outcome(rt: &impl Print, outcome: Outcome) {
     match outcome {
-        Outcome::Taken(page, changed) => print_line(b"taken ", page as u64, changed as u64),
-        Outcome::Again(page, changed) => print_line(b"again ", page as u64, changed as u64),
-        Outcome::Refused(e) => print_line(b"refused ", gtb::number::refusal(e) as u64, 0),
+        Outcome::Taken(page, changed) => print_line(rt, "taken ", page as u64, changed as u64),
+        Outcome::Again(page, changed) => print_line(rt, "again ", page as u64, changed as u64),
+        Outcome::Refused(e) => print_line(rt, "refused ", gtb::number::refusal(e) as u64, 0),
     }
 }
 
 // One word arrives. The session goes in by value, and the one after it comes back.
-fn take_word(session: Session, way: u32, word: [u32; 25], scratch: &mut [u32]) -> Session
+fn take_word(
+    rt: &impl Print,
+    session: Session,
+    way: u32,
+    word: [u32; 25],
+    scratch: &mut [u32],
+) -> Session
     ensures { result ≡ session_after session (presented the_ways session way word scratch.old) }
 {
     let mut lent = word;
     let arrived = session.arrive(way, &mut lent, scratch);
     let outcome = arrived.outcome;
-    print_outcome(outcome);
+    print_outcome(rt, outcome);
     arrived.session
 }
 
 // All words of the sample, with two symbols changed in some. Those of page 4 are changed alike on one line, where the clean way sees nothing.
-fn take_sample(session: Session) -> Session {
+fn take_sample(rt: &impl Print, session: Session) -> Session {
     let mut scratch = [0u32; 13];
     let mut short = [0u32; 12];
-    let mut session = take_word(session, Session::CLEAN, FIRST, &mut scratch);
+    let mut session = take_word(rt, session, Session::CLEAN, FIRST, &mut scratch);
     let mut word = FIRST;
     word[0] ^= 9;
     word[7] ^= 200;
-    session = take_word(session, Session::CLEAN, word, &mut scratch);
+    session = take_word(rt, session, Session::CLEAN, word, &mut scratch);
     word = SECOND;
     word[3] ^= 1;
-    session = take_word(session, Session::VOTE, word, &mut scratch);
+    session = take_word(rt, session, Session::VOTE, word, &mut scratch);
     word = FOURTH;
     word[0] ^= 9;
     word[1] ^= 9;
-    session = take_word(session, Session::CLEAN, word, &mut scratch);
-    session = take_word(session, Session::CLEAN, SECOND, &mut short);
-    take_word(session, Session::TWO, word, &mut scratch)
+    session = take_word(rt, session, Session::CLEAN, word, &mut scratch);
+    session = take_word(rt, session, Session::CLEAN, SECOND, &mut short);
+    take_word(rt, session, Session::TWO, word, &mut scratch)
 }
 
 // How often a function was called.
-fn print_count(session: Session, function: u32) {
+fn print_count(rt: &impl Print, session: Session, function: u32) {
     match session.count(function) {
-        Counted::Calls(calls) => print_line(b"calls ", function as u64, calls as u64),
-        Counted::Refused(e) => print_refusal(e),
+        Counted::Calls(calls) => print_line(rt, "calls ", function as u64, calls as u64),
+        Counted::Refused(e) => print_refusal(rt, e),
     }
 }
 
 // The bill at one and a half picojoules a call.
-fn print_bill(session: Session) {
+fn print_bill(rt: &impl Print, session: Session) {
     let prices = [1500u32; Session::FUNCTIONS];
     match energy::bill(session, &prices) {
-        Billed::Picojoules(sum) => print_value(b"picojoules ", sum),
-        Billed::Refused(e) => print_refusal(e),
+        Billed::Picojoules(sum) => print_value(rt, "picojoules ", sum),
+        Billed::Refused(e) => print_refusal(rt, e),
     }
 }
 
 // How many functions were called at all.
-fn print_coverage(session: Session) {
+fn print_coverage(rt: &impl Print, session: Session) {
     let mut called = [0u8; Session::FUNCTIONS];
     match coverage::cover(session, &mut called) {
-        Covered::Functions(number) => print_value(b"covered ", number as u64),
-        Covered::Refused(e) => print_refusal(e),
+        Covered::Functions(number) => print_value(rt, "covered ", number as u64),
+        Covered::Refused(e) => print_refusal(rt, e),
     }
 }
 
-fn main() {
+fn main(rt: HostRuntime) {
     let fresh = Session::fresh(Shape {
         q: 5,
         n: 3,
@@ -117,12 +118,12 @@ fn main() {
     });
     let status = fresh.status;
     if let Status::Refused(e) = status {
-        print_refusal(e);
+        print_refusal(&rt, e);
         return;
     }
-    let session = take_sample(fresh.session);
-    print_count(session, 7);
-    print_count(session, 0);
-    print_bill(session);
-    print_coverage(session);
+    let session = take_sample(&rt, fresh.session);
+    print_count(&rt, session, 7);
+    print_count(&rt, session, 0);
+    print_bill(&rt, session);
+    print_coverage(&rt, session);
 }
