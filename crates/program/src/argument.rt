@@ -68,7 +68,7 @@ pub fn usage() -> [u8; 541]
 
 // Name and version.
 pub fn version() -> [u8; 12]
-    ensures { result ≡ versionText }
+    ensures { result ≡ version_text }
 {
     *b"tally 0.1.0\n"
 }

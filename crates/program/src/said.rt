@@ -61,7 +61,7 @@ fn line_number(expected: Expected) -> u32
 // What else there is to say of a line, where it is so.
 fn put_noted(out: &mut [u8], at: usize, wanted: bool, number: u32, text: &[u8]) -> usize
     requires { at + 22 + length text.now ≤ length out.old }
-    ensures { Put out.old at (cond wanted (notedText number text.now) []) out.new result × (result ≤ at + 22 + length text.now) }
+    ensures { Put out.old at (cond wanted (noted_text number text.now) []) out.new result × (result ≤ at + 22 + length text.now) }
 {
     if wanted {
         let next = lines::put_text(out, at, b"tally: line ");
@@ -73,7 +73,7 @@ fn put_noted(out: &mut [u8], at: usize, wanted: bool, number: u32, text: &[u8]) 
 // What is wrong with a line.
 fn put_fault(out: &mut [u8], at: usize, fault: Fault) -> usize
     requires { at + 250 ≤ length out.old }
-    ensures { Put out.old at (faultText fault) out.new result × (result ≤ at + 225) }
+    ensures { Put out.old at (fault_text fault) out.new result × (result ≤ at + 225) }
 {
     let expected = fault.expected;
     let number = line_number(expected);
@@ -97,7 +97,7 @@ fn put_fault(out: &mut [u8], at: usize, fault: Fault) -> usize
 // Which of the first three lines is at fault or missing, by the line that is next.
 fn put_blame(out: &mut [u8], at: usize, phase: Phase) -> usize
     requires { at + 250 ≤ length out.old }
-    ensures { Put out.old at (blameText phase) out.new result × (result ≤ at + 225) }
+    ensures { Put out.old at (blame_text phase) out.new result × (result ≤ at + 225) }
 {
     match phase {
         Phase::ShapeNames => put_expected(out, at, Expected::ShapeNames),
@@ -111,7 +111,7 @@ fn put_blame(out: &mut [u8], at: usize, phase: Phase) -> usize
 // The answers by kind, where there is a person.
 fn put_summary(out: &mut [u8], at: usize, person: bool, counts: Counts) -> usize
     requires { at + 60 ≤ length out.old }
-    ensures { Put out.old at (cond person (summaryText counts) []) out.new result }
+    ensures { Put out.old at (cond person (summary_text counts) []) out.new result }
 {
     if person {
         let a = put_numbered(out, at, counts.taken, b" taken, ");
@@ -123,7 +123,7 @@ fn put_summary(out: &mut [u8], at: usize, person: bool, counts: Counts) -> usize
 
 // What is said at the end: nothing to a script, unless the limit was reached or the first three lines are at fault.
 pub fn ending(state: State, reader: Reader) -> Text
-    ensures { Held result (endingOf state reader.tally.phase reader.counts) }
+    ensures { Held result (ending_of state reader.tally.phase reader.counts) }
 {
     let input = state.input;
     let watch = state.watch;
@@ -145,7 +145,7 @@ pub fn ending(state: State, reader: Reader) -> Text
 
 // The beginning of a complaint.
 pub fn complaint(drawn: bool) -> Text
-    ensures { Held result (complaintText drawn) }
+    ensures { Held result (complaint_text drawn) }
 {
     let mut bytes = [0u8; 400];
     let a = put_if(&mut bytes, 0, drawn, b"\r\x1b[K");
@@ -155,14 +155,14 @@ pub fn complaint(drawn: bool) -> Text
 
 // The end of the complaint about an option that there is not.
 pub fn unknown() -> [u8; 51]
-    ensures { result ≡ unknownText }
+    ensures { result ≡ unknown_text }
 {
     *b": no such option; tally --help says how it is used\n"
 }
 
 // The end of the complaint about a second argument.
 pub fn too_many() -> [u8; 58]
-    ensures { result ≡ tooManyText }
+    ensures { result ≡ too_many_text }
 {
     *b": one argument too many; tally --help says how it is used\n"
 }
