@@ -25,7 +25,7 @@ use Rattle.session.specs.Arrival.{is_way, way_of, Bad, opened}
 use Rattle.session.specs.Steps.{opened_by}
 use Rattle.capture.specs.declared.Expected.TheVariants as expected
 use Rattle.capture.specs.declared.Fault.{Fault}
-use Rattle.capture.specs.declared.Phase.TheVariants.{ShapeNames, ShapeValues, WordNames, Words}
+use Rattle.capture.specs.declared.Phase.TheVariants.{ShapeValues, WordNames, Words}
 use Rattle.capture.specs.declared.Tally.{Tally}
 use Rattle.capture.specs.declared.Judged.{Judged}
 use Rattle.capture.specs.Judge.{line_content, order_mark, is_marked, is_returned, kept_of, fault_in, passed, fault, begun, shape_in, shaped, worded, brought_by, judged_of, start}

@@ -107,9 +107,13 @@ written s law (p ∷ pages) accepted =
     record {
       lines = spell word ∷ rest.lines;
       each = ap suc rest.each;
-      unbroken = λ i. elim i [ zero ↦ λ l. spell_unbroken word | suc i' ↦ λ l. rest.unbroken i' (le_of_suc-le-suc l) ];
+      unbroken = λ i.
+          elim i as (λ k. k < suc (length rest.lines) → Unbroken (line_at (spell word ∷ rest.lines) k))
+          [ zero ↦ λ l. spell_unbroken word | suc i' ↦ λ l. rest.unbroken i' (le_of_suc-le-suc l) ];
       arrivals = rw w.content (ap suc rest.arrivals);
-      brings = rw w.content (λ i. elim i [ zero ↦ λ l. w.brings | suc i' ↦ λ l. rest.brings i' (le_of_suc-le-suc l) ]);
+      brings = rw w.content (λ i.
+          elim i as (λ k. k < suc (length pages) → Brings the_ways s (arrival_at (arrival_of s word ∷ arrivals_in s rest.lines) k) (sheet_at (p ∷ pages) k) 0)
+          [ zero ↦ λ l. w.brings | suc i' ↦ λ l. rest.brings i' (le_of_suc-le-suc l) ]);
       short = rw length-append (omega (arith, w.short, rest.short));
     }
 

@@ -1,6 +1,6 @@
 -- Texts written one after another at the end of the output that waits.
 use mathlib.Core.Path.{◌≡◌, refl, sym, ap, ◌∙◌}
-use mathlib.Core.List.{List, [], ◌∷◌, ◌++◌, map, map-id, append_assoc, append-nil}
+use mathlib.Core.List.{List, [], ◌∷◌, ◌++◌, map, append_assoc, append-nil}
 use mathlib.Core.Logic.{⊎_elim}
 use Prim.Native.Nat.{ℕ, ◌+◌, ◌*◌, ◌≤◌, ◌<◌}
 use native.Mathlib.Numerals.{add-one}
@@ -82,7 +82,7 @@ answers_words (r ∷ rs) = ap (λ (t : List ℕ). outcome_line r ++ t) (answers_
 -- ---- the counts
 -- what owning the array of counts tells
 pub owned_counts : (calls : List ℕ) (vs : List Val) → Is (Array (UInt w32) 256) calls vs → Counts calls
-owned_counts calls vs h = counts calls vs (rw (map-id calls) h)
+owned_counts calls vs h = counts calls vs h
 
 module _ (f : ℕ) (calls : List ℕ) (l : f < length calls) where
   calls_none : get_or calls f 0 ≡ 0 → calls_from f (drop f calls) ≡ calls_from (f + 1) (drop (f + 1) calls)

@@ -8,7 +8,6 @@ use Rattle.gtb.specs.Shape.{scratch_length, standard}
 use Rattle.lines.specs.Text.{same_bytes, names_shape, names_word}
 use Rattle.lines.specs.Content.{Content, Spelled, Unreadable, content_of}
 use Rattle.session.specs.declared.Session.{Session}
-use Rattle.session.specs.declared.Outcome.TheVariants.{Refused}
 use Rattle.session.specs.Session.{fresh_of, fresh_status}
 use Rattle.session.specs.Arrival.{the_ways, Opened, Bad, opened, outcome_of, session_after}
 use Rattle.capture.specs.declared.Expected.{Expected}
