@@ -6,8 +6,7 @@ use crate::crossing::{SESSION, load, store};
 use session::number::put_outcome;
 
 // One word; the answer is in the outcome.
-#[unsafe(no_mangle)]
-pub extern "C" fn shaftglimmer_arrive(
+pub fn shaftglimmer_arrive(
     session: &mut [u32; SESSION],
     way: u32,
     word: &mut [u32],
@@ -21,8 +20,7 @@ pub extern "C" fn shaftglimmer_arrive(
 }
 
 // A bundle of words; their answers are in the outcomes.
-#[unsafe(no_mangle)]
-pub extern "C" fn shaftglimmer_arrive_all(
+pub fn shaftglimmer_arrive_all(
     session: &mut [u32; SESSION],
     way: u32,
     words: &mut [u32],

@@ -31,22 +31,19 @@ fn sizes_in(values: &[u32; 10]) -> Sizes
     }
 }
 
-#[unsafe(no_mangle)]
-pub extern "C" fn shaftglimmer_word_length(shape: &[u32; 10]) -> u32
+pub fn shaftglimmer_word_length(shape: &[u32; 10]) -> u32
     ensures { LengthOf N (shape_in shape.now) result }
 {
     sizes_in(shape).word
 }
 
-#[unsafe(no_mangle)]
-pub extern "C" fn shaftglimmer_data_length(shape: &[u32; 10]) -> u32
+pub fn shaftglimmer_data_length(shape: &[u32; 10]) -> u32
     ensures { LengthOf K (shape_in shape.now) result }
 {
     sizes_in(shape).info
 }
 
-#[unsafe(no_mangle)]
-pub extern "C" fn shaftglimmer_scratch_length(shape: &[u32; 10]) -> u32
+pub fn shaftglimmer_scratch_length(shape: &[u32; 10]) -> u32
     ensures { LengthOf scratch_length (shape_in shape.now) result }
 {
     sizes_in(shape).scratch

@@ -21,8 +21,7 @@ fn keep(stored: &[u32], count: usize, values: &mut [u32])
 }
 
 // The number of values in a line, which comes without its newline; up to 1024 of them are stored.
-#[unsafe(no_mangle)]
-pub extern "C" fn shaftglimmer_parse_line(line: &[u8], values: &mut [u32; 1024]) -> u32
+pub fn shaftglimmer_parse_line(line: &[u8], values: &mut [u32; 1024]) -> u32
     ensures { LineCrossing line.now values.old values.new result }
 {
     if line.len() > LONGEST {

@@ -6,16 +6,14 @@ use crate::crossing::load_shape;
 use gtb::Refusal;
 
 // Page number and number of marks.
-#[unsafe(no_mangle)]
-pub extern "C" fn shaftglimmer_parse_page(shape: &[u32; 10], data: &[u32]) -> u32
+pub fn shaftglimmer_parse_page(shape: &[u32; 10], data: &[u32]) -> u32
     ensures { paper.PageReading (shape_in shape.now) «data».now result }
 {
     page::number::read(page::read_page(load_shape(shape), data))
 }
 
 // The marks, copied to the front of a list as long as the symbols, and how many they are.
-#[unsafe(no_mangle)]
-pub extern "C" fn shaftglimmer_marks(shape: &[u32; 10], data: &[u32], marks: &mut [u32]) -> u32
+pub fn shaftglimmer_marks(shape: &[u32; 10], data: &[u32], marks: &mut [u32]) -> u32
     ensures { MarksCopied (shape_in shape.now) «data».now marks.old marks.new result }
 {
     if marks.len() != data.len() {
@@ -26,13 +24,7 @@ pub extern "C" fn shaftglimmer_marks(shape: &[u32; 10], data: &[u32], marks: &mu
     part.len() as u32
 }
 
-#[unsafe(no_mangle)]
-pub extern "C" fn shaftglimmer_write_page(
-    shape: &[u32; 10],
-    page: u32,
-    marks: &[u32],
-    data: &mut [u32],
-) -> u32
+pub fn shaftglimmer_write_page(shape: &[u32; 10], page: u32, marks: &[u32], data: &mut [u32]) -> u32
     ensures { paper.PageWriting (shape_in shape.now) page marks.now «data».old «data».new result }
 {
     gtb::number::status(page::write_page(load_shape(shape), page, marks, data))

@@ -68,8 +68,7 @@ fn read_word(shape: Shape, bytes: &mut [u8], symbols: &mut [u32]) -> u32
 }
 
 // Word reading: digits changed, or 2^31 plus the number of the refusal.
-#[unsafe(no_mangle)]
-pub extern "C" fn shaftglimmer_read_word(q: u32, n: u32, b: u32, word: &mut [u8]) -> u32
+pub fn shaftglimmer_read_word(q: u32, n: u32, b: u32, word: &mut [u8]) -> u32
     ensures { ReadingWord (standard q n b) word.old word.new result }
 {
     let shape = Shape {
@@ -94,8 +93,7 @@ pub extern "C" fn shaftglimmer_read_word(q: u32, n: u32, b: u32, word: &mut [u8]
 }
 
 // Page reading: 1024 × page number + number of marks, or 2^31 plus the number of the refusal.
-#[unsafe(no_mangle)]
-pub extern "C" fn shaftglimmer_read_page(q: u32, n: u32, b: u32, symbols: &[u8]) -> u32
+pub fn shaftglimmer_read_page(q: u32, n: u32, b: u32, symbols: &[u8]) -> u32
     ensures { result ≡ read_number (page_in (standard q n b) symbols.now) }
 {
     let shape = Shape {

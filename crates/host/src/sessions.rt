@@ -8,8 +8,7 @@ use crate::crossing::{SESSION, load, load_shape, store};
 use gtb::Status;
 use session::Session;
 
-#[unsafe(no_mangle)]
-pub extern "C" fn shaftglimmer_fresh(shape: &[u32; 10], session: &mut [u32; SESSION]) -> u32
+pub fn shaftglimmer_fresh(shape: &[u32; 10], session: &mut [u32; SESSION]) -> u32
     ensures made { FreshCrossing (crossing.shape_in shape.now) session.old session.new result }
     ensures paper { FreshValues (shape_in shape.now) session.old session.new result }
 {
@@ -22,22 +21,19 @@ pub extern "C" fn shaftglimmer_fresh(shape: &[u32; 10], session: &mut [u32; SESS
     0
 }
 
-#[unsafe(no_mangle)]
-pub extern "C" fn shaftglimmer_count(session: &[u32; SESSION], function: u32) -> u64
+pub fn shaftglimmer_count(session: &[u32; SESSION], function: u32) -> u64
     ensures { paper.Counting (session_in session.now) function result }
 {
     session::number::counted(load(session).count(function))
 }
 
-#[unsafe(no_mangle)]
-pub extern "C" fn shaftglimmer_bill(session: &[u32; SESSION], prices: &[u32]) -> u64
+pub fn shaftglimmer_bill(session: &[u32; SESSION], prices: &[u32]) -> u64
     ensures { paper.Billing (session_in session.now) prices.now result }
 {
     energy::number::billed(energy::bill(load(session), prices))
 }
 
-#[unsafe(no_mangle)]
-pub extern "C" fn shaftglimmer_cover(session: &[u32; SESSION], bytes: &mut [u8]) -> u32
+pub fn shaftglimmer_cover(session: &[u32; SESSION], bytes: &mut [u8]) -> u32
     ensures { paper.Covering (session_in session.now) bytes.old bytes.new result }
 {
     coverage::number::covered(coverage::cover(load(session), bytes))

@@ -33,7 +33,7 @@ fn texts() -> [u8; 984]
 
 // Where each text starts, and where the last one ends. That of 0, which is no refusal, is empty.
 fn starts() -> [u16; 22]
-    ensures { result ≡ textStarts }
+    ensures { result ≡ text_starts }
 {
     [
         0, 0, 56, 95, 124, 189, 226, 271, 311, 356, 389, 414, 482, 546, 607, 678, 737, 789, 845,
@@ -51,18 +51,19 @@ fn put(refusal: u32, text: &mut [u8]) -> u32
     let at = refusal as usize;
     let from = starts[at] as usize;
     let to = starts[at + 1] as usize;
-    bytes::copy(&all[from..to], text) as u32
+    let size = to - from;
+    text[..size].copy_from_slice(&all[from..to]);
+    size as u32
 }
 
 // The text of the refusal with this number on 96 bytes, with zeros behind it, and its length.
-#[unsafe(no_mangle)]
-pub extern "C" fn shaftglimmer_text(refusal: u32, text: &mut [u8]) -> u32
+pub fn shaftglimmer_text(refusal: u32, text: &mut [u8]) -> u32
     ensures { TextCrossing refusal text.old text.new result }
 {
     if text.len() != 96 {
         return gtb::number::refused(Refusal::Length);
     }
-    bytes::copy(&[0u8; 96], text);
+    text.copy_from_slice(&[0u8; 96]);
     if refusal > 20 {
         return 0;
     }

@@ -2,8 +2,7 @@
 ghost use Rattle.std.specs.Prelude.{◌≡◌};
 ghost use Rattle.host.specs.Version.{version_number};
 
-#[unsafe(no_mangle)]
-pub extern "C" fn shaftglimmer_version() -> u32
+pub fn shaftglimmer_version() -> u32
     ensures { result ≡ version_number }
 {
     100

@@ -4,8 +4,7 @@ ghost use Rattle.paper.specs.Boundary.{shape_in};
 
 use crate::crossing::load_shape;
 
-#[unsafe(no_mangle)]
-pub extern "C" fn shaftglimmer_encode(
+pub fn shaftglimmer_encode(
     shape: &[u32; 10],
     data: &[u32],
     word: &mut [u32],
@@ -16,8 +15,7 @@ pub extern "C" fn shaftglimmer_encode(
     gtb::number::status(encoder::encode(load_shape(shape), data, scratch, word))
 }
 
-#[unsafe(no_mangle)]
-pub extern "C" fn shaftglimmer_extract(
+pub fn shaftglimmer_extract(
     shape: &[u32; 10],
     word: &[u32],
     data: &mut [u32],
@@ -28,36 +26,31 @@ pub extern "C" fn shaftglimmer_extract(
     gtb::number::status(encoder::extract(load_shape(shape), word, scratch, data))
 }
 
-#[unsafe(no_mangle)]
-pub extern "C" fn shaftglimmer_decode(shape: &[u32; 10], word: &mut [u32]) -> u32
+pub fn shaftglimmer_decode(shape: &[u32; 10], word: &mut [u32]) -> u32
     ensures { paper.Reading (shape_in shape.now) 0 word.old word.new result }
 {
     correction::number::decoded(decoder::decode(load_shape(shape), word))
 }
 
-#[unsafe(no_mangle)]
-pub extern "C" fn shaftglimmer_decode_majority(shape: &[u32; 10], word: &mut [u32]) -> u32
+pub fn shaftglimmer_decode_majority(shape: &[u32; 10], word: &mut [u32]) -> u32
     ensures { paper.Reading (shape_in shape.now) 1 word.old word.new result }
 {
     correction::number::decoded(majority::decode_majority(load_shape(shape), word))
 }
 
-#[unsafe(no_mangle)]
-pub extern "C" fn shaftglimmer_decode_two(shape: &[u32; 10], word: &mut [u32]) -> u32
+pub fn shaftglimmer_decode_two(shape: &[u32; 10], word: &mut [u32]) -> u32
     ensures { paper.Reading (shape_in shape.now) 2 word.old word.new result }
 {
     correction::number::decoded(double::decode_two(load_shape(shape), word))
 }
 
-#[unsafe(no_mangle)]
-pub extern "C" fn shaftglimmer_decode_nearest(shape: &[u32; 10], word: &mut [u32]) -> u32
+pub fn shaftglimmer_decode_nearest(shape: &[u32; 10], word: &mut [u32]) -> u32
     ensures { paper.Nearest (shape_in shape.now) word.old word.new result }
 {
     correction::number::decoded(nearest::decode_nearest(load_shape(shape), word))
 }
 
-#[unsafe(no_mangle)]
-pub extern "C" fn shaftglimmer_fill(
+pub fn shaftglimmer_fill(
     shape: &[u32; 10],
     places: &[u32],
     word: &mut [u32],
@@ -68,8 +61,7 @@ pub extern "C" fn shaftglimmer_fill(
     correction::number::decoded(erasure::fill(load_shape(shape), word, places, scratch))
 }
 
-#[unsafe(no_mangle)]
-pub extern "C" fn shaftglimmer_restore(
+pub fn shaftglimmer_restore(
     shape: &[u32; 10],
     places: &[u32],
     word: &mut [u32],
@@ -81,16 +73,14 @@ pub extern "C" fn shaftglimmer_restore(
 }
 
 // A proposal checked; both words are only read.
-#[unsafe(no_mangle)]
-pub extern "C" fn shaftglimmer_check(shape: &[u32; 10], received: &[u32], proposed: &[u32]) -> u32
+pub fn shaftglimmer_check(shape: &[u32; 10], received: &[u32], proposed: &[u32]) -> u32
     ensures { paper.Checking (shape_in shape.now) received.now proposed.now result }
 {
     verify::number::verdict(verify::check(load_shape(shape), received, proposed))
 }
 
 // How many checks of each symbol decoding looks at.
-#[unsafe(no_mangle)]
-pub extern "C" fn shaftglimmer_looked(shape: &[u32; 10], word: &[u32], looked: &mut [u32]) -> u32
+pub fn shaftglimmer_looked(shape: &[u32; 10], word: &[u32], looked: &mut [u32]) -> u32
     ensures { paper.Looking (shape_in shape.now) word.now looked.old looked.new result }
 {
     gtb::number::status(decoder::looked(load_shape(shape), word, looked))

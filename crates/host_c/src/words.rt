@@ -1,0 +1,97 @@
+// Words over u32: writing, extraction, the ways of reading, filling in, restoring, checking.
+ghost use Rattle.paper.specs.Paper as paper;
+ghost use Rattle.paper.specs.Boundary.{shape_in};
+
+use host::words;
+
+#[unsafe(no_mangle)]
+pub extern "C" fn shaftglimmer_encode(
+    shape: &[u32; 10],
+    data: &[u32],
+    word: &mut [u32],
+    scratch: &mut [u32],
+) -> u32
+    ensures { paper.Writing (shape_in shape.now) «data».now scratch.old word.old scratch.new word.new result }
+{
+    words::shaftglimmer_encode(shape, data, word, scratch)
+}
+
+#[unsafe(no_mangle)]
+pub extern "C" fn shaftglimmer_extract(
+    shape: &[u32; 10],
+    word: &[u32],
+    data: &mut [u32],
+    scratch: &mut [u32],
+) -> u32
+    ensures { paper.Extraction (shape_in shape.now) word.now scratch.old «data».old scratch.new «data».new result }
+{
+    words::shaftglimmer_extract(shape, word, data, scratch)
+}
+
+#[unsafe(no_mangle)]
+pub extern "C" fn shaftglimmer_decode(shape: &[u32; 10], word: &mut [u32]) -> u32
+    ensures { paper.Reading (shape_in shape.now) 0 word.old word.new result }
+{
+    words::shaftglimmer_decode(shape, word)
+}
+
+#[unsafe(no_mangle)]
+pub extern "C" fn shaftglimmer_decode_majority(shape: &[u32; 10], word: &mut [u32]) -> u32
+    ensures { paper.Reading (shape_in shape.now) 1 word.old word.new result }
+{
+    words::shaftglimmer_decode_majority(shape, word)
+}
+
+#[unsafe(no_mangle)]
+pub extern "C" fn shaftglimmer_decode_two(shape: &[u32; 10], word: &mut [u32]) -> u32
+    ensures { paper.Reading (shape_in shape.now) 2 word.old word.new result }
+{
+    words::shaftglimmer_decode_two(shape, word)
+}
+
+#[unsafe(no_mangle)]
+pub extern "C" fn shaftglimmer_decode_nearest(shape: &[u32; 10], word: &mut [u32]) -> u32
+    ensures { paper.Nearest (shape_in shape.now) word.old word.new result }
+{
+    words::shaftglimmer_decode_nearest(shape, word)
+}
+
+#[unsafe(no_mangle)]
+pub extern "C" fn shaftglimmer_fill(
+    shape: &[u32; 10],
+    places: &[u32],
+    word: &mut [u32],
+    scratch: &mut [u32],
+) -> u32
+    ensures { paper.Filling (shape_in shape.now) word.old places.now scratch.old word.new scratch.new result }
+{
+    words::shaftglimmer_fill(shape, places, word, scratch)
+}
+
+#[unsafe(no_mangle)]
+pub extern "C" fn shaftglimmer_restore(
+    shape: &[u32; 10],
+    places: &[u32],
+    word: &mut [u32],
+    scratch: &mut [u32],
+) -> u32
+    ensures { paper.Restoring (shape_in shape.now) word.old places.now scratch.old word.new scratch.new result }
+{
+    words::shaftglimmer_restore(shape, places, word, scratch)
+}
+
+// A proposal checked; both words are only read.
+#[unsafe(no_mangle)]
+pub extern "C" fn shaftglimmer_check(shape: &[u32; 10], received: &[u32], proposed: &[u32]) -> u32
+    ensures { paper.Checking (shape_in shape.now) received.now proposed.now result }
+{
+    words::shaftglimmer_check(shape, received, proposed)
+}
+
+// How many checks of each symbol decoding looks at.
+#[unsafe(no_mangle)]
+pub extern "C" fn shaftglimmer_looked(shape: &[u32; 10], word: &[u32], looked: &mut [u32]) -> u32
+    ensures { paper.Looking (shape_in shape.now) word.now looked.old looked.new result }
+{
+    words::shaftglimmer_looked(shape, word, looked)
+}
