@@ -5,13 +5,24 @@ PREFIX ?= /usr/local
 # Functions that go or change give the shared library another number.
 soname = libshaftglimmer.so.2
 
-.PHONY: all run report check test bench libraries examples install install-built uninstall clean
+# Code for every x86-64 processor.
+cpu = --cpu x86-64
+
+.PHONY: all program archive run report check test bench libraries examples install install-built uninstall clean
 
 all:
-	rt check tally host
-	rt staticlib host
+	$(MAKE) --no-print-directory program archive
 	$(MAKE) --no-print-directory libraries
 	$(MAKE) --no-print-directory target/bin/shaftglimmer
+
+# The program, and the archive of what is exported to C: proved with every crate below, where something has changed, and built.
+program:
+	cd crates/tally && rt run $(cpu) -- --version
+	install -C -D -m 755 crates/tally/out/tally target/bin/tally
+
+archive:
+	cd crates/host_c && rt lib $(cpu)
+	install -C -D -m 644 crates/host_c/out/libhost_c.a target/staticlib/libhost.a
 
 run: target/bin/tally
 	target/bin/tally samples/small.txt
@@ -21,7 +32,7 @@ report: target/bin/shaftglimmer
 	target/bin/shaftglimmer report --names samples/names.txt --prices samples/prices.txt samples/capture.txt > target/report.html
 
 check:
-	rt check
+	rt all check
 
 test:
 	bash .ci/run
@@ -33,11 +44,11 @@ bench: target/bin/tally target/staticlib/libhost.a
 # Made where they are missing; make brings them up to date.
 target/bin/tally:
 	@echo "There is no program here yet. First it is proved, with every crate below it, and then it is built."
-	@echo "That takes up to 5 minutes on two cores. Each crate gets a line when it is done: rt: NAME proved (SECONDS s)"
-	rt check tally
+	@echo "That takes a quarter of an hour and more. Each function is named when it is proved."
+	$(MAKE) --no-print-directory program
 
-target/staticlib/lib%.a:
-	rt staticlib $*
+target/staticlib/libhost.a:
+	$(MAKE) --no-print-directory archive
 
 libraries: target/libshaftglimmer.a target/libshaftglimmer.so
 
@@ -98,4 +109,4 @@ uninstall:
 	rm -rf "$(place)/share/shaftglimmer/rust" "$(place)/share/shaftglimmer/python"
 
 clean:
-	rm -rf target tests/target rust/target rust/command/target
+	rm -rf target tests/target rust/target rust/command/target crates/*/out

@@ -1,5 +1,5 @@
 //! Finds the proved library, and has it linked. It is looked for in the folder SHAFTGLIMMER_LIB if that is set; else
-//! where pkg-config has it, then in ../target/staticlib, where it is built as libhost.a, then where it is if this crate
+//! where pkg-config has it, then in ../target/staticlib, where make puts it as libhost.a, then where it is if this crate
 //! was installed with it. With SHAFTGLIMMER_LINK=shared it is the shared library, which the system then has to find
 //! when a program starts.
 
