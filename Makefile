@@ -17,7 +17,7 @@ all:
 
 # The program, and the archive of what is exported to C: proved with every crate below, where something has changed, and built.
 program:
-	cd crates/tally && rt run $(cpu) -- --version
+	cd crates/tally && rt run $(cpu) -- --version > /dev/null
 	install -C -D -m 755 crates/tally/out/tally target/bin/tally
 
 archive:
