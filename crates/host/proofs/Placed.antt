@@ -3,7 +3,7 @@ use mathlib.Core.Path.{◌≡◌, refl, sym, ap, ◌∙◌}
 use mathlib.Core.Bool.{true}
 use mathlib.Core.List.{List, [], ◌∷◌, ◌++◌}
 use Prim.Native.Nat.{ℕ, zero, suc, ◌+◌, ◌-◌, ◌^◌, ◌≤◌, ◌<◌}
-use native.Mathlib.Nat.{sub-zero, zero-sub, suc-sub-suc}
+use native.Mathlib.Nat.{zero-add, sub-zero, zero-sub, suc-sub-suc}
 use native.Mathlib.Omega.{arith}
 use borrow.Author.Tests.{leb-true, ltb-true}
 use lib.Dec.{leb, ltb}
@@ -11,7 +11,7 @@ use lib.ListN.{length, get_or, take, drop, replicate, drop_of_length-le, get_or-
 use lib.Seq.{take-length}
 use Rattle.parity.specs.Count.{all}
 use Rattle.parity.proofs.Tests.{all_elim}
-use Rattle.lines.specs.Text.{same_bytes}
+use Rattle.lines.specs.Text.{same_bytes, pasted}
 use Rattle.lines.proofs.Same.{same_equal}
 use Rattle.host.specs.Texts.{refusal_texts, refusal_text, padded, joined, starts_from, all_texts, text_starts, Texted}
 use Rattle.host.specs.Texts.{TextCrossing}
@@ -82,9 +82,9 @@ pub cleared : (to : List ℕ) {to' : List ℕ} → length to ≡ 96 → to' ≡ 
     → to' ≡ replicate 96 0
 cleared to size h = h ∙ rw (drop_of_length-le to {i = 96} (omega arith))
 
-pub copied : (from to : List ℕ) {to' text : List ℕ} → from ≡ text → to ≡ replicate 96 0
-    → to' ≡ take (length from) from ++ drop (length from) to → to' ≡ padded text
-copied from to {to'} {text} e z h = h ∙ rw (take-length from, e, z, drop_replicate 96 (length text))
+pub copied : (from to : List ℕ) {to' text : List ℕ} → from ≡ text → to ≡ replicate 96 0 → to' ≡ pasted to 0 from → to' ≡ padded text
+unfolding pasted
+copied from to {to'} {text} e z h = h ∙ rw (e, z, zero-add (length text), drop_replicate 96 (length text))
 
 module _ (k r : ℕ) (text : List ℕ) where
   pub text_turned : (length text ≡ 96 → ⊥) → r ≡ 2 ^ 31 + 2 → TextCrossing k text text r

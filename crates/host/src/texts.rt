@@ -51,9 +51,7 @@ fn put(refusal: u32, text: &mut [u8]) -> u32
     let at = refusal as usize;
     let from = starts[at] as usize;
     let to = starts[at + 1] as usize;
-    let size = to - from;
-    text[..size].copy_from_slice(&all[from..to]);
-    size as u32
+    lines::put_text(text, 0, &all[from..to]) as u32
 }
 
 // The text of the refusal with this number on 96 bytes, with zeros behind it, and its length.

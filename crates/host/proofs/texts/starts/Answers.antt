@@ -1,12 +1,8 @@
 -- `host::texts::starts` meets its contract, by computing.
 use mathlib.Core.Path.{refl}
 use Rattle.host.specs.Texts.{text_starts, starts_from, refusal_texts}
-use Rattle.host.proofs.texts.starts.Statement.{statement}
-use Rattle.host.proofs.texts.starts.Tie as tie
+use Rattle.host.proofs.texts.starts.Goals as goal
 
-returns : tie.Need-returns
+pub returns : goal.returns
 unfolding text_starts starts_from refusal_texts
 returns c = refl
-
-pub starts-spec : {M : Type 1} → statement M
-starts-spec = tie.close (tie.spec returns)
