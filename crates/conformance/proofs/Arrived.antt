@@ -11,7 +11,6 @@ use lib.Seq.{ext_get_or}
 use borrow.Author.Tests.{eqb-true}
 use Rattle.parity.proofs.Tests.{clash, and_left, and_right}
 use Rattle.paper.specs.Paper as paper
-use Rattle.gtb.specs.declared.Shape.{Shape}
 use Rattle.session.specs.declared.Session.{Session}
 use Rattle.session.specs.Session.{pages_of, lowest_of, consistent}
 use Rattle.gtb.proofs.Judging.{passes, Passed, judged_elim, judged_map, judged_once}

@@ -1,10 +1,9 @@
 -- Arrivals one after the other are a run, and so are bundles.
 use mathlib.Core.Path.{◌≡◌, refl, sym, ap, ◌∙◌, subst}
 use mathlib.Core.List.{List, [], ◌∷◌, ◌++◌}
-use mathlib.Core.Logic.{◌⊎◌, inl, inr, ⊎_elim}
-use Prim.Native.Nat.{ℕ, zero, suc, ◌+◌, ◌*◌, ◌<◌, ◌≤◌}
+use Prim.Native.Nat.{ℕ, zero, suc, ◌+◌, ◌<◌}
 use native.Mathlib.Omega.{arith}
-use lib.ListN.{length, get_or, take, drop}
+use lib.ListN.{length}
 use Rattle.paper.specs.Paper as paper
 use Rattle.paper.specs.Bundle.{Bundles, none, more}
 use Rattle.conformance.proofs.Demands.{demand3}

@@ -82,11 +82,11 @@ words_chain : {s : paper.Shape} {σ end : paper.Session}
     {lines : List (List ℕ)} {words : List ℕ} {arrivals : List paper.Arrival}
     → Kept s σ → Arrivals s lines arrivals → paper.WordLines σ lines words end → Chain σ arrivals end
 words_chain kept ends stop = chains.stop refl
-words_chain kept (brings {line = line} has others) (more {answer = answer} x xs) =
+words_chain kept (brings {line = line} has others) (more {next = next} {answer = answer} x xs) =
     let (r, arrives, answer-is, session-is) = with_values kept.shape has x in
-    chains.step arrives (sym session-is) (words_chain (line_kept line answer kept x) others xs)
-words_chain kept (skips {line = line} none others) (more {answer = answer} x xs) =
-    chains.from (sym (without none x).1) (words_chain (line_kept line answer kept x) others xs)
+    chains.step arrives (sym session-is) (words_chain {σ = next} (line_kept line answer kept x) others xs)
+words_chain kept (skips {line = line} none others) (more {next = next} {answer = answer} x xs) =
+    chains.from (sym (without none x).1) (words_chain {σ = next} (line_kept line answer kept x) others xs)
 
 -- session j gets arrival j, which is answered so and leaves the next
 abbrev Goes : List paper.Arrival → (ℕ → paper.Session) → (ℕ → List ℕ) → Type 0
@@ -101,7 +101,7 @@ words_answers : {s : paper.Shape} {σ end : paper.Session}
     → paper.WordLines σ lines words end → session 0 ≡ σ → Goes arrivals session answer → words ≡ lines_for brought answer
 words_answers session answer kept ends stop first goes = refl
 words_answers {s} {σ} session answer kept (brings {line = line} {values = xs} {arrivals = rest} has others)
-    (more {answer = given} x later) first goes =
+    (more {next = next'} {answer = given} x later) first goes =
     let (word', scratch', arrives') = goes 0 (zero-lt-suc (length rest)) in
     let a : paper.Arrived = record { session = session 1; word = word'; scratch = scratch'; answer = answer 0 } in
     let (r, arrives, answer-is, session-is) = with_values kept.shape has x in
@@ -110,13 +110,13 @@ words_answers {s} {σ} session answer kept (brings {line = line} {values = xs} {
     (subst (λ (τ : paper.Session). paper.Arriving τ (word_arrival s xs) a) first arrives') in
     let next = sym (session-is ∙ ap (λ (z : paper.Arrived). z.session) same) in
     let texts =
-    words_answers (λ j. session (suc j)) (λ j. answer (suc j)) (line_kept line given kept x) others later next
+    words_answers {σ = next'} (λ j. session (suc j)) (λ j. answer (suc j)) (line_kept line given kept x) others later next
     (λ j l. goes (suc j) (suc-le-suc l)) in
     let text = answer-is ∙ ap (λ (z : paper.Arrived). z.answer) same in
     λ i. paper.answer_line (text i) ++ texts i
-words_answers session answer kept (skips {line = line} none others) (more {answer = given} x later) first goes =
+words_answers session answer kept (skips {line = line} none others) (more {next = next'} {answer = given} x later) first goes =
     let (text, stays) = without none x in
-    let texts = words_answers session answer (line_kept line given kept x) others later (first ∙ sym stays) goes in
+    let texts = words_answers {σ = next'} session answer (line_kept line given kept x) others later (first ∙ sym stays) goes in
     λ i. paper.answer_line (text i) ++ texts i
 
 -- ---- lines 1 to 3 pass

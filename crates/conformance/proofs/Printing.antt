@@ -20,7 +20,7 @@ use Rattle.lines.specs.Text.{same_bytes, names_shape, names_word, names_outcome,
 use Rattle.lines.specs.Content.{Spelled, Unreadable}
 use Rattle.lines.proofs.Same.{same_equal, equal_same}
 use Rattle.session.specs.declared.Session.{Session}
-use Rattle.session.specs.Session.{plain, fresh_of, fresh_status}
+use Rattle.session.specs.Session.{plain, fresh_of}
 use Rattle.capture.specs.declared.Expected.TheVariants as expected
 use Rattle.capture.specs.declared.Phase.TheVariants.{ShapeValues, WordNames, Words}
 use Rattle.capture.specs.declared.Tally.{Tally}
