@@ -1,10 +1,7 @@
 -- `syndrome::add_rows` meets its contract, which with `row` for the first q is the loop's invariant.
 use borrow.Author.Rules.{rules}
-use Prim.Native.Nat.{◌+◌, ◌-◌, ◌*◌, ◌≤◌}
 use native.Mathlib.Omega.{arith}
-use Rattle.parity.specs.Xor.{◌⊕◌, xor_sum}
-use Rattle.gtb.specs.Square.{at}
-use Rattle.syndrome.specs.Sweep.{Added}
+use Rattle.parity.specs.Xor.{◌⊕◌}
 use Rattle.parity.proofs.Writes.{written_none, written_end}
 use Rattle.syndrome.proofs.Sweeps.{added_entry}
 use Rattle.gtb.proofs.Turns.{row_in, square_le}
@@ -14,7 +11,7 @@ pub loop-row-init : goal.loop-row-init
 loop-row-init c = (search rules, written_none _ _ _)
 
 pub overflow_mul-row : goal.overflow_mul-row
-overflow_mul-row c =    let q = c.args.q in
+overflow_mul-row c = let q = c.args.q in
     omega (arith, row_in c.loop-row.row q c.loop-row-test.true, square_le q c.requires.2)
 
 pub run_sum-requires : goal.run_sum-requires

@@ -1,13 +1,8 @@
 -- `syndrome::add_rows` meets its contract, which with `row` for the first q is the loop's invariant.
-use borrow.Author.Rules.{rules}
-use Prim.Native.Nat.{◌+◌, ◌-◌, ◌*◌, ◌≤◌}
-use native.Mathlib.Omega.{arith}
-use Rattle.parity.specs.Xor.{◌⊕◌, xor_sum}
+use Prim.Native.Nat.{◌+◌, ◌*◌, ◌≤◌}
+use Rattle.parity.specs.Xor.{xor_sum}
 use Rattle.gtb.specs.Square.{at}
 use Rattle.syndrome.specs.Sweep.{Added}
-use Rattle.parity.proofs.Writes.{written_none, written_end}
-use Rattle.syndrome.proofs.Sweeps.{added_entry}
-use Rattle.gtb.proofs.Turns.{row_in, square_le}
 use Rattle.syndrome.proofs.add_rows.Given as goal
 
 abbrev pub invariant-loop-row : goal.invariant-loop-row

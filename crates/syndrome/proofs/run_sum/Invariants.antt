@@ -1,10 +1,7 @@
 -- `syndrome::run_sum` meets its contract, which with i for `count` is the loop's invariant.
-use borrow.Author.Rules.{rules}
-use mathlib.Core.Path.{◌≡◌, sym}
-use Prim.Native.Nat.{◌+◌, ◌-◌, ◌≤◌}
-use native.Mathlib.Omega.{arith}
-use Rattle.parity.specs.Xor.{◌⊕◌, xor_sum}
-use Rattle.parity.proofs.XorSums.{xs_zero, more}
+use mathlib.Core.Path.{◌≡◌}
+use Prim.Native.Nat.{◌+◌, ◌≤◌}
+use Rattle.parity.specs.Xor.{xor_sum}
 use Rattle.gtb.specs.Square.{at}
 use Rattle.syndrome.proofs.run_sum.Given as goal
 

@@ -1,8 +1,6 @@
 -- `syndrome::doubled::lay` meets its contract. The loop's invariant is the contract for the first r rows.
-use Prim.Native.Nat.{◌-◌, ◌≤◌}
 use native.Mathlib.Nat.{le_antisymm}
 use borrow.Author.Rules.{rules}
-use Rattle.syndrome.specs.Sweep.{Doubled}
 use Rattle.syndrome.proofs.Doubles.{doubled_none}
 use Rattle.syndrome.proofs.doubled.lay.Goals as goal
 

@@ -1,7 +1,6 @@
 -- `syndrome::doubled::lay_row` meets its contract: one run, and the same one behind it.
 use Prim.Native.Nat.{◌+◌, ◌*◌, ◌≤◌}
 use native.Mathlib.Omega.{arith}
-use borrow.Author.Rules.{rules}
 use Rattle.gtb.proofs.Turns.{row_in, square_le}
 use Rattle.syndrome.proofs.Doubles.{place_in, doubled_small, doubled_more}
 use Rattle.syndrome.proofs.doubled.lay_row.Goals as goal
@@ -17,7 +16,7 @@ overflow_mul-r c =
     omega (arith, row_small)
 
 pub copy_run-requires : goal.copy_run-requires
-copy_run-requires c =    let p = place_in c.args.r c.args.q c.requires.0 in
+copy_run-requires c = let p = place_in c.args.r c.args.q c.requires.0 in
     let e = c.requires.3.size in
     (omega arith, omega (arith, row_in c.args.r c.args.q c.requires.0))
 
@@ -32,10 +31,10 @@ overflow_mul-r-2 c =
     omega (arith, row_small)
 
 pub copy_run-requires-2 : goal.copy_run-requires-2
-copy_run-requires-2 c =    let p = place_in c.args.r c.args.q c.requires.0 in
+copy_run-requires-2 c = let p = place_in c.args.r c.args.q c.requires.0 in
     let e = c.requires.3.size in
     let kept = c.copy_run.ensures.size in
     (omega arith, omega (arith, row_in c.args.r c.args.q c.requires.0))
 
 pub returns : goal.returns
-returns c =    doubled_more _ _ _ _ _ _ c.requires.3 c.copy_run.ensures c.copy_run-2.ensures
+returns c = doubled_more _ _ _ _ _ _ c.requires.3 c.copy_run.ensures c.copy_run-2.ensures

@@ -1,11 +1,8 @@
 -- `syndrome::doubled::sweep_twice` meets its contract. The loop's invariant is the contract for the first r rows, and `place` is step × r mod q.
-use mathlib.Core.Path.{◌≡◌, ◌∙◌}
-use Prim.Native.Nat.{◌+◌, ◌-◌, ◌*◌, ◌%◌, ◌≤◌}
+use mathlib.Core.Path.{◌∙◌}
+use Prim.Native.Nat.{◌+◌, ◌*◌, ◌≤◌}
 use native.Mathlib.Omega.{arith}
 use borrow.Author.Rules.{rules}
-use Rattle.parity.specs.Xor.{xor_sum}
-use Rattle.gtb.specs.Square.{at}
-use Rattle.syndrome.specs.Sweep.{Added}
 use Rattle.syndrome.proofs.Sweeps.{rounds_none, rounds_more, rounds_end}
 use Rattle.gtb.proofs.Turns.{turn_none, turn_more, turn_lt}
 use Rattle.syndrome.proofs.Doubles.{place_in, doubled_small, run_symbol}
@@ -38,12 +35,12 @@ pub add_mod-place-requires : goal.add_mod-place-requires
 add_mod-place-requires c = (turn_lt _ _ _ _ c.loop-r.invariant.1 c.loop-r-test.true, search rules, search rules)
 
 pub loop-r-preserved : goal.loop-r-preserved
-loop-r-preserved c =    let a = c.args in (
-      search rules,
-      turn_more _ _ _ _ _ c.loop-r.invariant.1 c.add_mod-place.ensures.0,
-      rounds_more _ _ _ _ _ _ _ _ c.loop-r.invariant.2 c.add_run.ensures
-          (λ L. run_symbol a.twice.now (c.loop-r.r * (a.q + a.q)) _ _ _ _ L c.loop-r.invariant.1),
-    )
+loop-r-preserved c = let a = c.args in (
+  search rules,
+  turn_more _ _ _ _ _ c.loop-r.invariant.1 c.add_mod-place.ensures.0,
+  rounds_more _ _ _ _ _ _ _ _ c.loop-r.invariant.2 c.add_run.ensures
+      (λ L. run_symbol a.twice.now (c.loop-r.r * (a.q + a.q)) _ _ _ _ L c.loop-r.invariant.1),
+)
 
 pub returns : goal.returns
 returns c = rounds_end _ c.loop-r.invariant.2 (omega arith)

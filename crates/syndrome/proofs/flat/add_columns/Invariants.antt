@@ -1,13 +1,8 @@
 -- `syndrome::flat::add_columns` meets its contract. The loop's invariant is the contract for the first r rows.
-use mathlib.Core.Path.{refl}
-use Prim.Native.Nat.{◌+◌, ◌-◌, ◌*◌, ◌≤◌}
-use native.Mathlib.Omega.{arith}
-use borrow.Author.Rules.{rules}
+use Prim.Native.Nat.{◌+◌, ◌*◌, ◌≤◌}
 use Rattle.parity.specs.Xor.{xor_sum}
 use Rattle.gtb.specs.Square.{at}
-use Rattle.gtb.proofs.Turns.{row_in, square_le}
 use Rattle.syndrome.specs.Sweep.{Added}
-use Rattle.syndrome.proofs.Sweeps.{rounds_none, rounds_more, rounds_end}
 use Rattle.syndrome.proofs.flat.add_columns.Given as goal
 
 abbrev pub invariant-loop-r : goal.invariant-loop-r
