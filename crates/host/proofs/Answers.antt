@@ -1,15 +1,11 @@
 -- What the entries answer and leave, by the tests passed.
 use mathlib.Core.Path.{◌≡◌, refl, sym, ap, ◌∙◌, subst}
 use mathlib.Core.Bool.{Bool, false, not, cond}
-use mathlib.Core.List.{List, [], ◌∷◌}
-use mathlib.Core.Logic.{⊎_elim}
+use mathlib.Core.List.{List}
 use Prim.Native.Nat.{ℕ, ◌+◌, ◌-◌, ◌^◌, ◌<◌}
-use native.Mathlib.Omega.{arith}
 use lib.ListN.{get_or, take, drop, get_or-map}
 use lib.Seq.{get_or-drop, get_or-take}
 use borrow.Author.Tests.{eq-eqb, ne_eqb}
-use denote.Enum.Declared.{tag_of}
-use types.Run.{OneOf}
 use Rattle.gtb.specs.declared.Shape.{Shape}
 use Rattle.gtb.specs.declared.Refusal.{Refusal}
 use Rattle.gtb.specs.declared.Status.TheVariants.{Done}
@@ -26,7 +22,6 @@ use Rattle.session.specs.Session.{marked, fresh_of, fresh_status}
 use Rattle.session.specs.Arrival.{way_of, the_ways, Page, is_accepted, outcome_values, Arriving}
 use Rattle.session.specs.Steps.{Settling, Keeps, Deciding}
 use Rattle.session.proofs.Opens.{decides_refused, decides_again, decides_new}
-use Rattle.session.specs.contracts.Outcome.{the_type}
 use Rattle.batch.specs.declared.Delivered.{Delivered}
 use Rattle.batch.specs.Batch.{Batching}
 use Rattle.host.specs.Crossing.{shape_in, is_yes, session_of, values_of}
@@ -55,10 +50,10 @@ pub written : (session session' : List ℕ) (σ : Session) (o : Outcome) {p k : 
 written session session' σ o h v = rw h v
 
 -- and as it was after every other answer
-pub as_it_was : (session : List ℕ) (σ : Session) (o : Outcome) → OneOf (1 ∷ 2 ∷ []) (tag_of the_type o) → session ≡ session_in session σ o
-as_it_was session σ (Taken p k) h = ⊎_elim (λ e. absurd (omega arith)) (λ e. absurd (omega arith)) h
-as_it_was session σ (Again p k) h = refl
-as_it_was session σ (Refused e) h = refl
+pub as_it_was : (session : List ℕ) (σ : Session) (o : Outcome) → ((p k : ℕ) → o ≡ Taken p k → ⊥) → session ≡ session_in session σ o
+as_it_was session σ (Taken p k) other = absurd (other p k refl)
+as_it_was session σ (Again p k) other = refl
+as_it_was session σ (Refused e) other = refl
 
 -- ---- an arrival's steps at lent values
 module _ {values : List ℕ} {Promise : Session → Arrived → Type 0} where

@@ -1,10 +1,10 @@
 -- What crosses is what the paper asks: shapes and sessions as their values, answers as their numbers.
 use mathlib.Core.Path.{◌≡◌, refl, sym, ap, ◌∙◌, subst, subst₂}
 use mathlib.Core.Bool.{Bool, true, false, cond}
-use mathlib.Core.List.{List, map, ◌++◌}
-use Prim.Native.Nat.{ℕ, ◌+◌, ◌^◌, ◌<◌, ◌≤◌}
+use mathlib.Core.List.{List, map}
+use Prim.Native.Nat.{ℕ, ◌+◌, ◌^◌}
 use native.Mathlib.Omega.{arith}
-use lib.ListN.{length, get_or, drop, replicate, length-drop, length-replicate, get_or-append, get_or-map}
+use lib.ListN.{length, get_or, length-drop, length-replicate, get_or-append, get_or-map}
 use lib.Seq.{get_or-drop}
 use Rattle.parity.specs.Count.{bit}
 use Rattle.parity.proofs.Sums.{bit_le}

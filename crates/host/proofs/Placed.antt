@@ -1,14 +1,13 @@
 -- Each text stands in the table from its start to the next one, by tests over all numbers.
-use mathlib.Core.Path.{◌≡◌, refl, sym, ap, ◌∙◌}
+use mathlib.Core.Path.{◌≡◌, refl, ◌∙◌}
 use mathlib.Core.Bool.{true}
-use mathlib.Core.List.{List, [], ◌∷◌, ◌++◌}
+use mathlib.Core.List.{List, [], ◌++◌}
 use Prim.Native.Nat.{ℕ, zero, suc, ◌+◌, ◌-◌, ◌^◌, ◌≤◌, ◌<◌}
 use native.Mathlib.Nat.{zero-add, sub-zero, zero-sub, suc-sub-suc}
 use native.Mathlib.Omega.{arith}
 use borrow.Author.Tests.{leb-true, ltb-true}
 use lib.Dec.{leb, ltb}
 use lib.ListN.{length, get_or, take, drop, replicate, drop_of_length-le, get_or-eq_default}
-use lib.Seq.{take-length}
 use Rattle.parity.specs.Count.{all}
 use Rattle.parity.proofs.Tests.{all_elim}
 use Rattle.lines.specs.Text.{same_bytes, pasted}

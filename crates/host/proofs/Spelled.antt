@@ -4,7 +4,7 @@ use mathlib.Core.List.{List, [], ◌∷◌, ◌++◌}
 use Prim.Native.Nat.{ℕ, ◌+◌, ◌^◌, ◌≤◌, ◌<◌, min}
 use native.Mathlib.Nat.{min_comm}
 use native.Mathlib.Omega.{arith}
-use lib.ListN.{length, get_or, take, drop, length-append, length-take, drop_of_length-le}
+use lib.ListN.{length, take, drop, length-append, length-take, drop_of_length-le}
 use lib.Seq.{take_all, length-take-le, get_or-take, ext_get_or}
 use Rattle.lines.specs.Text.{spell, Spells}
 use Rattle.lines.specs.Parse.{Stored, Parsing}

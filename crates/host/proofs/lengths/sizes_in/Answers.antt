@@ -1,8 +1,6 @@
 -- `host::lengths::sizes_in` meets its contract.
 use mathlib.Core.Path.{refl, sym, ◌∙◌}
 use native.Mathlib.Omega.{arith}
-use borrow.Author.Tests.{not-true, not-false}
-use borrow.Author.Rules.{rules}
 use Rattle.gtb.specs.Shape.{Lawful, word_length, info_length, scratch_length}
 use Rattle.paper.specs.Paper as paper
 use Rattle.gtb.proofs.Sizes.{sizes}
@@ -12,7 +10,7 @@ use Rattle.host.proofs.Answers.{length_none, length_some}
 use Rattle.host.proofs.lengths.sizes_in.Goals as goal
 
 pub returns-then-not-is_lawful : goal.returns-then-not-is_lawful
-returns-then-not-is_lawful c =    let is = c.load_shape-shape.ensures in
+returns-then-not-is_lawful c = let is = c.load_shape-shape.ensures in
     let no = sym c.is_lawful.ensures ∙ c.if-not-is_lawful.true in (
       length_asked word_length paper.N _ refl (length_none word_length _ is no),
       length_asked info_length paper.K _ refl (length_none info_length _ is no),

@@ -3,12 +3,11 @@ use mathlib.Core.Path.{◌≡◌, sym, ◌∙◌}
 use native.Mathlib.Omega.{arith}
 use lib.ListN.{length, take}
 use lib.Seq.{length-take-le}
-use borrow.Author.Rules.{rules}
 use Rattle.host.proofs.Spelled.{all_kept, part_kept}
 use Rattle.host.proofs.line.keep.Goals as goal
 
 pub returns-then-count-gt1024 : goal.returns-then-count-gt1024
-returns-then-count-gt1024 c =    let many = c.if-count-gt1024.true in
+returns-then-count-gt1024 c = let many = c.if-count-gt1024.true in
     c.copy.ensures ∙ all_kept _ _ c.args.count c.requires.0 c.requires.1 (omega arith)
 
 pub slice_bounds-copy-end : goal.slice_bounds-copy-end
@@ -22,4 +21,4 @@ copy-requires-2 c =
     omega (arith, part-size, c.requires.1, c.if-count-gt1024.false)
 
 pub returns : goal.returns
-returns c =    c.copy-2.ensures ∙ part_kept _ _ c.args.count c.requires.0 c.if-count-gt1024.false
+returns c = c.copy-2.ensures ∙ part_kept _ _ c.args.count c.requires.0 c.if-count-gt1024.false

@@ -4,7 +4,6 @@ use mathlib.Core.Logic.{inl, inr}
 use Prim.Native.Nat.{◌≤◌}
 use native.Mathlib.Omega.{arith}
 use lib.ListN.{length}
-use borrow.Author.Rules.{rules}
 use Rattle.page.specs.Page.{marks_of}
 use Rattle.page.proofs.Pages.{marks_few}
 use Rattle.host.proofs.Paper.{marks_in_lem}
@@ -26,7 +25,7 @@ overflow_cast-result c =
     record { fits = omega (arith, ap length c.marks-part.ensures.part.marks, few.1) }
 
 pub returns : goal.returns
-returns c =    inr (
-      (λ other. other c.if-marks-data.false),
-      (_, marks_in_lem _ c.load_shape.ensures c.args.«data».now _ c.marks-part.ensures.paper, refl, c.copy.ensures),
-    )
+returns c = inr (
+  (λ other. other c.if-marks-data.false),
+  (_, marks_in_lem _ c.load_shape.ensures c.args.«data».now _ c.marks-part.ensures.paper, refl, c.copy.ensures),
+)

@@ -1,5 +1,4 @@
 -- `host::pages::shaftglimmer_parse_page` meets its contract: what the page reader answers fits.
-use borrow.Author.Rules.{rules}
 use Rattle.paper.specs.Paper as paper
 use Rattle.page.proofs.Pages.{read_fits}
 use Rattle.host.proofs.Paper.{one_list}

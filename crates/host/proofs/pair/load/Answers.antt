@@ -1,11 +1,7 @@
 -- `host::pair::load` meets its contract. The loop's invariant: the symbols loaded and those of the bytes that are left are all symbols.
-use mathlib.Core.Path.{◌≡◌}
-use mathlib.Core.List.{◌++◌}
-use Prim.Native.Nat.{◌*◌, ◌-◌, ◌≤◌}
 use native.Mathlib.Omega.{arith}
-use lib.ListN.{length, take, drop, length-set}
+use lib.ListN.{length-set}
 use borrow.Author.Rules.{rules}
-use Rattle.host.specs.Bytes.{symbols_of}
 use Rattle.host.proofs.Steps.{loaded, all_loaded}
 use Rattle.host.proofs.pair.load.Goals as goal
 

@@ -1,12 +1,9 @@
 -- `host::pair::load` meets its contract. The loop's invariant: the symbols loaded and those of the bytes that are left are all symbols.
 use mathlib.Core.Path.{◌≡◌}
 use mathlib.Core.List.{◌++◌}
-use Prim.Native.Nat.{◌*◌, ◌-◌, ◌≤◌}
-use native.Mathlib.Omega.{arith}
-use lib.ListN.{length, take, drop, length-set}
-use borrow.Author.Rules.{rules}
+use Prim.Native.Nat.{◌*◌, ◌≤◌}
+use lib.ListN.{length, take, drop}
 use Rattle.host.specs.Bytes.{symbols_of}
-use Rattle.host.proofs.Steps.{loaded, all_loaded}
 use Rattle.host.proofs.pair.load.Given as goal
 
 abbrev pub invariant-loop-i : goal.invariant-loop-i

@@ -1,7 +1,6 @@
 -- `host::pair::put_symbol` meets its contract.
 use native.Mathlib.Omega.{arith}
 use lib.ListN.{length-set}
-use borrow.Author.Rules.{rules}
 use Rattle.host.proofs.Steps.{put}
 use Rattle.host.proofs.pair.put_symbol.Goals as goal
 

@@ -1,5 +1,5 @@
 -- `host::pair::read_word` meets its contract. Where the two ways meet, the bytes are those of the restored word, or as they came.
-use mathlib.Core.Path.{ap, ◌∙◌}
+use mathlib.Core.Path.{◌∙◌}
 use Rattle.host.proofs.Pairs.{word_read, put_back, left_alone}
 use Rattle.host.proofs.pair.read_word.Goals.{in-Corrected, in_default}
 use Rattle.host.proofs.pair.read_word.Goals as goal

@@ -3,8 +3,6 @@ use mathlib.Core.Path.{sym, ap, ◌∙◌}
 use Prim.Native.Nat.{ℕ, ◌≤◌, ◌+◌, ◌*◌, ◌^◌}
 use native.Mathlib.Omega.{arith}
 use lib.Seq.{length-take-le}
-use borrow.Author.Tests.{not-true, not-false}
-use borrow.Author.Rules.{rules}
 use Rattle.gtb.specs.declared.Refusal.{Refusal}
 use Rattle.gtb.specs.Answer.{refusal_number}
 use Rattle.gtb.specs.Shape.{Lawful, standard}
@@ -15,7 +13,7 @@ use Rattle.host.proofs.Pairs.{page_shape, page_length, page_past}
 use Rattle.host.proofs.pair.shaftglimmer_read_page.Goals as goal
 
 pub returns-then-not-is_lawful : goal.returns-then-not-is_lawful
-returns-then-not-is_lawful c =    c.refused.ensures ∙ ap (λ (e : Refusal). 2 ^ 31 + refusal_number e) c.shape_refusal.ensures
+returns-then-not-is_lawful c = c.refused.ensures ∙ ap (λ (e : Refusal). 2 ^ 31 + refusal_number e) c.shape_refusal.ensures
     ∙ sym (ap read_number (page_shape _ _ (sym c.is_lawful.ensures ∙ c.if-not-is_lawful.true)))
 
 pub info_length-size-requires : goal.info_length-size-requires

@@ -3,8 +3,6 @@ use mathlib.Core.Path.{sym, ◌∙◌, ap}
 use Prim.Native.Nat.{◌≤◌, ◌+◌, ◌^◌}
 use native.Mathlib.Omega.{arith}
 use lib.Seq.{length-take-le}
-use borrow.Author.Tests.{not-true, not-false}
-use borrow.Author.Rules.{rules}
 use Rattle.gtb.specs.declared.Refusal.{Refusal}
 use Rattle.gtb.specs.Answer.{refusal_number}
 use Rattle.gtb.specs.Shape.{Lawful, standard}
@@ -13,7 +11,7 @@ use Rattle.host.proofs.Pairs.{word_shape, word_length_lem, word_refused}
 use Rattle.host.proofs.pair.shaftglimmer_read_word.Goals as goal
 
 pub returns-then-not-is_lawful : goal.returns-then-not-is_lawful
-returns-then-not-is_lawful c =    word_refused _ _ (word_shape _ _ (sym c.is_lawful.ensures ∙ c.if-not-is_lawful.true))
+returns-then-not-is_lawful c = word_refused _ _ (word_shape _ _ (sym c.is_lawful.ensures ∙ c.if-not-is_lawful.true))
     (c.refused.ensures ∙ ap (λ (e : Refusal). 2 ^ 31 + refusal_number e) c.shape_refusal.ensures)
 
 pub word_length-size-requires : goal.word_length-size-requires
@@ -39,8 +37,7 @@ slice_bounds-read_word-end c = sym (length-take-le _ _ c.if-size-le-FEW.true)
 
 pub read_word-requires : goal.read_word-requires
 read_word-requires c =
-    let legal : Lawful (standard c.args.q c.args.n c.args.b) = sym c.is_lawful.ensures ∙ c.if-not-is_lawful.false in
-    (
+    let legal : Lawful (standard c.args.q c.args.n c.args.b) = sym c.is_lawful.ensures ∙ c.if-not-is_lawful.false in (
       legal,
       rw c.word_length-size.ensures at c.if-word-size.false,
       length-take-le _ _ c.if-size-le-FEW.true ∙ c.word_length-size.ensures,
@@ -64,8 +61,7 @@ slice_bounds-read_word-end-2 c =
 pub read_word-requires-2 : goal.read_word-requires-2
 read_word-requires-2 c =
     let legal : Lawful (standard c.args.q c.args.n c.args.b) = sym c.is_lawful.ensures ∙ c.if-not-is_lawful.false in
-    let room : c.word_length-size.result ≤ 961 = omega (arith, c.word_length-size.ensures, (sizes _ legal).word) in
-    (
+    let room : c.word_length-size.result ≤ 961 = omega (arith, c.word_length-size.ensures, (sizes _ legal).word) in (
       legal,
       rw c.word_length-size.ensures at c.if-word-size.false,
       length-take-le _ _ room ∙ c.word_length-size.ensures,

@@ -1,12 +1,9 @@
 -- `host::pair::store` meets its contract. The loop's invariant: the bytes stored and those of the symbols that are left are all bytes.
 use mathlib.Core.Path.{◌≡◌}
 use mathlib.Core.List.{◌++◌}
-use Prim.Native.Nat.{◌*◌, ◌-◌, ◌≤◌}
-use native.Mathlib.Omega.{arith}
+use Prim.Native.Nat.{◌*◌, ◌≤◌}
 use lib.ListN.{length, take, drop}
-use borrow.Author.Rules.{rules}
 use Rattle.host.specs.Bytes.{bytes_of}
-use Rattle.host.proofs.Steps.{stored, all_stored}
 use Rattle.host.proofs.pair.store.Given as goal
 
 abbrev pub invariant-loop-i : goal.invariant-loop-i

@@ -1,7 +1,6 @@
 -- `host::pair::symbol_at` meets its contract: a byte is below 256.
 use Prim.Native.Nat.{◌+◌}
 use native.Mathlib.Omega.{arith}
-use borrow.Author.Rules.{rules}
 use Rattle.host.proofs.pair.symbol_at.Goals as goal
 
 pub overflow_cast-result : goal.overflow_cast-result

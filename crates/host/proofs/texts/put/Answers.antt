@@ -1,10 +1,9 @@
 -- `host::texts::put` meets its contract: the text stands in the table between two starts, and there is room for it.
-use mathlib.Core.Path.{ap, ◌∙◌}
+use mathlib.Core.Path.{ap}
 use native.Mathlib.Omega.{arith}
 use lib.ListN.{length}
 use Rattle.host.proofs.Placed.{placed, text_short, copied}
 use Rattle.host.proofs.texts.put.Goals as goal
-
 
 pub slice_bounds-put_text-count : goal.slice_bounds-put_text-count
 slice_bounds-put_text-count c = (placed c.args.refusal c.texts-all.ensures c.starts-starts.ensures c.requires.0).rises
