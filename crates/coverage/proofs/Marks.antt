@@ -4,10 +4,11 @@ use mathlib.Core.Bool.{Bool, true, false}
 use mathlib.Core.List.{List}
 use Prim.Native.Nat.{ℕ, ◌+◌, ◌<◌, ◌≤◌}
 use native.Mathlib.Omega.{arith}
-use lib.Dec.{eqb}
+use lib.Dec.{eqb, ltb}
 use lib.ListN.{length, get_or, set}
+use borrow.Author.Tests.{lt-ltb, le-ltb}
 use Rattle.parity.specs.Count.{bit, count}
-use Rattle.parity.proofs.Sums.{bit_le, count_zero, count_more, count_bound, count_cong}
+use Rattle.parity.proofs.Sums.{bit_true, bit_false, bit_le, count_zero, count_more, count_bound, count_cong}
 use Rattle.parity.proofs.Lists.{at_tabulate}
 use Rattle.parity.proofs.Writes.{begins_none, begins_more, begins_all}
 use Rattle.gtb.specs.declared.Refusal.{Refusal}
@@ -15,6 +16,13 @@ use Rattle.session.specs.declared.Session.{Session}
 use Rattle.coverage.specs.declared.Covered.TheVariants.{Functions, Refused}
 use Rattle.coverage.specs.Coverage.{is_called, cover_byte, cover_bytes, cover_count, cover_of, Covering}
 use Rattle.coverage.specs.Steps.{Marking}
+
+-- a count above k or not, as a byte
+pub byte_yes : (k calls : ℕ) → k < calls → 1 ≡ bit (ltb k calls)
+byte_yes k calls l = sym (bit_true (lt-ltb k calls l))
+
+pub byte_no : (k calls : ℕ) → calls ≤ k → 0 ≡ bit (ltb k calls)
+byte_no k calls l = sym (bit_false (le-ltb k calls l))
 
 -- no function yet
 pub marking_none : (calls bytes : List ℕ) → length bytes ≡ 256 → Marking calls 0 bytes 0

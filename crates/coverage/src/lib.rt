@@ -49,6 +49,7 @@ fn mark(calls: &[u32; Session::FUNCTIONS], bytes: &mut [u8]) -> u32
 }
 
 // Yes is 1, no is 0.
+#[tactic(auto, using(crate::proofs::Marks::byte_yes, crate::proofs::Marks::byte_no))]
 fn covers(calls: u32) -> u8
     ensures { result ≡ bit (ltb 0 calls) }
 {
