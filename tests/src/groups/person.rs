@@ -236,16 +236,27 @@ fn forbidden(program: &Program) -> Verdict {
     Ok(1)
 }
 
-/// A file whose name begins with a dash, or has spaces or bytes that are no text, is read all the same.
+/// A file whose name begins with a dash, or has spaces, is read all the same. One whose name is no text can't be opened,
+/// and is read as standard input.
 fn odd_names(program: &Program) -> Verdict {
     let folder = env::temp_dir().join(format!("shaftglimmer-names-{}", std::process::id()));
     fs::create_dir_all(&folder).map_err(|error| error.to_string())?;
     let names: [&[u8]; 5] = [b"./-x", b"./--help", b"a capture", b"line\nbreak", b"\xff\xfe"];
-    let result = names.iter().try_for_each(|name| {
-        let name: &OsStr = std::os::unix::ffi::OsStrExt::from_bytes(name);
-        fs::write(folder.join(name), CAPTURE).map_err(|error| format!("{name:?}: {error}"))?;
+    let result = names.iter().try_for_each(|bytes| {
+        let name: &OsStr = std::os::unix::ffi::OsStrExt::from_bytes(bytes);
+        let file = folder.join(name);
+        fs::write(&file, CAPTURE).map_err(|error| format!("{name:?}: {error}"))?;
         let written = program.run_command(&[name], b"", |command| {
             command.current_dir(&folder);
+        })?;
+        if std::str::from_utf8(bytes).is_ok() {
+            return expect_tally(CAPTURE.as_bytes(), &written);
+        }
+        let said = String::from_utf8_lossy(bytes);
+        expect_refusal(&written, &said, "Invalid or incomplete multibyte or wide character")?;
+        let file = File::open(&file).map_err(|error| format!("{name:?}: {error}"))?;
+        let written = program.run_command(&[], b"", |command| {
+            command.stdin(file);
         })?;
         expect_tally(CAPTURE.as_bytes(), &written)
     });
