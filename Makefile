@@ -44,7 +44,7 @@ bench: target/bin/tally target/staticlib/libhost.a
 # Made where they are missing; make brings them up to date.
 target/bin/tally:
 	@echo "There is no program here yet. First it is proved, with every crate below it, and then it is built."
-	@echo "That takes a quarter of an hour and more. Each function is named when it is proved."
+	@echo "That takes a while. Each function is named when it is proved."
 	$(MAKE) --no-print-directory program
 
 target/staticlib/libhost.a:
