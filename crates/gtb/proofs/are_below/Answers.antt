@@ -2,7 +2,6 @@
 use borrow.Author.Rules.{rules}
 use borrow.Author.Tests.{lt-ltb, le-ltb}
 use mathlib.Core.Bool.{Bool, false, ◌&&◌, and-true, and-false}
-use mathlib.Core.Logic.{⊎_elim}
 use mathlib.Core.Path.{◌≡◌, ◌∙◌, sym, ap}
 use Prim.Native.Nat.{ℕ, ◌+◌, ◌*◌, ◌%◌, ◌^◌, ◌≤◌, ◌<◌}
 use native.Mathlib.Nat.{one-mul}
@@ -13,6 +12,7 @@ use Rattle.parity.specs.Count.{all}
 use Rattle.parity.proofs.Tests.{all_more, all_zero}
 use Rattle.gtb.specs.Square.{at, narrow}
 use Rattle.gtb.proofs.are_below.Goals as goal
+use Rattle.gtb.proofs.are_below.Goals.{then-symbols-i, else-symbols-i}
 
 -- the code's 1 << b is 2^b, a number from 1 to 2^32
 bound : (b : ℕ) → b ≤ 32 → 1 * 2 ^ b % 2 ^ 64 ≡ 2 ^ b
@@ -59,8 +59,10 @@ loop-i-preserved c = (
   search rules,
   search rules,
   turn _ _ c.loop-i.invariant.3
-      (⊎_elim (λ w. w.fits-is ∙ wide c.loop-i.fits _ _ _ c.loop-i.invariant.2 w.if-symbols-i.true) (λ w. w.fits-is ∙ slim c.loop-i.fits _ _ _ c.loop-i.invariant.2 w.if-symbols-i.false)
-      c.if-symbols-i.branch-raw),
+      (elim c.if-symbols-i.branch [
+        | then-symbols-i w ↦ w.fits-is ∙ wide c.loop-i.fits _ _ _ c.loop-i.invariant.2 w.if-symbols-i.true
+        | else-symbols-i w ↦ w.fits-is ∙ slim c.loop-i.fits _ _ _ c.loop-i.invariant.2 w.if-symbols-i.false
+      ]),
 )
 
 pub returns : goal.returns

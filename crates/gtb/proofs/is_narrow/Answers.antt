@@ -6,4 +6,4 @@ use Rattle.gtb.proofs.is_narrow.Goals as goal
 
 pub returns-then-b-eq32 : goal.returns-then-b-eq32
 returns-then-b-eq32 c = let a = c.args in
-    sym (all_narrow a.b a.symbols.now (omega (arith, c.if-b-eq32.true)) (λ j. omega (arith, c.shared_slice_known-1.given j)))
+    sym (all_narrow a.b a.symbols.now (omega (arith, c.if-b-eq32.true)) (λ j. omega (arith, c.type_inv.symbols j)))

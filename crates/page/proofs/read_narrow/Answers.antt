@@ -21,7 +21,7 @@ tail : (symbols : List ℕ) {r : Bool} → r ≡ zeros (take (length symbols - (
 tail symbols e = ap zeros (sym (rest_part (2 + get_or symbols 1 0) symbols)) ∙ sym e
 
 pub overflow_cast-c : goal.overflow_cast-c
-overflow_cast-c c = omega (arith, c.shared_slice_known-3-1.given 1)
+overflow_cast-c c = omega (arith, c.type_inv.symbols 1)
 
 pub returns-then-number-ge1024 : goal.returns-then-number-ge1024
 unfolding page_of

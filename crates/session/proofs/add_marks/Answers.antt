@@ -16,7 +16,7 @@ pub offset_bounds-marks-i : goal.offset_bounds-marks-i
 offset_bounds-marks-i c = omega (arith, c.well_formed.1.0.1)
 
 pub overflow_cast-f : goal.overflow_cast-f
-overflow_cast-f c = omega (arith, c.shared_slice_known-1.given c.loop-i.i)
+overflow_cast-f c = omega (arith, c.type_inv.marks c.loop-i.i)
 
 pub offset_bounds-calls-f : goal.offset_bounds-calls-f
 offset_bounds-calls-f c =

@@ -20,7 +20,7 @@ bounds-table-place c =
     omega (arith, inside)
 
 pub overflow_cast-result : goal.overflow_cast-result
-overflow_cast-result c = omega (arith, c.shared_slice_known-then-table-ne0-1.given (4 * c.args.j + c.args.t))
+overflow_cast-result c = omega (arith, c.type_inv.table (4 * c.args.j + c.args.t))
 
 pub returns-then-table-ne0 : goal.returns-then-table-ne0
 returns-then-table-ne0 c = (c.requires.1.number c.if-table-ne0.true c.args.j c.args.t c.requires.3 c.requires.2).1
