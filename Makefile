@@ -60,8 +60,10 @@ target/$(soname): target/libshaftglimmer.a include/shaftglimmer.map
 	$(CC) -shared -Wl,-soname,$(soname) -Wl,--version-script,include/shaftglimmer.map -Wl,-z,defs -Wl,-z,now -Wl,-z,noexecstack \
 		-Wl,--whole-archive $< -Wl,--no-whole-archive -o $@
 
+# A copy and no link: rt ci refuses a checkout that has links in it.
 target/libshaftglimmer.so: target/$(soname)
-	ln -sf $(soname) $@
+	rm -f $@
+	cp $< $@
 
 examples: $(patsubst examples/%.c,target/examples/%,$(wildcard examples/*.c))
 
