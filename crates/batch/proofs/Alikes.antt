@@ -9,8 +9,7 @@ use borrow.Author.Tests.{ne_eqb}
 use Rattle.parity.proofs.Tests.{and_no_right}
 use Rattle.gtb.specs.declared.Shape.{Shape}
 use Rattle.gtb.specs.declared.Refusal.{Refusal}
-use Rattle.gtb.specs.declared.Status.{Status}
-use Rattle.gtb.specs.declared.Status.TheVariants.{Done, Refused}
+use Rattle.std.specs.Prelude.{Result, Ok, Err}
 use Rattle.gtb.specs.Shape.{kept_checks, scratch_length}
 use Rattle.gtb.specs.Answer.{unless}
 use Rattle.gtb.specs.Alike.{reslope, Alike}
@@ -36,7 +35,7 @@ module _ (σ : Session) (slopes : List ℕ) (alike : Alike σ.shape slopes) (k :
   pub batch_status_alike : (outcomes : List ℕ) → batch_status (resloped σ slopes) k words scratch outcomes ≡ batch_status σ k words scratch outcomes
   unfolding batch_status whole_run scratch_length kept_checks
   batch_status_alike outcomes =
-      ap (λ (t : Status). past t Refused (unless (all_fit σ.shape words scratch outcomes) (Refused Refusal.Length) Done)) (arrival_status_alike σ slopes alike k)
+      ap (λ (t : Result (Unit {0}) Refusal). past t Err (unless (all_fit σ.shape words scratch outcomes) (Err Refusal.Length) (Ok tt))) (arrival_status_alike σ slopes alike k)
 
   arrivals_alike : {words' scratch' outcomes' : List ℕ} {end : Session} → Arrivals σ k words scratch words' scratch' outcomes' end
       → Arrivals (resloped σ slopes) k words scratch words' scratch' outcomes' (resloped end slopes)
@@ -61,9 +60,9 @@ module _ (σ : Session) (slopes : List ℕ) (alike : Alike σ.shape slopes) (k :
   }
 
 -- ---- the scratch of before N7
-pub batch_old : (σ : Session) (k : ℕ) (words scratch outcomes : List ℕ) → arrival_status the_ways σ k ≡ Done
+pub batch_old : (σ : Session) (k : ℕ) (words scratch outcomes : List ℕ) → arrival_status the_ways σ k ≡ Ok tt
     → length scratch ≡ σ.shape.n * σ.shape.q * ((σ.shape.q * σ.shape.q + 31) / 32)
-    → batch_status σ k words scratch outcomes ≡ Refused Refusal.Length
+    → batch_status σ k words scratch outcomes ≡ Err Refusal.Length
 unfolding batch_status
 batch_old σ k words scratch outcomes passed e =
     let s : Shape = σ.shape in

@@ -8,8 +8,7 @@ use lib.ListN.{length}
 use borrow.Author.Tests.{eqb-true}
 use Rattle.parity.proofs.Tests.{and_left, and_right}
 use Rattle.gtb.specs.declared.Refusal.{Refusal}
-use Rattle.gtb.specs.declared.Status.{Status}
-use Rattle.gtb.specs.declared.Status.TheVariants as status
+use Rattle.std.specs.Prelude.{Result, Ok, Err}
 use Rattle.gtb.specs.Shape.{word_length, scratch_length}
 use Rattle.gtb.proofs.Answers.{never_done, never_refused, unless_done}
 use Rattle.session.specs.declared.Session.{Session}
@@ -25,7 +24,7 @@ use Rattle.batch.proofs.Runs.{run_words, same_words}
 
 module _ (σ : Session) (k : ℕ) (words scratch outcomes : List ℕ) where
   -- not turned down: all tests were passed
-  pub status_tested : batch_status σ k words scratch outcomes ≡ status.Done → Tested σ k words scratch outcomes
+  pub status_tested : batch_status σ k words scratch outcomes ≡ Ok tt → Tested σ k words scratch outcomes
   unfolding batch_status
   status_tested h =
       let (passed, h₁) = past_done (arrival_status the_ways σ k) _ h in
@@ -39,7 +38,7 @@ module _ (σ : Session) (k : ℕ) (words scratch outcomes : List ℕ) where
       }
 
   -- ---- the two answers
-  pub batching_refused : {r : Delivered} (e : Refusal) → batch_status σ k words scratch outcomes ≡ status.Refused e → r.session ≡ σ → r.status ≡ status.Refused e
+  pub batching_refused : {r : Delivered} (e : Refusal) → batch_status σ k words scratch outcomes ≡ Err e → r.session ≡ σ → r.status ≡ Err e
       → Batching σ k words scratch outcomes words scratch outcomes r
   batching_refused e h same is = record {
     status = is ∙ sym h;
@@ -47,7 +46,7 @@ module _ (σ : Session) (k : ℕ) (words scratch outcomes : List ℕ) where
     done = λ h'. absurd (never_done e (sym is ∙ h'));
   }
 
-  pub batching_done : {r : Delivered} {words' scratch' outcomes' : List ℕ} → batch_status σ k words scratch outcomes ≡ status.Done → r.status ≡ status.Done
+  pub batching_done : {r : Delivered} {words' scratch' outcomes' : List ℕ} → batch_status σ k words scratch outcomes ≡ Ok tt → r.status ≡ Ok tt
       → Arrivals σ k words scratch words' scratch' outcomes' r.session → Batching σ k words scratch outcomes words' scratch' outcomes' r
   batching_done h is arrivals = record {
     status = is ∙ sym h;
@@ -71,11 +70,11 @@ module _ {σ : Session} {k : ℕ} {words scratch outcomes : List ℕ} {words₁ 
         a.outcomes_left ∙ ap values_of answers ∙ sym b.outcomes_left,
       )
 
-  unique_by : {r₁ r₂ : Delivered} (answer : Status) → batch_status σ k words scratch outcomes ≡ answer
+  unique_by : {r₁ r₂ : Delivered} (answer : Result (Unit {0}) Refusal) → batch_status σ k words scratch outcomes ≡ answer
       → Batching σ k words scratch outcomes words₁ scratch₁ outcomes₁ r₁ → Batching σ k words scratch outcomes words₂ scratch₂ outcomes₂ r₂
       → (r₁.session ≡ r₂.session) × (words₁ ≡ words₂) × (scratch₁ ≡ scratch₂) × (outcomes₁ ≡ outcomes₂)
-  unique_by status.Done h a b = arrivals_unique (status_tested σ k words scratch outcomes h) (a.done (a.status ∙ h)) (b.done (b.status ∙ h))
-  unique_by (status.Refused e) h a b =
+  unique_by (Ok tt) h a b = arrivals_unique (status_tested σ k words scratch outcomes h) (a.done (a.status ∙ h)) (b.done (b.status ∙ h))
+  unique_by (Err e) h a b =
       let x = a.refused e (a.status ∙ h) in
       let y = b.refused e (b.status ∙ h) in
       (x.0 ∙ sym y.0, x.1 ∙ sym y.1, x.2 ∙ sym y.2, x.3 ∙ sym y.3)
@@ -84,4 +83,4 @@ module _ {σ : Session} {k : ℕ} {words scratch outcomes : List ℕ} {words₁ 
       → (r₁ ≡ r₂) × (words₁ ≡ words₂) × (scratch₁ ≡ scratch₂) × (outcomes₁ ≡ outcomes₂)
   batching_unique a b =
       let u = unique_by (batch_status σ k words scratch outcomes) refl a b in
-      (ap₂ (λ (τ : Session) (answer : Status). record { session = τ; status = answer }) u.0 (a.status ∙ sym b.status), u.1, u.2, u.3)
+      (ap₂ (λ (τ : Session) (answer : Result (Unit {0}) Refusal). record { session = τ; status = answer }) u.0 (a.status ∙ sym b.status), u.1, u.2, u.3)

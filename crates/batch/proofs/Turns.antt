@@ -14,8 +14,8 @@ use Rattle.gtb.specs.declared.Shape.{Shape}
 use Rattle.gtb.specs.declared.Refusal.{Refusal}
 use Rattle.gtb.specs.Shape.{word_length, info_length, scratch_length}
 use Rattle.session.specs.declared.Session.{Session}
-use Rattle.session.specs.declared.Opening.{Opening}
-use Rattle.session.specs.declared.Opening.TheVariants as opening
+use Rattle.session.specs.declared.Brought.{Brought}
+use Rattle.std.specs.Prelude.{Result, Ok, Err, Some, None}
 use Rattle.session.specs.declared.Outcome.{Outcome}
 use Rattle.session.specs.declared.Outcome.TheVariants.{Again, Refused}
 use Rattle.session.specs.declared.Arrived.{Arrived}
@@ -28,41 +28,40 @@ use Rattle.session.proofs.Arrive.{decides_arrives}
 use Rattle.session.proofs.Opens.{decides_refused, decides_again, decides_new}
 use Rattle.session.proofs.Progress.{after_consistent}
 use Rattle.session.proofs.Joins.{run_join}
-use Rattle.batch.specs.declared.Seen.TheVariants.{Known, New}
 use Rattle.batch.specs.Batch.{words_in, word_at, arrival_of, first_arrivals, values_of, Arrivals}
 use Rattle.batch.specs.Steps.{Tested, OneArrival, Looked}
 use Rattle.batch.proofs.Runs.{Place, words_before, front_part}
 use Rattle.batch.proofs.Outcomes.{values_size, values_none, values_more}
 
 -- ---- one word
-module _ {way : Way} {s : Shape} {word word' came symbols : List ℕ} {found : Opening} (keeps : Keeps way s word word' came symbols found) where
+module _ {way : Way} {s : Shape} {word word' came symbols : List ℕ} {found : Result Brought Refusal} (keeps : Keeps way s word word' came symbols found) where
   -- by the session's own shape
   own : (σ : Session) → σ.shape ≡ s → Keeps way σ.shape word word' came symbols found
   own σ same = subst (λ (x : Shape). Keeps way x word word' came symbols found) (sym same) keeps
 
   module _ {taken : List Bool} {values : List ℕ} where
-    pub looked_refused : {e : Refusal} {restored : Bool} → found ≡ opening.Refused e restored → values ≡ outcome_values (Refused e) → Looked way s taken word word' came symbols values Known
+    pub looked_refused : {e : Refusal} → found ≡ Err e → values ≡ outcome_values (Refused e) → Looked way s taken word word' came symbols values None
     looked_refused {e} h written = record {
       known = λ _ σ same marks. record { answer = Refused e; decides = decides_refused σ (own σ same) h (refl, refl); written = written };
-      new = λ number c k is. let z : ◌≡◌ {A = ℕ} 0 1 = cc in absurd (omega arith);
+      new = λ page is. let z : ◌≡◌ {A = ℕ} 0 1 = cc in absurd (omega arith);
     }
 
-    module _ {number c k : ℕ} (h : found ≡ opening.Page number c k) where
-      pub looked_again : get_or taken number false ≡ true → values ≡ outcome_values (Again number k) → Looked way s taken word word' came symbols values Known
+    module _ {page : Brought} (h : found ≡ Ok page) where
+      pub looked_again : get_or taken page.number false ≡ true → values ≡ outcome_values (Again page.number page.corrected) → Looked way s taken word word' came symbols values None
       looked_again m written = record {
-        known = λ _ σ same marks. record { answer = Again number k; decides = decides_again σ (own σ same) h (ap (λ (xs : List Bool). get_or xs number false) marks ∙ m); written = written };
-        new = λ number' c' k' is. let z : ◌≡◌ {A = ℕ} 0 1 = cc in absurd (omega arith);
+        known = λ _ σ same marks. record { answer = Again page.number page.corrected; decides = decides_again σ (own σ same) h (ap (λ (xs : List Bool). get_or xs page.number false) marks ∙ m); written = written };
+        new = λ other is. let z : ◌≡◌ {A = ℕ} 0 1 = cc in absurd (omega arith);
       }
 
-      pub looked_new : Looked way s taken word word' came symbols values (New number c k)
+      pub looked_new : Looked way s taken word word' came symbols values (Some page)
       looked_new = record {
         known = λ is. let z : ◌≡◌ {A = ℕ} 0 1 = cc in absurd (omega arith);
-        new = λ number' c' k' is. let same : opening.Page number c k ≡ opening.Page number' c' k' = cc in subst (λ (r : Opening). Keeps way s word word' came symbols r) (h ∙ same) keeps;
+        new = λ other is. let same : page ≡ other = cc in subst (λ (r : Result Brought Refusal). Keeps way s word word' came symbols r) (h ∙ ap Ok same) keeps;
       }
 
 -- a page that is new, settled with the session that has these marks
-pub page_arrives : {way : Way} {s : Shape} (σ : Session) {word word' came symbols : List ℕ} {number c k : ℕ} → σ.shape ≡ s → Keeps way s word word' came symbols (opening.Page number c k)
-    → {r : Arrived} {word'' values : List ℕ} → Settling σ (Page number (take (2 + c - 2) (drop 2 symbols)) k) r → word'' ≡ cond (is_accepted r.outcome) word' came → values ≡ outcome_values r.outcome
+pub page_arrives : {way : Way} {s : Shape} (σ : Session) {word word' came symbols : List ℕ} {page : Brought} → σ.shape ≡ s → Keeps way s word word' came symbols (Ok page)
+    → {r : Arrived} {word'' values : List ℕ} → Settling σ (Page page.number (take (2 + page.count - 2) (drop 2 symbols)) page.corrected) r → word'' ≡ cond (is_accepted r.outcome) word' came → values ≡ outcome_values r.outcome
     → OneArrival way σ word r.session word'' values
 page_arrives σ same keeps {r} settled put written = record { answer = r.outcome; decides = decides_new σ (own keeps σ same) refl settled put; written = written }
 

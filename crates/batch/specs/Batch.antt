@@ -1,10 +1,8 @@
 -- A bundle of words: the arrivals of a whole run in one call (RULES 5.3).
-use Rattle.std.specs.Prelude.{◌≡◌, Bool, ◌&&◌, List, [], ◌∷◌, ◌++◌, ℕ, zero, suc, ◌+◌, ◌-◌, ◌*◌, ◌/◌, ◌<◌, eqb, length, take, drop, replicate}
+use Rattle.std.specs.Prelude.{◌≡◌, Bool, ◌&&◌, List, [], ◌∷◌, ◌++◌, ℕ, zero, suc, ◌+◌, ◌-◌, ◌*◌, ◌/◌, ◌<◌, eqb, length, take, drop, replicate, Result, Ok, Err}
 use Rattle.parity.specs.Count.{any}
 use Rattle.gtb.specs.declared.Shape.{Shape}
 use Rattle.gtb.specs.declared.Refusal.{Refusal}
-use Rattle.gtb.specs.declared.Status.{Status}
-use Rattle.gtb.specs.declared.Status.TheVariants.{Done, Refused}
 use Rattle.gtb.specs.Shape.{word_length, scratch_length}
 use Rattle.gtb.specs.Answer.{unless}
 use Rattle.session.specs.declared.Session.{Session}
@@ -32,9 +30,9 @@ abbrev pub all_fit : Shape → List ℕ → List ℕ → List ℕ → Bool
 all_fit s words scratch outcomes = whole_run s words && eqb (length scratch) (scratch_length s) && eqb (length outcomes) 192
 
 -- the tests for the whole call: an arrival's, 1, 18, 11, 16, then 2
-unfoldable pub batch_status : Session → ℕ → List ℕ → List ℕ → List ℕ → Status
+unfoldable pub batch_status : Session → ℕ → List ℕ → List ℕ → List ℕ → Result (Unit {0}) Refusal
 batch_status σ k words scratch outcomes =
-    past (arrival_status the_ways σ k) Refused (unless (all_fit σ.shape words scratch outcomes) (Refused Refusal.Length) Done)
+    past (arrival_status the_ways σ k) Err (unless (all_fit σ.shape words scratch outcomes) (Err Refusal.Length) (Ok tt))
 
 -- word i as an arrival, with the way and the scratch
 abbrev pub arrival_of : Shape → ℕ → List ℕ → List ℕ → ℕ → Arrival
@@ -72,17 +70,17 @@ pub record Arrivals (σ : Session) (k : ℕ) (words scratch words' scratch' outc
 pub record Batching (σ : Session) (k : ℕ) (words scratch outcomes words' scratch' outcomes' : List ℕ) (r : Delivered) : Type 0 where
   pub status : r.status ≡ batch_status σ k words scratch outcomes
   -- turned down: nothing has changed
-  pub refused : (e : Refusal) → r.status ≡ Refused e
+  pub refused : (e : Refusal) → r.status ≡ Err e
       → (r.session ≡ σ) × (words' ≡ words) × (scratch' ≡ scratch) × (outcomes' ≡ outcomes)
   -- otherwise a run of the single arrivals
-  pub done : r.status ≡ Done → Arrivals σ k words scratch words' scratch' outcomes' r.session
+  pub done : r.status ≡ Ok tt → Arrivals σ k words scratch words' scratch' outcomes' r.session
 
 -- bundles one after the other, each with its own way and of its own size: the arrivals and answers of all that are not turned down whole
 pub data Batches : Session → List Arrival → List Outcome → Session → Type 0 where
   none : {σ : Session} → Batches σ [] [] σ
   more : {σ end : Session} {k : ℕ} {words scratch outcomes words' scratch' outcomes' : List ℕ} {r : Delivered} {rest : List Arrival} {answers : List Outcome}
-      → (bundle : Batching σ k words scratch outcomes words' scratch' outcomes' r) → (whole : r.status ≡ Done) → Batches r.session rest answers end
+      → (bundle : Batching σ k words scratch outcomes words' scratch' outcomes' r) → (whole : r.status ≡ Ok tt) → Batches r.session rest answers end
       → Batches σ (arrivals_of σ.shape k words scratch ++ rest) ((bundle.done whole).answers ++ answers) end
   turned : {σ end : Session} {k : ℕ} {words scratch outcomes words' scratch' outcomes' : List ℕ} {r : Delivered} {e : Refusal} {rest : List Arrival} {answers : List Outcome}
-      → Batching σ k words scratch outcomes words' scratch' outcomes' r → r.status ≡ Refused e → Batches r.session rest answers end
+      → Batching σ k words scratch outcomes words' scratch' outcomes' r → r.status ≡ Err e → Batches r.session rest answers end
       → Batches σ rest answers end

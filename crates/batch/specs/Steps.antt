@@ -1,14 +1,12 @@
 -- Contracts of the bundle's private steps.
-use Rattle.std.specs.Prelude.{◌≡◌, Bool, true, List, ℕ, length}
+use Rattle.std.specs.Prelude.{◌≡◌, Bool, true, List, ℕ, length, Option, Some, None, Ok}
 use Rattle.gtb.specs.declared.Shape.{Shape}
 use Rattle.gtb.specs.Shape.{scratch_length}
 use Rattle.session.specs.declared.Session.{Session}
 use Rattle.session.specs.declared.Outcome.{Outcome}
-use Rattle.session.specs.declared.Opening.TheVariants as opening
+use Rattle.session.specs.declared.Brought.{Brought}
 use Rattle.session.specs.Arrival.{Way, outcome_values}
 use Rattle.session.specs.Steps.{Admitted, Keeps, Deciding}
-use Rattle.batch.specs.declared.Seen.{Seen}
-use Rattle.batch.specs.declared.Seen.TheVariants.{Known, New}
 use Rattle.batch.specs.Batch.{whole_run}
 
 -- the whole call has passed its tests
@@ -25,6 +23,6 @@ pub record OneArrival (way : Way) (σ : Session) (word : List ℕ) (σ' : Sessio
   pub written : values' ≡ outcome_values answer
 
 -- a look at it, where these are the page marks: decided, and the session as it was; or a page that is new
-pub record Looked (way : Way) (s : Shape) (taken : List Bool) (word word' came' symbols' values' : List ℕ) (r : Seen) : Type 0 where
-  pub known : r ≡ Known → (σ : Session) → σ.shape ≡ s → σ.taken ≡ taken → OneArrival way σ word σ word' values'
-  pub new : (number c k : ℕ) → r ≡ New number c k → Keeps way s word word' came' symbols' (opening.Page number c k)
+pub record Looked (way : Way) (s : Shape) (taken : List Bool) (word word' came' symbols' values' : List ℕ) (r : Option Brought) : Type 0 where
+  pub known : r ≡ None → (σ : Session) → σ.shape ≡ s → σ.taken ≡ taken → OneArrival way σ word σ word' values'
+  pub new : (page : Brought) → r ≡ Some page → Keeps way s word word' came' symbols' (Ok page)

@@ -9,10 +9,9 @@ ghost use Rattle.batch.specs.Batch.{whole_run, batch_status, Arrivals, Batching}
 ghost use Rattle.batch.specs.Steps.{Tested, Looked};
 
 use gtb::size::{info_length, scratch_length, word_length};
-use gtb::{Refusal, Shape, Status};
-use session::number::put_outcome;
+use gtb::{Refusal, Shape};
 use session::open::open_kept;
-use session::{Opening, Outcome, Session, put_back};
+use session::{Brought, Outcome, Session};
 
 // A run has at most so many words.
 pub const WORDS: usize = 64;
@@ -24,14 +23,7 @@ pub const OUTCOMES: usize = 192;
 #[derive(Clone, Copy)]
 pub struct Delivered {
     pub session: Session,
-    pub status: Status,
-}
-
-// What is left to do for a word: nothing, where it is answered; or a page that is new, by page number, number of marks and symbols changed.
-#[derive(Clone, Copy)]
-enum Seen {
-    Known,
-    New(u32, u32, u32),
+    pub status: Result<(), Refusal>,
 }
 
 // A run of 1 to 64 whole words.
@@ -51,26 +43,30 @@ fn is_run(shape: Shape, words: &[u32]) -> bool
 }
 
 // The tests for the whole call: those of an arrival, then 2.
-fn judge(session: Session, way: u32, words: &[u32], scratch: &[u32], outcomes: &[u32]) -> Status
+fn judge(
+    session: Session,
+    way: u32,
+    words: &[u32],
+    scratch: &[u32],
+    outcomes: &[u32],
+) -> Result<(), Refusal>
     ensures { result ≡ batch_status session way words.now scratch.now outcomes.now }
 {
-    if let Status::Refused(e) = session.arrival_status(way) {
-        return Status::Refused(e);
-    }
+    session.arrival_status(way)?;
     let shape = session.shape;
     if !is_run(shape, words) {
-        return Status::Refused(Refusal::Length);
+        return Err(Refusal::Length);
     }
     if scratch.len() != scratch_length(shape) {
-        return Status::Refused(Refusal::Length);
+        return Err(Refusal::Length);
     }
     if outcomes.len() != OUTCOMES {
-        return Status::Refused(Refusal::Length);
+        return Err(Refusal::Length);
     }
-    Status::Done
+    Ok(())
 }
 
-// One word, past all tests of the call: answered where that leaves the session as it is.
+// One word, past all tests of the call: answered where that leaves the session as it is; else its page, which is new.
 fn look(
     taken: &[bool; Session::PAGES],
     shape: Shape,
@@ -79,22 +75,23 @@ fn look(
     came: &mut [u32],
     symbols: &mut [u32],
     values: &mut [u32],
-) -> Seen
+) -> Option<Brought>
     requires { Openable shape way word.old × (length came.old ≡ length word.old) × (length symbols.old ≡ info_length shape) × (length values.old ≡ 3) }
     ensures { Looked (way_of way) shape taken.now word.old word.new came.new symbols.new values.new result }
 {
     match open_kept(shape, way, word, came, symbols) {
-        Opening::Refused(e, _) => {
-            put_outcome(Outcome::Refused(e), values);
-            Seen::Known
+        Err(e) => {
+            values.copy_from_slice(&Outcome::Refused(e).values());
+            None
         }
-        Opening::Page(number, count, corrected) => {
-            let at = number as usize;
+        Ok(page) => {
+            let at = page.number as usize;
             if taken[at] {
-                put_outcome(Outcome::Again(number, corrected), values);
-                return Seen::Known;
+                let again = Outcome::Again(page.number, page.corrected);
+                values.copy_from_slice(&again.values());
+                return None;
             }
-            Seen::New(number, count, corrected)
+            Some(page)
         }
     }
 }
@@ -114,30 +111,25 @@ fn run(
 {
     let shape = session.shape;
     let size = came.len();
-    let count = words.len() / size;
-    gtb::clear(outcomes);
+    outcomes.fill(0);
     let mut after = session;
-    let mut i = 0;
-    while i < count {
+    for i in 0..words.len() / size {
         let from = i * size;
-        let end = from + size;
         let at = 3 * i;
-        let next = at + 3;
-        i += 1;
-        let word = &mut words[from..end];
-        let values = &mut outcomes[at..next];
+        let word = &mut words[from..from + size];
+        let values = &mut outcomes[at..at + 3];
         let seen = look(&after.taken, shape, way, word, came, symbols, values);
-        let Seen::New(number, marks, corrected) = seen else {
+        let Some(page) = seen else {
             continue;
         };
-        let last = 2 + marks as usize;
-        let arrived = after.settled(number, corrected, &symbols[2..last]);
+        let last = 2 + page.count as usize;
+        let arrived = after.settled(page.number, page.corrected, &symbols[2..last]);
         let outcome = arrived.outcome;
-        put_back(outcome, came, word);
-        put_outcome(outcome, values);
+        outcome.put_back(came, word);
+        values.copy_from_slice(&outcome.values());
         after = arrived.session;
     }
-    gtb::clear(scratch);
+    scratch.fill(0);
     after
 }
 
@@ -152,11 +144,11 @@ pub fn arrive_all(
     ensures { Batching session way words.old scratch.old outcomes.old words.new scratch.new outcomes.new result }
 {
     match judge(session, way, words, scratch, outcomes) {
-        Status::Refused(e) => Delivered {
+        Err(e) => Delivered {
             session,
-            status: Status::Refused(e),
+            status: Err(e),
         },
-        Status::Done => {
+        Ok(()) => {
             let shape = session.shape;
             let size = word_length(shape);
             let info = info_length(shape);
@@ -173,7 +165,7 @@ pub fn arrive_all(
             );
             Delivered {
                 session: after,
-                status: Status::Done,
+                status: Ok(()),
             }
         }
     }

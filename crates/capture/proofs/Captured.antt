@@ -10,11 +10,10 @@ use Rattle.parity.specs.Count.{bit, sum, count, any, all, first_value}
 use Rattle.parity.specs.Lists.{tabulate}
 use Rattle.gtb.specs.declared.Shape.{Shape}
 use Rattle.gtb.specs.declared.Refusal.{Refusal}
-use Rattle.gtb.specs.declared.Status.TheVariants.{Done}
+use Rattle.std.specs.Prelude.{Ok}
 use Rattle.gtb.specs.Shape.{orders, is_order, standard, lawful, slope_of, kept_checks, scratch_length, regular, sloped, fits_slope}
 use Rattle.gtb.specs.Square.{line_of, narrow, syndrome, silent_test}
 use Rattle.gtb.specs.Positions.{info_position, extract_of}
-use Rattle.correction.specs.declared.Decoded.TheVariants.{Corrected}
 use Rattle.correction.specs.Error.{mended}
 use Rattle.correction.specs.Reading.{changes_by, restored_by, accepted_by, read_of}
 use Rattle.correction.proofs.Readings.{read_means}
@@ -32,7 +31,7 @@ use Rattle.capture.proofs.Examples.{example}
 use Rattle.capture.proofs.Printed.{printed}
 
 -- a word that reading accepts, with the page's data digits, brings the page
-accepted_brings : (s : Shape) (p : Sheet) (xs : List ℕ) (k : ℕ) → decode_of s xs ≡ Corrected k → extract_of s (restored s xs) ≡ symbols_of s p
+accepted_brings : (s : Shape) (p : Sheet) (xs : List ℕ) (k : ℕ) → decode_of s xs ≡ Ok k → extract_of s (restored s xs) ≡ symbols_of s p
     → Brings the_ways s (arrival_of s xs) p k
 unfolding is_way way_of
 accepted_brings s p xs k h info =
@@ -69,7 +68,7 @@ abbrev lines : List (List ℕ)
 lines = ascii "5 2 7 3 1 2 6 3 5" ∷ ascii "12 2 7 3 1 2 6 3 5" ∷ ascii "1 0 0 0 1 0 0 0 0" ∷ []
 
 -- the page writer takes the page
-accepted : (i : ℕ) → i < 1 → write_status shape (sheet_at (sheet ∷ []) i).number (sheet_at (sheet ∷ []) i).marks (symbols_of shape (sheet_at (sheet ∷ []) i)) ≡ Done
+accepted : (i : ℕ) → i < 1 → write_status shape (sheet_at (sheet ∷ []) i).number (sheet_at (sheet ∷ []) i).marks (symbols_of shape (sheet_at (sheet ∷ []) i)) ≡ Ok tt
 unfolding lawful regular sloped fits_slope is_order orders all any write_status functions narrow page_symbols
 accepted zero l = refl
 accepted (suc i) l = absurd (omega arith)

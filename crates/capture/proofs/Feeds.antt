@@ -1,18 +1,24 @@
 -- The input fed in pieces.
+use Rattle.std.specs.Prelude.{Some, None}
+use Rattle.std.specs.List.{position_or_len}
+use Rattle.std.proofs.lemmas.List.Quantifiers.{position-Some}
+use Rattle.std.proofs.lemmas.List.Sums.{fails_before_first}
+use Rattle.std.proofs.lemmas.Option.{none-some}
+use native.Mathlib.Numerals.{add-one}
 use mathlib.Core.Path.{◌≡◌, refl, sym, ap, ◌∙◌}
 use mathlib.Core.Logic.{⊎_elim}
-use mathlib.Core.Bool.{true, false}
+use mathlib.Core.Bool.{Bool, true, false}
 use mathlib.Core.List.{List, [], ◌∷◌, ◌++◌, append-nil, append_assoc}
-use Prim.Native.Nat.{ℕ, suc, ◌+◌, ◌-◌, ◌≤◌, ◌<◌}
+use Prim.Native.Nat.{ℕ, suc, ◌+◌, ◌≤◌, ◌<◌}
 use native.Mathlib.Nat.{zero-lt-suc}
 use native.Mathlib.Omega.{arith}
-use borrow.Author.Tests.{ne_eqb, eq-eqb}
-use lib.Dec.{eqb}
-use lib.ListN.{length, get_or, take, drop, length-drop, length-append, take-append-drop}
-use lib.Seq.{drop-length, drop-drop, drop-cons, get_or-take, get_or-drop, length-take-le}
+use borrow.Author.Tests.{ne_eqb, eq-eqb, ltb-false}
+use lib.Dec.{eqb, ltb}
+use lib.ListN.{length, get_or, take, drop, length-append, take-append-drop}
+use lib.Seq.{drop-cons, get_or-take, length-take-le}
 use Rattle.parity.proofs.Tests.{either, clash}
 use Rattle.lines.specs.Text.{newline}
-use Rattle.lines.specs.Parse.{FirstNewline}
+use Rattle.lines.specs.Parse.{first_newline}
 use Rattle.capture.specs.declared.Fault.{Fault}
 use Rattle.capture.specs.declared.Phase.{Phase}
 use Rattle.capture.specs.declared.Phase.TheVariants.{ShapeNames, ShapeValues, WordNames, Words, Ended}
@@ -114,39 +120,35 @@ feed_few (b ∷ bytes) t held =
     (λ (e : eqb b newline ≡ false). rw (feed_byte t held b bytes e) (omega (arith, feed_few bytes t (held ++ (b ∷ [])), length-append held (b ∷ []))))
     (either (eqb b newline))
 
--- ---- a piece of a block, up to the first newline
-abbrev pub piece : List ℕ → ℕ → ℕ → List ℕ
-piece block from to = take (to - from) (drop from block)
+-- ---- what is left of a block, up to its first newline
+abbrev is_newline : ℕ → Bool
+is_newline b = eqb b newline
 
-module _ {block : List ℕ} {from to : ℕ} (t : Tally) (held : List ℕ) (f : FirstNewline block from (length block) to) where
-  parted : drop from block ≡ piece block from to ++ drop to block
-  parted =
-      let all : from + (to - from) ≡ to = omega (arith, f.low) in
-      sym (take-append-drop (to - from) (drop from block))
-      ∙ ap (λ (l : List ℕ). piece block from to ++ l) (drop-drop (to - from) from block ∙ ap (λ (k : ℕ). drop k block) all)
+pub newline_within : (rest : List ℕ) (size : ℕ) → first_newline rest ≡ Some size → size < length rest
+newline_within rest size e = (position-Some is_newline rest size 0 e).0
 
-  piece_length : length (piece block from to) ≡ to - from
-  piece_length = length-take-le (to - from) (drop from block) (rw length-drop (omega (arith, f.high)))
-
-  no_newline : (k : ℕ) → k < length (piece block from to) → get_or (piece block from to) k 0 ≡ newline → ⊥
-  no_newline k l e =
-      let m : k < to - from = rw piece_length at l in
-      f.before (from + k) (omega arith) (omega arith) (sym (get_or-take (to - from) (drop from block) k 0 m ∙ get_or-drop from block k 0) ∙ e)
-
-  feed_piece : feed t held (drop from block) ≡ feed t (held ++ piece block from to) (drop to block)
-  feed_piece = ap (feed t held) parted ∙ feed_run t (piece block from to) held (drop to block) no_newline
-
+module _ (t : Tally) (held rest : List ℕ) where
   -- no newline: all that is left joins the line
-  pub feed_rest : to ≡ length block → feed t held (drop from block) ≡ record { tally = t; held = held ++ piece block from to; answers = [] }
-  feed_rest all =
-      feed_piece
-      ∙ ap (feed t (held ++ piece block from to)) (ap (λ (k : ℕ). drop k block) all ∙ drop-length block)
-      ∙ feed_none t (held ++ piece block from to)
+  pub feed_rest : first_newline rest ≡ None → feed t held rest ≡ record { tally = t; held = held ++ rest; answers = [] }
+  feed_rest e =
+      let n : ℕ = position_or_len is_newline rest in
+      let all : length rest ≤ n =
+      ⊎_elim (λ (h : ltb n (length rest) ≡ true). absurd (none-some n (sym e ∙ rw h))) (λ h. ltb-false n (length rest) h) (either (ltb n (length rest))) in
+      ap (feed t held) (sym (append-nil rest))
+      ∙ feed_run t rest held [] (λ k l h. clash (eq-eqb (get_or rest k 0) newline h) (fails_before_first is_newline rest k 0 (omega arith)))
+      ∙ feed_none t (held ++ rest)
 
   -- a newline: the line is judged
-  pub feed_line : to < length block → feed t held (drop from block) ≡ next (judged_of t (held ++ piece block from to)) (drop (to + 1) block)
-  feed_line l =
-      let one : suc to ≡ to + 1 = omega arith in
-      feed_piece
-      ∙ ap (feed t (held ++ piece block from to)) (drop-cons block to 0 l ∙ ap (λ (k : ℕ). get_or block to 0 ∷ drop k block) one)
-      ∙ feed_end t (held ++ piece block from to) (get_or block to 0) (drop (to + 1) block) (eq-eqb (get_or block to 0) newline (f.found l))
+  pub feed_line : (size : ℕ) → first_newline rest ≡ Some size → feed t held rest ≡ next (judged_of t (held ++ take size rest)) (drop (size + 1) rest)
+  feed_line size e =
+      let p = position-Some is_newline rest size 0 e in
+      let piece = take size rest in
+      let cut : rest ≡ piece ++ get_or rest size 0 ∷ drop (size + 1) rest =
+      sym (take-append-drop size rest) ∙ ap (λ (l : List ℕ). piece ++ l) (rw (add-one size) (drop-cons rest size 0 p.0)) in
+      let few : length piece ≡ size = length-take-le size rest (omega (arith, p.0)) in
+      ap (feed t held) cut
+      ∙ feed_run t piece held (get_or rest size 0 ∷ drop (size + 1) rest)
+      (λ k l h.
+      let m : k < size = rw few at l in
+      clash (eq-eqb (get_or rest k 0) newline (sym (get_or-take size rest k 0 m) ∙ h)) (p.2 k m))
+      ∙ feed_end t (held ++ piece) (get_or rest size 0) (drop (size + 1) rest) p.1

@@ -1,14 +1,17 @@
 -- One line judged: the cases of the definitions.
 use mathlib.Core.Path.{◌≡◌, refl, sym, ap, ◌∙◌}
 use mathlib.Core.Logic.{⊎_elim}
-use mathlib.Core.Bool.{true, false}
+use mathlib.Core.Bool.{Bool, true, false, ◌&&◌}
 use mathlib.Core.List.{List, [], ◌∷◌}
-use Prim.Native.Nat.{ℕ, ◌≤◌, ◌<◌}
+use Prim.Native.Nat.{ℕ, ◌+◌, ◌-◌, ◌≤◌, ◌<◌}
 use native.Mathlib.Omega.{arith}
-use borrow.Author.Tests.{lt-ltb, le-ltb, ne_eqb, eq-eqb}
+use borrow.Author.Tests.{lt-ltb, le-ltb, ne_eqb, eq-eqb, eqb-true, eqb-false}
 use lib.Dec.{eqb, ltb}
-use lib.ListN.{length, get_or, take, replicate, length-replicate}
-use lib.Seq.{length-take-le, get_or-take, ext_get_or, take_all}
+use lib.ListN.{length, get_or, take, drop, drop_of_length-le, replicate, length-replicate}
+use lib.Seq.{length-take-le, get_or-take, ext_get_or}
+use Rattle.std.specs.Str.{bytes_eq}
+use Rattle.std.proofs.lemmas.List.{drop_more}
+use Rattle.std.proofs.lemmas.Slice.Eq.{bytes_eq-Decides}
 use Rattle.parity.proofs.Tests.{either}
 use Rattle.gtb.specs.declared.Shape.{Shape}
 use Rattle.gtb.specs.declared.Refusal.{Refusal}
@@ -17,7 +20,7 @@ use Rattle.gtb.proofs.Sizes.{sizes}
 use Rattle.lines.specs.Text.{same_bytes, names_shape, names_word}
 use Rattle.lines.specs.Content.{Content, Spelled, Unreadable, content_of}
 use Rattle.lines.specs.Parse.{Stored}
-use Rattle.lines.proofs.Same.{differ_same}
+use Rattle.lines.proofs.Same.{tested_same}
 use Rattle.lines.proofs.Contents.{content_spelled}
 use Rattle.session.specs.declared.Session.{Session}
 use Rattle.session.specs.Session.{fresh_of, fresh_status}
@@ -28,7 +31,7 @@ use Rattle.capture.specs.declared.Fault.{Fault}
 use Rattle.capture.specs.declared.Phase.TheVariants.{ShapeValues, WordNames, Words}
 use Rattle.capture.specs.declared.Tally.{Tally}
 use Rattle.capture.specs.declared.Judged.{Judged}
-use Rattle.capture.specs.Judge.{line_content, order_mark, is_marked, is_returned, kept_of, fault_in, passed, fault, begun, shape_in, shaped, worded, brought_by, judged_of, start}
+use Rattle.capture.specs.Judge.{line_content, order_mark, carriage_return, is_marked, is_returned, kept_of, fault_in, passed, fault, begun, shape_in, shaped, worded, brought_by, judged_of, start}
 
 -- ---- lines by length
 pub kept_short : (line : List ℕ) → length line < 16384 → kept_of line ≡ line
@@ -47,14 +50,26 @@ kept_differs line names h none = ⊎_elim (λ (b : ltb (length line) 16384 ≡ t
 
 -- ---- the first three lines
 -- what a line at fault has at its ends
-pub short_marked : (line : List ℕ) → length line < 3 → is_marked line ≡ false
+pub marked_is : {r : Bool} (line : List ℕ) → r ≡ bytes_eq order_mark (take 3 line) → r ≡ is_marked line
 unfolding is_marked
-short_marked line l = differ_same (take 3 line) order_mark (λ e. let z = ap length e in absurd (omega (arith, ap length (take_all 3 line (omega arith)))))
+marked_is {r} line h =
+    let d = bytes_eq-Decides order_mark (take 3 line) in
+    h ∙ tested_same _ (take 3 line) order_mark (λ t. sym (d.0 t), λ e. d.1 (sym e))
 
-pub none_returned : (line : List ℕ) → length line ≡ 0 → is_returned line ≡ false
+returned_at : {r : Bool} (line : List ℕ) (n : ℕ) → n < length line → length line ≤ n + 1 → r ≡ bytes_eq (carriage_return ∷ []) (drop n line) → r ≡ eqb (get_or line n 0) carriage_return
+returned_at {r} line n l m h =
+    let last = get_or line n 0 in
+    let end : drop n line ≡ last ∷ [] = drop_more line n 0 l ∙ ap (λ (rest : List ℕ). last ∷ rest) (drop_of_length-le line m) in
+    let test = h ∙ ap (bytes_eq (carriage_return ∷ [])) end in
+    ⊎_elim
+    (λ (t : eqb last carriage_return ≡ true). rw t (test ∙ ap (λ (b : ℕ). bytes_eq (carriage_return ∷ []) (b ∷ [])) (eqb-true last carriage_return t)))
+    (λ (f : eqb last carriage_return ≡ false). rw f (test ∙ ap (λ (x : Bool). x && true) (ne_eqb carriage_return last (λ e. eqb-false last carriage_return f (sym e)))))
+    (either (eqb last carriage_return))
+
+pub returned_is : {r : Bool} (line : List ℕ) → r ≡ bytes_eq (carriage_return ∷ []) (drop (length line - 1) line) → r ≡ is_returned line
 unfolding is_returned
-none_returned [] e = refl
-none_returned (b ∷ line) e = absurd (omega arith)
+returned_is [] h = h
+returned_is (b ∷ line) h = returned_at (b ∷ line) _ (omega arith) (omega arith) h
 
 module _ {line stored : List ℕ} {count : ℕ} (h : Stored line stored count) where
   pub says : content_of line ≡ Spelled h.values

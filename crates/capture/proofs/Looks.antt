@@ -10,13 +10,13 @@ use Rattle.gtb.specs.declared.Shape.{Shape}
 use Rattle.gtb.specs.declared.Refusal.{Refusal}
 use Rattle.lines.specs.Content.{content_of}
 use Rattle.session.specs.declared.Session.{Session}
-use Rattle.session.specs.declared.Opening.{Opening}
-use Rattle.session.specs.declared.Opening.TheVariants as opening
+use Rattle.std.specs.Prelude.{Result, Ok, Err}
+use Rattle.session.specs.declared.Brought.{Brought}
 use Rattle.session.specs.declared.Outcome.{Outcome}
 use Rattle.session.specs.declared.Outcome.TheVariants.{Again, Refused}
 use Rattle.session.specs.declared.Arrived.{Arrived}
 use Rattle.session.specs.Arrival.{Opened, Page}
-use Rattle.session.specs.Steps.{Settling, told, Readable, Tells}
+use Rattle.session.specs.Steps.{page_brought, Settling, told, Readable, Tells}
 use Rattle.session.proofs.Opens.{told_refused, told_again}
 use Rattle.capture.specs.declared.Phase.{Phase}
 use Rattle.capture.specs.declared.Phase.TheVariants.{Words}
@@ -34,11 +34,11 @@ marks_front : (c : ℕ) (part rest : List ℕ) → 2 + c ≤ length part → tak
 marks_front c part rest l =
     ap (take c) (drop-append-le 2 part rest (omega arith)) ∙ take-append-le c (drop 2 part) rest (rw (length-drop) (omega arith))
 
-told_front : (r : Opening) (part rest : List ℕ) → ((number c k : ℕ) → r ≡ opening.Page number c k → Readable number c part) → told r (part ++ rest) ≡ told r part
-told_front (opening.Page number c k) part rest h = ap (λ (ms : List ℕ). Page number ms k) (marks_front c part rest (h number c k refl).room)
-told_front (opening.Refused e restored) part rest h = refl
+told_front : (r : Result Brought Refusal) (part rest : List ℕ) → ((number c k : ℕ) → r ≡ page_brought number c k → Readable number c part) → told r (part ++ rest) ≡ told r part
+told_front (Ok page) part rest h = ap (λ (ms : List ℕ). Page page.number ms page.corrected) (marks_front page.count part rest (h page.number page.count page.corrected refl).room)
+told_front (Err e) part rest h = refl
 
-pub tells_front : {o o' : Opened} {part : List ℕ} {r : Opening} → Tells o part r → o ≡ o' → (rest : List ℕ) → Tells o' (part ++ rest) r
+pub tells_front : {o o' : Opened} {part : List ℕ} {r : Result Brought Refusal} → Tells o part r → o ≡ o' → (rest : List ℕ) → Tells o' (part ++ rest) r
 tells_front {part = part} {r = r} h same rest = record {
   brought = told_front r part rest h.readable ∙ h.brought ∙ same;
   readable = λ number c k is.
@@ -48,43 +48,42 @@ tells_front {part = part} {r = r} h same rest = record {
 
 -- ---- a word line
 known_settles : {a : Outcome} {symbols : List ℕ} → Settleable Words (Known a) symbols
-known_settles = record { page = λ number c k h. let z : ◌≡◌ {A = ℕ} 0 1 = cc in absurd (omega arith); head = λ h. let z : ◌≡◌ {A = ℕ} 0 1 = cc in absurd (omega arith) }
+known_settles = record { page = λ page h. let z : ◌≡◌ {A = ℕ} 0 1 = cc in absurd (omega arith); head = λ h. let z : ◌≡◌ {A = ℕ} 0 1 = cc in absurd (omega arith) }
 
 -- what the session makes of what is brought
 pub judged : {σ : Session} {o : Opened} {r : Arrived} → Settling σ o r → ◌≡◌ {A = Judged} (record { tally = record { phase = Words; session = r.session }; answer = Word r.outcome }) (arrived σ o)
 judged settled = λ i. record { tally = record { phase = Words; session = settled.session i }; answer = Word (settled.outcome i) }
 
-module _ {s : Shape} (line : List ℕ) {symbols : List ℕ} {found : Opening} (opened : Tells (brought_by s (content_of line)) symbols found) where
+module _ {s : Shape} (line : List ℕ) {symbols : List ℕ} {found : Result Brought Refusal} (opened : Tells (brought_by s (content_of line)) symbols found) where
   -- by the session's own shape
   own : (σ : Session) → σ.shape ≡ s → worded σ (content_of line) ≡ arrived σ (brought_by s (content_of line))
   own σ same = ap (λ (x : Shape). arrived σ (brought_by x (content_of line))) same
 
-  pub looked_refused : {taken : List Bool} {e : Refusal} {restored : Bool} → found ≡ opening.Refused e restored → Looked s taken line symbols (Known (Refused e))
+  pub looked_refused : {taken : List Bool} {e : Refusal} → found ≡ Err e → Looked s taken line symbols (Known (Refused e))
   looked_refused h = record { sure = λ σ same marks. own σ same ∙ sym (judged (told_refused opened σ h)); new = known_settles }
 
-  module _ {taken : List Bool} {number c k : ℕ} (h : found ≡ opening.Page number c k) where
-    pub looked_again : get_or taken number false ≡ true → Looked s taken line symbols (Known (Again number k))
+  module _ {taken : List Bool} {page : Brought} (h : found ≡ Ok page) where
+    pub looked_again : get_or taken page.number false ≡ true → Looked s taken line symbols (Known (Again page.number page.corrected))
     looked_again m = record {
-      sure = λ σ same marks. own σ same ∙ sym (judged (told_again opened σ h (ap (λ (xs : List Bool). get_or xs number false) marks ∙ m)));
+      sure = λ σ same marks. own σ same ∙ sym (judged (told_again opened σ h (ap (λ (xs : List Bool). get_or xs page.number false) marks ∙ m)));
       new = known_settles;
     }
 
-    pub looked_new : Looked s taken line symbols (New number c k)
+    pub looked_new : Looked s taken line symbols (New page)
     looked_new = record {
-      sure = λ σ same marks. own σ same ∙ ap (arrived σ) (sym opened.brought ∙ ap (λ (r : Opening). told r symbols) h);
+      sure = λ σ same marks. own σ same ∙ ap (arrived σ) (sym opened.brought ∙ ap (λ (r : Result Brought Refusal). told r symbols) h);
       new = record {
-        page = λ number' c' k' same.
-            let first : number ≡ number' = cc in
-            let second : c ≡ c' = cc in
-            rw (← first, ← second) (opened.readable number c k h);
-        head = λ same. let z : ◌≡◌ {A = ℕ} 0 1 = cc in absurd (omega arith);
+        page = λ other is.
+            let same : page ≡ other = cc in
+            rw (← same) (opened.readable page.number page.count page.corrected h);
+        head = λ is. let z : ◌≡◌ {A = ℕ} 0 1 = cc in absurd (omega arith);
       };
     }
 
 -- ---- any line
 module _ {t : Tally} {line symbols : List ℕ} where
   pub foretold_head : is_words t.phase ≡ false → Foretold t line symbols Head
-  foretold_head other = record { sure = refl; new = record { page = λ number c k is. let z : ◌≡◌ {A = ℕ} 0 1 = cc in absurd (omega arith); head = λ is. other } }
+  foretold_head other = record { sure = refl; new = record { page = λ page is. let z : ◌≡◌ {A = ℕ} 0 1 = cc in absurd (omega arith); head = λ is. other } }
 
   pub foretold_word : {taken : List Bool} {seen : Seen} → t.phase ≡ Words → t.session.taken ≡ taken → length line < 16384
       → Looked t.session.shape taken line symbols seen → Foretold t line symbols seen

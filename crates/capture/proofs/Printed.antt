@@ -3,7 +3,7 @@ use mathlib.Core.Path.{◌≡◌, refl, sym, ap, ◌∙◌}
 use mathlib.Core.Bool.{Bool, true, false, cond, not}
 use mathlib.Core.Logic.{⊎_elim}
 use mathlib.Core.List.{List, [], ◌∷◌, ◌++◌, map, append-nil, append_assoc}
-use Prim.Native.Nat.{ℕ, zero, suc, ◌<◌, ◌≤◌}
+use Prim.Native.Nat.{ℕ, ◌<◌, ◌≤◌}
 use native.Mathlib.Nat.{le_of_lt}
 use native.Mathlib.Omega.{arith}
 use lib.Dec.{eqb}
@@ -16,6 +16,8 @@ use Rattle.gtb.specs.declared.Shape.{Shape}
 use Rattle.gtb.specs.declared.Refusal.{Refusal}
 use Rattle.gtb.specs.Shape.{standard}
 use Rattle.gtb.specs.Answer.{refusal_number}
+use Rattle.lines.specs.declared.Kind.{Kind}
+use Rattle.lines.specs.declared.Kind.TheVariants as kind
 use Rattle.lines.specs.Text.{ascii, newline, space, decimal, names_outcome, outcome_name, outcome_text}
 use Rattle.lines.specs.Content.{Spelled}
 use Rattle.session.specs.declared.Session.{Session}
@@ -192,17 +194,17 @@ module _ (number fixed : ℕ) (rest : List ℕ) where
       (unbroken_append (b ∷ name ++ space ∷ decimal number) (space ∷ decimal fixed)
       (unbroken_append (b ∷ name) (space ∷ decimal number) plain (decimal_unbroken number)) (decimal_unbroken fixed))
 
-  kind_passed : (kind : ℕ) → second_table (outcome_text kind number fixed ++ rest) ≡ second_table rest
+  kind_passed : (kind : Kind) → second_table (outcome_text kind number fixed ++ rest) ≡ second_table rest
   unfolding outcome_text outcome_name
-  kind_passed zero = name_passed 116 (ascii "aken") (λ e. omega arith) refl
-  kind_passed (suc zero) = name_passed 97 (ascii "gain") (λ e. omega arith) refl
-  kind_passed (suc (suc k)) = name_passed 114 (ascii "efused") (λ e. omega arith) refl
+  kind_passed kind.Taken = name_passed 116 (ascii "aken") (λ e. omega arith) refl
+  kind_passed kind.Again = name_passed 97 (ascii "gain") (λ e. omega arith) refl
+  kind_passed kind.Refused = name_passed 114 (ascii "efused") (λ e. omega arith) refl
 
 outcome_passed : (r : Outcome) (rest : List ℕ) → second_table (outcome_line r ++ rest) ≡ second_table rest
 unfolding outcome_line
-outcome_passed (Taken number k) rest = kind_passed number k rest 0
-outcome_passed (Again number k) rest = kind_passed number k rest 1
-outcome_passed (Refused e) rest = kind_passed (refusal_number e) 0 rest 2
+outcome_passed (Taken number k) rest = kind_passed number k rest kind.Taken
+outcome_passed (Again number k) rest = kind_passed number k rest kind.Again
+outcome_passed (Refused e) rest = kind_passed (refusal_number e) 0 rest kind.Refused
 
 answers_passed : (answers : List Outcome) (rest : List ℕ) → second_table (answer_lines answers ++ rest) ≡ second_table rest
 unfolding answer_lines

@@ -13,7 +13,7 @@ use Rattle.parity.specs.Count.{bit, count}
 use Rattle.parity.proofs.Sums.{sum_le, sum_exchange, sum_term, sum_const, bit_true}
 use Rattle.parity.proofs.Pigeon.{count_one}
 use Rattle.gtb.specs.declared.Shape.{Shape}
-use Rattle.gtb.specs.declared.Status.TheVariants.{Done}
+use Rattle.std.specs.Prelude.{Ok}
 use Rattle.gtb.specs.Shape.{Lawful, standard, scratch_length}
 use Rattle.gtb.specs.Square.{at, Word}
 use Rattle.gtb.proofs.Bounds.{bounds, positive}
@@ -60,7 +60,7 @@ record Stored (s : Shape) (p : Sheet) (word : List ℕ) : Type 0 where
   short : length (spell word) < 16384
 
 -- a page that the page writer accepts has one, its stored word; the scratch is replaced by zeros
-stored : (s : Shape) → Lawful s → (p : Sheet) → write_status s p.number p.marks (symbols_of s p) ≡ Done → (word : List ℕ) × Stored s p word
+stored : (s : Shape) → Lawful s → (p : Sheet) → write_status s p.number p.marks (symbols_of s p) ≡ Ok tt → (word : List ℕ) × Stored s p word
 unfolding is_way way_of
 stored s law p accepted =
     let (a, u) = undamaged s law 0 refl refl p accepted in
@@ -97,7 +97,7 @@ record Written (s : Shape) (pages : List Sheet) : Type 0 where
 
 -- pages that the page writer accepts have such lines, one after the other
 written : (s : Shape) → Lawful s → (pages : List Sheet)
-    → ((i : ℕ) → i < length pages → write_status s (sheet_at pages i).number (sheet_at pages i).marks (symbols_of s (sheet_at pages i)) ≡ Done) → Written s pages
+    → ((i : ℕ) → i < length pages → write_status s (sheet_at pages i).number (sheet_at pages i).marks (symbols_of s (sheet_at pages i)) ≡ Ok tt) → Written s pages
 unfolding arrivals_in lines_text
 written s law [] accepted =
     record { lines = []; each = refl; unbroken = λ i l. absurd (not-suc-le-zero l); arrivals = refl; brings = λ i l. absurd (not-suc-le-zero l); short = omega arith }

@@ -7,8 +7,7 @@ use native.Mathlib.Omega.{arith}
 use lib.Dec.{eqb}
 use lib.ListN.{length, get_or, replicate}
 use Rattle.gtb.specs.declared.Refusal.{Refusal}
-use Rattle.gtb.specs.declared.Status.{Status}
-use Rattle.gtb.specs.declared.Status.TheVariants as status
+use Rattle.std.specs.Prelude.{Result, Ok, Err}
 use Rattle.gtb.specs.Shape.{standard, lawful, shape_refusal, scratch_length}
 use Rattle.gtb.proofs.Answers.{other_refusal, unless_never}
 use Rattle.gtb.proofs.Standard.{slope_foreign}
@@ -30,10 +29,10 @@ use Rattle.capture.specs.declared.Judged.{Judged}
 use Rattle.capture.specs.Judge.{kept_of, passed, fault, named, begun, shape_in, shaped, brought_by, arrived, worded, judged_in, judged_of, start}
 
 -- ---- a line is passed over, or at fault, or begins the session, or is a word line
-fresh_never : (q n b : ℕ) → fresh_status (standard q n b) ≡ status.Refused Refusal.Slope → ⊥
+fresh_never : (q n b : ℕ) → fresh_status (standard q n b) ≡ Err Refusal.Slope → ⊥
 unfolding fresh_status
 fresh_never q n b =
-    unless_never (lawful (standard q n b)) (status.Refused (shape_refusal (standard q n b))) status.Done (λ no h. (slope_foreign q n b).shape no (cc))
+    unless_never (lawful (standard q n b)) (Err (shape_refusal (standard q n b))) (Ok tt) (λ no h. (slope_foreign q n b).shape no (cc))
     (λ h. let z : ◌≡◌ {A = ℕ} 0 1 = cc in omega arith)
 
 module _ (P : Judged → Type 0) (σ : Session) (over : (phase : Phase) → P (passed phase σ)) (wrong : (f : Fault) (e : Refusal) → (e ≡ Refusal.Slope → ⊥) → P (fault σ f e))
@@ -45,9 +44,9 @@ module _ (P : Judged → Type 0) (σ : Session) (over : (phase : Phase) → P (p
   names true phase f = over phase
   names false phase f = malformed f
 
-  shape : (q n b : ℕ) (f : Fault) (r : Status) → (r ≡ status.Refused Refusal.Slope → ⊥) → P (begun σ (standard q n b) r f)
-  shape q n b f status.Done ne = begins q n b
-  shape q n b f (status.Refused e) ne = wrong f e (λ h. ne (ap status.Refused h))
+  shape : (q n b : ℕ) (f : Fault) (r : Result (Unit {0}) Refusal) → (r ≡ Err Refusal.Slope → ⊥) → P (begun σ (standard q n b) r f)
+  shape q n b f (Ok tt) ne = begins q n b
+  shape q n b f (Err e) ne = wrong f e (λ h. ne (ap Err h))
 
   three : (xs : List ℕ) (f g : Fault) (t : Bool) → P (cond t (begun σ (shape_in xs) (fresh_status (shape_in xs)) f) (fault σ g Refusal.Syntax))
   three xs f g true = shape (get_or xs 0 0) (get_or xs 1 0) (get_or xs 2 0) f (fresh_status (shape_in xs)) (fresh_never (get_or xs 0 0) (get_or xs 1 0) (get_or xs 2 0))

@@ -2,25 +2,20 @@
 use mathlib.Core.Path.{◌≡◌, refl, sym, ap, ◌∙◌}
 use mathlib.Core.List.{List, [], ◌∷◌, ◌++◌, map, append_assoc, append-nil}
 use mathlib.Core.Logic.{⊎_elim}
-use Prim.Native.Nat.{ℕ, ◌+◌, ◌*◌, ◌≤◌, ◌<◌}
+use Prim.Native.Nat.{ℕ, zero, suc, ◌+◌, ◌*◌, ◌≤◌, ◌<◌}
 use native.Mathlib.Numerals.{add-one}
 use native.Mathlib.Omega.{arith}
 use borrow.Author.Tests.{ltb-true, ltb-false, ne_eqb}
 use lib.Dec.{eqb, ltb}
 use lib.ListN.{length, get_or, take, drop, length-append, length-take, length-drop, drop_of_length-le}
 use lib.Seq.{take_at, length-take-le, drop-cons}
-use mir.Syntax.{w32}
-use mir.Val.{Val}
-use denote.Plain.{UInt}
-use denote.Array.{Array}
-use denote.Laws.{Is}
 use Rattle.parity.proofs.Tests.{either}
+use Rattle.lines.specs.declared.Kind.{Kind}
+use Rattle.lines.specs.declared.Kind.TheVariants as kind
 use Rattle.lines.specs.Text.{count_text, outcome_text, Put, pasted}
 use Rattle.session.specs.declared.Outcome.{Outcome}
 use Rattle.session.specs.declared.Outcome.TheVariants.{Taken, Again, Refused}
 use Rattle.session.specs.Arrival.{outcome_values}
-use Rattle.session.specs.Steps.{Counts}
-use Rattle.session.proofs.Arrays.{counts}
 use Rattle.capture.specs.declared.Phase.{Phase}
 use Rattle.capture.specs.declared.Tally.{Tally}
 use Rattle.capture.specs.declared.Answer.{Answer}
@@ -54,8 +49,14 @@ appended_both {old} {a} {b = b} {at = at} p q =
     }
 
 -- ---- the lines of the output
+-- the kinds by number
+abbrev pub numbered : ℕ → Kind
+numbered zero = kind.Taken
+numbered (suc zero) = kind.Again
+numbered (suc (suc k)) = kind.Refused
+
 -- the line of an outcome has its three values
-pub outcome_values_lem : (r : Outcome) → outcome_line r ≡ outcome_text (get_or (outcome_values r) 0 0) (get_or (outcome_values r) 1 0) (get_or (outcome_values r) 2 0)
+pub outcome_values_lem : (r : Outcome) → outcome_line r ≡ outcome_text (numbered (get_or (outcome_values r) 0 0)) (get_or (outcome_values r) 1 0) (get_or (outcome_values r) 2 0)
 unfolding outcome_line
 outcome_values_lem (Taken number k) = refl
 outcome_values_lem (Again number k) = refl
@@ -80,10 +81,6 @@ answers_words [] = refl
 answers_words (r ∷ rs) = ap (λ (t : List ℕ). outcome_line r ++ t) (answers_words rs)
 
 -- ---- the counts
--- what owning the array of counts tells
-pub owned_counts : (calls : List ℕ) (vs : List Val) → Is (Array (UInt w32) 256) calls vs → Counts calls
-owned_counts calls vs h = counts calls vs h
-
 module _ (f : ℕ) (calls : List ℕ) (l : f < length calls) where
   calls_none : get_or calls f 0 ≡ 0 → calls_from f (drop f calls) ≡ calls_from (f + 1) (drop (f + 1) calls)
   unfolding calls_from

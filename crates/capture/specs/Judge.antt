@@ -1,9 +1,7 @@
 -- What the program makes of one line (RULES 7). A line comes without its newline.
-use Rattle.std.specs.Prelude.{Bool, true, false, cond, List, [], ◌∷◌, ℕ, ◌-◌, eqb, ltb, length, get_or, take, replicate}
+use Rattle.std.specs.Prelude.{Bool, true, false, cond, List, [], ◌∷◌, ℕ, ◌-◌, eqb, ltb, length, get_or, take, replicate, Result, Ok, Err}
 use Rattle.gtb.specs.declared.Shape.{Shape}
 use Rattle.gtb.specs.declared.Refusal.{Refusal}
-use Rattle.gtb.specs.declared.Status.{Status}
-use Rattle.gtb.specs.declared.Status.TheVariants as status
 use Rattle.gtb.specs.Shape.{scratch_length, standard}
 use Rattle.lines.specs.Text.{same_bytes, names_shape, names_word}
 use Rattle.lines.specs.Content.{Content, Spelled, Unreadable, content_of}
@@ -58,9 +56,9 @@ named σ true next f = passed next σ
 named σ false next f = fault σ f Refusal.Syntax
 
 -- line 2 begins the session; a shape outside its lists is a fault before line 3 is looked at
-abbrev pub begun : Session → Shape → Status → Fault → Judged
-begun σ s status.Done f = passed WordNames (fresh_of s)
-begun σ s (status.Refused e) f = fault σ f e
+abbrev pub begun : Session → Shape → Result (Unit {0}) Refusal → Fault → Judged
+begun σ s (Ok tt) f = passed WordNames (fresh_of s)
+begun σ s (Err e) f = fault σ f e
 
 abbrev pub shape_in : List ℕ → Shape
 shape_in xs = standard (get_or xs 0 0) (get_or xs 1 0) (get_or xs 2 0)

@@ -2,6 +2,7 @@
 use Rattle.std.specs.Prelude.{cond, List, [], ◌∷◌, ◌++◌, ℕ, suc, eqb}
 use Rattle.gtb.specs.declared.Refusal.{Refusal}
 use Rattle.gtb.specs.Answer.{refusal_number}
+use Rattle.lines.specs.declared.Kind.TheVariants as kind
 use Rattle.lines.specs.Text.{names_calls, outcome_text, count_text}
 use Rattle.session.specs.declared.Outcome.{Outcome}
 use Rattle.session.specs.declared.Outcome.TheVariants.{Taken, Again, Refused}
@@ -10,9 +11,9 @@ use Rattle.capture.specs.declared.Answer.TheVariants.{Nothing, Word, Head}
 
 -- outcome, page or refusal number, digits changed
 unfoldable pub outcome_line : Outcome → List ℕ
-outcome_line (Taken number k) = outcome_text 0 number k
-outcome_line (Again number k) = outcome_text 1 number k
-outcome_line (Refused e) = outcome_text 2 (refusal_number e) 0
+outcome_line (Taken number k) = outcome_text kind.Taken number k
+outcome_line (Again number k) = outcome_text kind.Again number k
+outcome_line (Refused e) = outcome_text kind.Refused (refusal_number e) 0
 
 abbrev pub refused_line : Refusal → List ℕ
 refused_line e = outcome_line (Refused e)

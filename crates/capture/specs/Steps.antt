@@ -11,6 +11,7 @@ use Rattle.capture.specs.declared.Phase.{Phase}
 use Rattle.capture.specs.declared.Phase.TheVariants.{Words}
 use Rattle.capture.specs.declared.Answer.TheVariants.{Word}
 use Rattle.capture.specs.declared.Judged.{Judged}
+use Rattle.session.specs.declared.Brought.{Brought}
 use Rattle.capture.specs.declared.Seen.{Seen}
 use Rattle.capture.specs.declared.Seen.TheVariants.{Known, New, Head}
 use Rattle.capture.specs.declared.Tally.{Tally}
@@ -24,12 +25,12 @@ use Rattle.capture.specs.Feed.{Fed, feed, last_of, closing}
 -- what a look tells of the line: the outcome of a tally that stays, the page that arrives, or that it is no word line
 abbrev pub foreseen : Tally → List ℕ → List ℕ → Seen → Judged
 foreseen t line symbols (Known a) = record { tally = t; answer = Word a }
-foreseen t line symbols (New number c k) = arrived t.session (Page number (take c (drop 2 symbols)) k)
+foreseen t line symbols (New page) = arrived t.session (Page page.number (take page.count (drop 2 symbols)) page.corrected)
 foreseen t line symbols Head = judged_of t line
 
 -- a page that is new may be taken; of a word line no look tells that it is none
 pub record Settleable (phase : Phase) (seen : Seen) (symbols : List ℕ) : Type 0 where
-  pub page : (number c k : ℕ) → seen ≡ New number c k → Readable number c symbols
+  pub page : (page : Brought) → seen ≡ New page → Readable page.number page.count symbols
   pub head : seen ≡ Head → is_words phase ≡ false
 
 -- a look at a line that is right

@@ -1,37 +1,26 @@
 // Answers counted as they are given.
 ghost use Rattle.std.specs.Prelude.{◌≡◌};
-ghost use Rattle.capture.specs.Counting.{more, counted_by, counted};
+ghost use Rattle.capture.specs.Counting.{counted_by, counted};
 
 use crate::{Answer, Counts};
 use session::Outcome;
 
-// One more, unless the number is full.
-fn one_more(number: u32) -> u32
-    ensures { result ≡ more number }
-{
-    if number == 4294967295 {
-        return number;
-    }
-    number + 1
-}
-
 pub fn count_outcome(counts: Counts, outcome: Outcome) -> Counts
     ensures { result ≡ counted_by counts outcome }
 {
-    let mut after = counts;
     match outcome {
-        Outcome::Taken(_, _) => {
-            after.taken = one_more(counts.taken);
-            after
-        }
-        Outcome::Again(_, _) => {
-            after.again = one_more(counts.again);
-            after
-        }
-        Outcome::Refused(_) => {
-            after.refused = one_more(counts.refused);
-            after
-        }
+        Outcome::Taken(_, _) => Counts {
+            taken: counts.taken.saturating_add(1),
+            ..counts
+        },
+        Outcome::Again(_, _) => Counts {
+            again: counts.again.saturating_add(1),
+            ..counts
+        },
+        Outcome::Refused(_) => Counts {
+            refused: counts.refused.saturating_add(1),
+            ..counts
+        },
     }
 }
 
@@ -40,8 +29,7 @@ pub fn count_answer(counts: Counts, answer: Answer) -> Counts
     ensures { result ≡ counted counts answer }
 {
     match answer {
-        Answer::Nothing => counts,
         Answer::Word(outcome) => count_outcome(counts, outcome),
-        Answer::Head(_) => counts,
+        Answer::Nothing | Answer::Head(_) => counts,
     }
 }

@@ -9,20 +9,24 @@ ghost use Rattle.capture.specs.Steps.{Looked, Foretold};
 use crate::{Phase, Seen, Tally};
 use gtb::size::{info_length, word_length};
 use gtb::{Refusal, Shape};
-use lines::Parsed;
 use session::open::open;
-use session::{Opening, Outcome, Session};
+use session::{Brought, Outcome, Session};
 
 // What the values of a line bring, read the clean way: tests 1, 18 and 2, then the first step.
-fn open_values(shape: Shape, values: &mut [u32], count: usize, symbols: &mut [u32]) -> Opening
+fn open_values(
+    shape: Shape,
+    values: &mut [u32],
+    count: usize,
+    symbols: &mut [u32],
+) -> Result<Brought, Refusal>
     requires { (length values.old ≡ 1024) × (length symbols.old ≡ 900) }
     ensures { (line : List ℕ) → Stored line values.old count → Tells (brought_by shape (content_of line)) symbols.new result }
 {
     if !gtb::is_lawful(shape) {
-        return Opening::Refused(gtb::shape_refusal(shape), false);
+        return Err(gtb::shape_refusal(shape));
     }
     if count != word_length(shape) {
-        return Opening::Refused(Refusal::Length, false);
+        return Err(Refusal::Length);
     }
     let info = info_length(shape);
     open(
@@ -34,12 +38,17 @@ fn open_values(shape: Shape, values: &mut [u32], count: usize, symbols: &mut [u3
 }
 
 // What a word line brings.
-fn open_line(shape: Shape, line: &[u8], values: &mut [u32; 1024], symbols: &mut [u32]) -> Opening
+fn open_line(
+    shape: Shape,
+    line: &[u8],
+    values: &mut [u32; 1024],
+    symbols: &mut [u32],
+) -> Result<Brought, Refusal>
     requires { (length values.old ≡ 1024) × (length symbols.old ≡ 900) }
     ensures { Tells (brought_by shape (content_of line.now)) symbols.new result × (length values.new ≡ 1024) }
 {
-    let Parsed::Values(count) = lines::parse(line, values) else {
-        return Opening::Refused(Refusal::Syntax, false);
+    let Some(count) = lines::parse(line, values) else {
+        return Err(Refusal::Syntax);
     };
     open_values(shape, values, count, symbols)
 }
@@ -56,13 +65,12 @@ fn look(
     ensures { Looked shape taken.now line.now symbols.new result × (length values.new ≡ 1024) }
 {
     match open_line(shape, line, values, symbols) {
-        Opening::Refused(e, _) => Seen::Known(Outcome::Refused(e)),
-        Opening::Page(number, count, corrected) => {
-            let at = number as usize;
-            if taken[at] {
-                return Seen::Known(Outcome::Again(number, corrected));
+        Err(e) => Seen::Known(Outcome::Refused(e)),
+        Ok(page) => {
+            if taken[page.number as usize] {
+                return Seen::Known(Outcome::Again(page.number, page.corrected));
             }
-            Seen::New(number, count, corrected)
+            Seen::New(page)
         }
     }
 }
@@ -79,14 +87,8 @@ pub fn glance(
     requires { (tally.session.taken ≡ taken.now) × (length line.now ≡ 16384) × (end < 16384) × (length values.old ≡ 1024) × (length symbols.old ≡ 900) }
     ensures { Foretold tally (take end line.now) symbols.new result × (length values.new ≡ 1024) }
 {
-    let phase = tally.phase;
-    let session = tally.session;
-    let shape = session.shape;
-    match phase {
-        Phase::ShapeNames => Seen::Head,
-        Phase::ShapeValues => Seen::Head,
-        Phase::WordNames => Seen::Head,
-        Phase::Words => look(shape, taken, &line[..end], values, symbols),
-        Phase::Ended(_) => Seen::Head,
+    match tally.phase {
+        Phase::Words => look(tally.session.shape, taken, &line[..end], values, symbols),
+        _ => Seen::Head,
     }
 }

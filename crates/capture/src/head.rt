@@ -2,32 +2,11 @@
 ghost use Rattle.std.specs.Prelude.{false, ◌≡◌, ◌<◌, length};
 ghost use Rattle.lines.specs.Content.{content_of};
 ghost use Rattle.session.specs.Session.{fresh_status};
-ghost use Rattle.capture.specs.Judge.{is_marked, is_returned, fault_in, passed, fault, named, begun, shaped, judged_of, is_words};
+ghost use Rattle.capture.specs.Judge.{fault_in, passed, fault, named, begun, shaped, judged_of, is_words};
 
 use crate::{Answer, Expected, Fault, Judged, Phase, Tally};
-use gtb::{Refusal, Shape, Status};
-use lines::Parsed;
+use gtb::{Refusal, Shape};
 use session::Session;
-
-// It begins with a byte order mark.
-fn is_marked(line: &[u8]) -> bool
-    ensures { result ≡ is_marked line.now }
-{
-    if line.len() < 3 {
-        return false;
-    }
-    lines::is_text(&line[..3], b"\xef\xbb\xbf")
-}
-
-// It ends with a carriage return.
-fn is_returned(line: &[u8]) -> bool
-    ensures { result ≡ is_returned line.now }
-{
-    if line.len() == 0 {
-        return false;
-    }
-    line[line.len() - 1] == b'\r'
-}
 
 // The line is not what was expected.
 fn fault_in(expected: Expected, line: &[u8]) -> Fault
@@ -35,8 +14,8 @@ fn fault_in(expected: Expected, line: &[u8]) -> Fault
 {
     Fault {
         expected,
-        marked: is_marked(line),
-        returned: is_returned(line),
+        marked: line.starts_with(b"\xef\xbb\xbf"),
+        returned: line.ends_with(b"\r"),
     }
 }
 
@@ -77,12 +56,9 @@ fn take_names(session: Session, right: bool, next: Phase, wrong: Fault) -> Judge
 fn start_session(session: Session, shape: Shape, wrong: Fault) -> Judged
     ensures { result ≡ begun session shape (fresh_status shape) wrong }
 {
-    let fresh = Session::fresh(shape);
-    let begun = fresh.session;
-    let status = fresh.status;
-    match status {
-        Status::Done => pass(Phase::WordNames, begun),
-        Status::Refused(e) => fail(session, wrong, e),
+    match Session::fresh(shape) {
+        Ok(fresh) => pass(Phase::WordNames, fresh),
+        Err(e) => fail(session, wrong, e),
     }
 }
 
@@ -92,7 +68,7 @@ fn take_shape(session: Session, line: &[u8]) -> Judged
 {
     let mut values = [0u32; 1024];
     let malformed = fault_in(Expected::ShapeValues, line);
-    let Parsed::Values(count) = lines::parse(line, &mut values) else {
+    let Some(count) = lines::parse(line, &mut values) else {
         return fail(session, malformed, Refusal::Syntax);
     };
     if count != 3 {
@@ -112,9 +88,8 @@ pub fn take_head(tally: Tally, line: &[u8]) -> Judged
     requires { (is_words tally.phase ≡ false) × (length line.now < 16384) }
     ensures { result ≡ judged_of tally line.now }
 {
-    let phase = tally.phase;
     let session = tally.session;
-    match phase {
+    match tally.phase {
         Phase::ShapeNames => {
             let wrong = fault_in(Expected::ShapeNames, line);
             take_names(

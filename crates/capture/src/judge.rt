@@ -16,14 +16,12 @@ fn take_page(session: Session, number: u32, corrected: u32, marks: &[u32]) -> Ju
     ensures { result ≡ arrived session (Opened.Page number marks.now corrected) }
 {
     let arrived = session.settled(number, corrected, marks);
-    let after = arrived.session;
-    let outcome = arrived.outcome;
     Judged {
         tally: Tally {
             phase: Phase::Words,
-            session: after,
+            session: arrived.session,
         },
-        answer: Answer::Word(outcome),
+        answer: Answer::Word(arrived.outcome),
     }
 }
 
@@ -37,9 +35,9 @@ pub fn judge(tally: Tally, seen: Seen, line: &[u8], symbols: &[u32]) -> Judged
             tally,
             answer: Answer::Word(outcome),
         },
-        Seen::New(number, count, corrected) => {
-            let end = 2 + count as usize;
-            take_page(tally.session, number, corrected, &symbols[2..end])
+        Seen::New(page) => {
+            let end = 2 + page.count as usize;
+            take_page(tally.session, page.number, page.corrected, &symbols[2..end])
         }
         Seen::Head => take_head(tally, line),
     }

@@ -17,7 +17,7 @@ use crate::glance::glance;
 use crate::judge::judge;
 use crate::output::{last_answer, put_answer, put_line, put_table};
 use gtb::{Refusal, Shape};
-use session::{Outcome, Session};
+use session::{Brought, Outcome, Session};
 
 // What should stand in one of the first three lines. `Shape` where line 2 has three values.
 #[derive(Clone, Copy)]
@@ -66,11 +66,11 @@ pub struct Judged {
     pub answer: Answer,
 }
 
-// What a look at a line tells: the outcome, where that leaves the tally as it is; a page that is new, by page number, number of marks and symbols changed; or that it is no word line.
+// What a look at a line tells: the outcome, where that leaves the tally as it is; a page that is new; or that it is no word line.
 #[derive(Clone, Copy)]
 enum Seen {
     Known(Outcome),
-    New(u32, u32, u32),
+    New(Brought),
     Head,
 }
 
@@ -83,6 +83,7 @@ pub struct Counts {
 }
 
 // The tally, the length of the line so far, the length of the output that waits, and the answers so far. A line too long counts as 16,384.
+// Kept as it is: a reader is passed by value, so that the bytes of the line and of the output are lent beside it, as `BlockTaken` and `Finished` say.
 #[derive(Clone, Copy)]
 pub struct Reader {
     pub tally: Tally,
@@ -103,16 +104,15 @@ pub fn begin(out: &mut [u8]) -> Reader
     requires { 19 ≤ length out.old }
     ensures { Begun out.old out.new result }
 {
-    let fresh = Session::fresh(Shape {
+    let shape = Shape {
         q: 0,
         n: 0,
         b: 0,
         slopes: gtb::STANDARD,
-    });
-    let session = fresh.session;
+    };
     let tally = Tally {
         phase: Phase::ShapeNames,
-        session,
+        session: Session::blank(shape),
     };
     let at = lines::put_outcome_names(out, 0);
     Reader {
@@ -132,10 +132,7 @@ fn append(line: &mut [u8], held: usize, bytes: &[u8]) -> usize
     requires { length line.old ≡ 16384 }
     ensures { Extended line.old held bytes.now line.new result }
 {
-    if held > 16383 {
-        return 16384;
-    }
-    if bytes.len() > 16383 - held {
+    if held.saturating_add(bytes.len()) > 16383 {
         return 16384;
     }
     lines::put_text(line, held, bytes)
@@ -160,18 +157,12 @@ fn end_line(
     requires { Consistent reader.tally.session × (length line.now ≡ 16384) × (end < 16384) × Foretold reader.tally (take end line.now) symbols.now seen × (reader.at + 40 ≤ length out.old) }
     ensures { LineEnded reader line.now end out.old out.new result }
 {
-    let before = reader.tally;
-    let judged = judge(before, seen, &line[..end], symbols);
-    let tally = judged.tally;
-    let answer = judged.answer;
-    let at = put_answer(out, reader.at, answer);
-    let counts = reader.counts;
-    let counts = count_answer(counts, answer);
+    let judged = judge(reader.tally, seen, &line[..end], symbols);
     Reader {
-        tally,
+        tally: judged.tally,
         held: 0,
-        at,
-        counts,
+        at: put_answer(out, reader.at, judged.answer),
+        counts: count_answer(reader.counts, judged.answer),
     }
 }
 
@@ -190,42 +181,30 @@ pub fn take_block(
     reader.at = at;
     let mut values = [0u32; 1024];
     let mut symbols = [0u32; 900];
-    let mut from = 0;
-    loop {
-        let to = lines::find_newline(block, from, block.len());
-        reader.held = append(line, reader.held, &block[from..to]);
-        if to == block.len() {
-            return reader;
-        }
-        from = to + 1;
+    let mut rest = block;
+    while let Some(size) = lines::find_newline(rest) {
+        reader.held = append(line, reader.held, &rest[..size]);
+        rest = &rest[size + 1..];
         let end = line_end(reader.held);
-        let tally = reader.tally;
         let taken = &reader.tally.session.taken;
-        let seen = glance(tally, taken, line, end, &mut values, &mut symbols);
+        let seen = glance(reader.tally, taken, line, end, &mut values, &mut symbols);
         if let Seen::Known(outcome) = seen {
-            let counts = reader.counts;
             reader.held = 0;
             reader.at = put_line(out, reader.at, outcome);
-            reader.counts = count_outcome(counts, outcome);
+            reader.counts = count_outcome(reader.counts, outcome);
             continue;
         }
         reader = end_line(reader, seen, line, end, &symbols, out);
     }
+    reader.held = append(line, reader.held, rest);
+    reader
 }
 
 // A fault was answered: nothing more will be.
 pub fn has_ended(reader: Reader) -> bool
     ensures { result ≡ is_ended reader.tally.phase }
 {
-    let tally = reader.tally;
-    let phase = tally.phase;
-    match phase {
-        Phase::ShapeNames => false,
-        Phase::ShapeValues => false,
-        Phase::WordNames => false,
-        Phase::Words => false,
-        Phase::Ended(_) => true,
-    }
+    matches!(reader.tally.phase, Phase::Ended(_))
 }
 
 // The output at the end of the input, from `at` on.
@@ -234,17 +213,12 @@ pub fn finish(reader: Reader, at: usize, out: &mut [u8]) -> Reader
     ensures { Finished reader at out.old out.new result }
 {
     let tally = reader.tally;
-    let phase = tally.phase;
-    let answer = last_answer(phase, reader.held == 0);
+    let answer = last_answer(tally.phase, reader.held == 0);
     let next = put_answer(out, at, answer);
-    let session = tally.session;
-    let end = put_table(out, next, phase, session);
-    let counts = reader.counts;
-    let counts = count_answer(counts, answer);
+    let end = put_table(out, next, tally.phase, tally.session);
     Reader {
-        tally,
-        held: reader.held,
         at: end,
-        counts,
+        counts: count_answer(reader.counts, answer),
+        ..reader
     }
 }

@@ -6,6 +6,7 @@ ghost use Rattle.capture.specs.Steps.{Appended};
 
 use crate::{Answer, Phase};
 use gtb::Refusal;
+use lines::Kind;
 use session::{Outcome, Session};
 
 pub fn put_line(out: &mut [u8], at: usize, outcome: Outcome) -> usize
@@ -13,9 +14,9 @@ pub fn put_line(out: &mut [u8], at: usize, outcome: Outcome) -> usize
     ensures { Appended out.old at (outcome_line outcome) out.new result × (result ≤ at + 30) }
 {
     match outcome {
-        Outcome::Taken(page, fixed) => lines::put_outcome(out, at, 0, page, fixed),
-        Outcome::Again(page, fixed) => lines::put_outcome(out, at, 1, page, fixed),
-        Outcome::Refused(e) => lines::put_outcome(out, at, 2, gtb::number::refusal(e), 0),
+        Outcome::Taken(page, fixed) => lines::put_outcome(out, at, Kind::Taken, page, fixed),
+        Outcome::Again(page, fixed) => lines::put_outcome(out, at, Kind::Again, page, fixed),
+        Outcome::Refused(e) => lines::put_outcome(out, at, Kind::Refused, u32::from(e), 0),
     }
 }
 
@@ -31,15 +32,14 @@ pub fn put_answer(out: &mut [u8], at: usize, answer: Answer) -> usize
 }
 
 // The counts above zero, in rising order.
-fn put_counts(out: &mut [u8], at: usize, calls: [u32; Session::FUNCTIONS]) -> usize
+fn put_counts(out: &mut [u8], at: usize, calls: &[u32; Session::FUNCTIONS]) -> usize
     requires { at + 5632 ≤ length out.old }
-    ensures { Appended out.old at (calls_from 0 calls) out.new result × (result ≤ at + 5632) }
+    ensures { Appended out.old at (calls_from 0 calls.now) out.new result × (result ≤ at + 5632) }
 {
     let mut next = at;
-    for f in 0..Session::FUNCTIONS {
-        let k = calls[f];
-        if k != 0 {
-            next = lines::put_count(out, next, f as u32, k);
+    for (f, k) in calls.iter().enumerate() {
+        if *k != 0 {
+            next = lines::put_count(out, next, f as u32, *k);
         }
     }
     next
@@ -50,9 +50,8 @@ fn put_calls(out: &mut [u8], at: usize, session: Session) -> usize
     requires { at + 5647 ≤ length out.old }
     ensures { Appended out.old at (calls_text session.calls) out.new result × (result ≤ at + 5647) }
 {
-    let calls = session.calls;
     let next = lines::put_calls_names(out, at);
-    put_counts(out, next, calls)
+    put_counts(out, next, &session.calls)
 }
 
 // The answer at the end of the input, where one of the first three lines is missing or the last line has no newline; `whole` says that no line was begun.
@@ -60,16 +59,9 @@ pub fn last_answer(phase: Phase, whole: bool) -> Answer
     ensures { result ≡ last_in phase whole }
 {
     match phase {
-        Phase::ShapeNames => Answer::Head(Refusal::Syntax),
-        Phase::ShapeValues => Answer::Head(Refusal::Syntax),
-        Phase::WordNames => Answer::Head(Refusal::Syntax),
-        Phase::Words => {
-            if whole {
-                return Answer::Nothing;
-            }
-            Answer::Word(Outcome::Refused(Refusal::Syntax))
-        }
-        Phase::Ended(_) => Answer::Nothing,
+        Phase::ShapeNames | Phase::ShapeValues | Phase::WordNames => Answer::Head(Refusal::Syntax),
+        Phase::Words if !whole => Answer::Word(Outcome::Refused(Refusal::Syntax)),
+        Phase::Words | Phase::Ended(_) => Answer::Nothing,
     }
 }
 
@@ -79,10 +71,7 @@ pub fn put_table(out: &mut [u8], at: usize, phase: Phase, session: Session) -> u
     ensures { Appended out.old at (table_in phase session.calls) out.new result × (result ≤ at + 5647) }
 {
     match phase {
-        Phase::ShapeNames => at,
-        Phase::ShapeValues => at,
-        Phase::WordNames => at,
         Phase::Words => put_calls(out, at, session),
-        Phase::Ended(_) => at,
+        _ => at,
     }
 }

@@ -15,8 +15,8 @@ use Rattle.parity.proofs.Lists.{is_tabulate, length_tabulate}
 use Rattle.paper.specs.Paper as paper
 use Rattle.paper.specs.Reading.{nonzero}
 use Rattle.gtb.specs.declared.Shape.{Shape}
-use Rattle.gtb.specs.declared.Status.TheVariants.{Done}
-use Rattle.gtb.specs.Shape.{Lawful}
+use Rattle.std.specs.Prelude.{Ok}
+use Rattle.gtb.specs.Shape.{Lawful, of}
 use Rattle.gtb.specs.Square.{at}
 use Rattle.gtb.proofs.Sizes.{sizes}
 use Rattle.correction.specs.Error.{weight, damaged}
@@ -25,12 +25,10 @@ use Rattle.page.specs.Page.{most, write_status, page_symbols}
 use Rattle.page.proofs.Pages.{page_length}
 use Rattle.session.specs.Arrival.{is_way, way_of, the_ways}
 use Rattle.session.specs.Recording.{Sheet, Arrival, Brings}
-use Rattle.gtb.proofs.Judging.{passes}
-use Rattle.gtb.specs.Shape.{of}
+use Rattle.gtb.proofs.Judging.{passes, decides_below, decides_upto}
 use Rattle.gtb.proofs.Conditions.{decides_width}
 use Rattle.gtb.proofs.Stored.{word_digits, digits_word, codeword_stored, stored_codeword}
 use Rattle.gtb.proofs.Scratches.{scratch_length_lem}
-use Rattle.gtb.proofs.Judging.{decides_below, decides_upto}
 use Rattle.page.proofs.Paper.{decides_functions, page_digits}
 use Rattle.correction.proofs.Paper.{on_check_lem}
 use Rattle.gtb.proofs.Places.{extracted}
@@ -46,7 +44,7 @@ to_arrival a = record { way = a.way; word = a.word; scratch = a.scratch }
 module _ (s : Shape) where
   -- ---- a page that the writer accepts
   pub accepted_page : Lawful s → (page : ℕ) (marks : List ℕ) → paper.Judged (paper.writable (of s) page marks) (λ k. ⊥) (Unit {0})
-      → write_status s page marks (page_symbols s page marks) ≡ Done
+      → write_status s page marks (page_symbols s page marks) ≡ Ok tt
   unfolding write_status
   accepted_page law page marks (inl (c, none)) = absurd none
   accepted_page law page marks (inr (page-no, inl (c, none))) = absurd none

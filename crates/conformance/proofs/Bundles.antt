@@ -13,12 +13,12 @@ use Rattle.parity.proofs.Lists.{at_zeros}
 use Rattle.paper.specs.Paper as paper
 use Rattle.gtb.specs.declared.Shape.{Shape}
 use Rattle.gtb.specs.declared.Refusal.{Refusal}
-use Rattle.gtb.specs.declared.Status.TheVariants.{Done, Refused}
-use Rattle.gtb.specs.Shape.{lawful, shape_refusal, Lawful, word_length, scratch_length, kept_checks}
+use Rattle.std.specs.Prelude.{Result, Ok, Err}
+use Rattle.gtb.specs.Shape.{lawful, shape_refusal, Lawful, word_length, scratch_length, kept_checks, of}
 use Rattle.gtb.specs.Answer.{refusal_number, status_number, unless}
 use Rattle.session.specs.declared.Session.{Session}
 use Rattle.session.specs.declared.Outcome.{Outcome}
-use Rattle.session.specs.Session.{consistent, session_status, past}
+use Rattle.session.specs.Session.{consistent, session_status, past, plain}
 use Rattle.session.specs.Arrival.{is_way, way_of, the_ways, arrival_status, outcome_values, presented, outcome_of, session_after, word_after, outcome_scratch, Arriving}
 use Rattle.session.specs.Claim.{Run, answer_at}
 use Rattle.session.proofs.Joins.{outcome_size}
@@ -28,14 +28,11 @@ use Rattle.batch.specs.Batch.{words_in, whole_run, word_at, batch_status, arriva
 use Rattle.batch.proofs.Runs.{run_words}
 use Rattle.batch.proofs.Outcomes.{all_values_size, values_size}
 use Rattle.batch.proofs.Demand.{arrivals_number, arrivals_at}
-use Rattle.gtb.proofs.Judging.{Decides, decides_eqb, decides_both, test}
-use Rattle.gtb.specs.Shape.{of}
+use Rattle.gtb.proofs.Judging.{Decides, decides_eqb, decides_both, test, decides_below}
 use Rattle.gtb.proofs.Conditions.{to, shape_tests}
-use Rattle.gtb.proofs.Judging.{decides_below}
 use Rattle.decoder.proofs.Paper.{clean_named}
 use Rattle.majority.proofs.Paper.{vote_named}
 use Rattle.double.proofs.Paper.{two_named}
-use Rattle.session.specs.Session.{plain}
 use Rattle.session.proofs.Paper.{decides_figures}
 use Rattle.session.proofs.Arriving.{arrival}
 use Rattle.conformance.proofs.Arrived.{Kept, kept_on}
@@ -89,8 +86,8 @@ decides_suits s law (suc (suc zero)) known = (two_named s).suits law
 decides_suits s law (suc (suc (suc k))) known = absurd (let l = ltb-true (suc (suc (suc k))) 3 known in omega arith)
 
 flat : (w a c d z : Bool) (e : Refusal)
-    → past (unless w (Refused Refusal.Shape) (past (unless a (Refused e) (unless c (Refused Refusal.Figures) Done)) Refused (unless d (Refused Refusal.Directions) Done))) Refused (unless z (Refused Refusal.Length) Done)
-    ≡ unless w (Refused Refusal.Shape) (unless a (Refused e) (unless c (Refused Refusal.Figures) (unless d (Refused Refusal.Directions) (unless z (Refused Refusal.Length) Done))))
+    → past {A = Result (Unit {0}) Refusal} (unless w (Err Refusal.Shape) (past (unless a (Err e) (unless c (Err Refusal.Figures) (Ok tt))) Err (unless d (Err Refusal.Directions) (Ok tt)))) Err (unless z (Err Refusal.Length) (Ok tt))
+    ≡ unless w (Err Refusal.Shape) (unless a (Err e) (unless c (Err Refusal.Figures) (unless d (Err Refusal.Directions) (unless z (Err Refusal.Length) (Ok tt)))))
 flat false a c d z e = refl
 flat true false c d z e = refl
 flat true true false d z e = refl
@@ -171,7 +168,7 @@ module _ (σ : Session) (size : length σ.taken ≡ 1024) (k : ℕ) (words scrat
 
   -- ---- the call
   module _ {outcomes words' scratch' outcomes' : List ℕ} {r : Delivered} (x : Batching σ k words scratch outcomes words' scratch' outcomes' r) where
-    turn : (e : Refusal) → r.status ≡ Refused e
+    turn : (e : Refusal) → r.status ≡ Err e
         → (status_number r.status ≡ paper.refusal (refusal_number e)) × (plain r.session ≡ plain σ) × (words' ≡ words) × (scratch' ≡ scratch) × (outcomes' ≡ outcomes)
     turn e h = let (kept, same, used, list) = x.refused e h in (ap status_number h, ap plain kept, same, used, list)
 
@@ -179,7 +176,7 @@ module _ (σ : Session) (size : length σ.taken ≡ 1024) (k : ℕ) (words scrat
     unfolding batch_status arrival_status session_status scratch_length kept_checks
     bundling =
         test (is_way k) _ _ (decides_way k) (turn Refusal.Shape) (λ known.
-        shape_tests s Refused _ (turn Refusal.Shape) (turn Refusal.Slope) (λ law.
+        shape_tests s Err _ (turn Refusal.Shape) (turn Refusal.Slope) (λ law.
         test (consistent σ) _ _ (decides_figures σ) (turn Refusal.Figures) (λ right.
         test ((the_ways.named k).suits s) _ _ (decides_suits s law k known) (turn Refusal.Directions) (λ _.
         test (whole_run s words && eqb (length scratch) (scratch_length s) && eqb (length outcomes) 192) _ _

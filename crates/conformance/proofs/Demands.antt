@@ -17,21 +17,19 @@ use Rattle.paper.specs.Paper as paper
 use Rattle.paper.specs.Recording.{tally_of}
 use Rattle.gtb.specs.declared.Shape.{Shape}
 use Rattle.gtb.specs.declared.Refusal.{Refusal}
-use Rattle.gtb.specs.Shape.{Lawful}
+use Rattle.gtb.specs.Shape.{Lawful, of}
 use Rattle.page.specs.Page.{most}
 use Rattle.page.proofs.Pages.{writable}
 use Rattle.session.specs.declared.Outcome.{Outcome}
 use Rattle.session.specs.declared.Outcome.TheVariants.{Taken, Again, Refused}
-use Rattle.session.specs.Session.{count_of}
+use Rattle.session.specs.Session.{count_of, plain}
 use Rattle.session.specs.Arrival.{the_ways, outcome_values}
 use Rattle.session.specs.Recording.{Sheet, sheet_at, Recording, tally, Arrival, arrival_at, opened_at, TurnedDown, Brings, Fits}
 use Rattle.session.specs.Claim.{has_number, come, answer_to, is_taken, Demand3}
 use Rattle.session.proofs.Demand.{made, made_begins, demand3_ways}
 use Rattle.session.proofs.Ways.{all_sound}
 use Rattle.session.proofs.Fits.{sheet_opened}
-use Rattle.gtb.specs.Shape.{of}
 use Rattle.gtb.proofs.Conditions.{to}
-use Rattle.session.specs.Session.{plain}
 use Rattle.session.proofs.Taken.{marks_for_lem}
 use Rattle.conformance.proofs.Bringing.{to_sheet, accepted_page, brings_to, brings_from}
 use Rattle.conformance.proofs.Runs as runs

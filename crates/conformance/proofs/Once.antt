@@ -10,7 +10,7 @@ use lib.Seq.{ext_get_or}
 use Rattle.parity.specs.Count.{count}
 use Rattle.paper.specs.Paper as paper
 use Rattle.gtb.specs.declared.Shape.{Shape}
-use Rattle.gtb.specs.Shape.{Lawful}
+use Rattle.gtb.specs.Shape.{Lawful, of}
 use Rattle.gtb.specs.Square.{Word}
 use Rattle.gtb.specs.Positions.{Encodes}
 use Rattle.gtb.proofs.Words.{narrow_word}
@@ -21,7 +21,6 @@ use Rattle.decoder.proofs.Meaning.{clean_meant}
 use Rattle.majority.proofs.Meaning.{vote_meant}
 use Rattle.double.proofs.Meaning.{two_meant}
 use Rattle.gtb.proofs.Judging.{passes, equal, judged_once}
-use Rattle.gtb.specs.Shape.{of}
 use Rattle.gtb.proofs.Conditions.{to, lawful_of, decides_width}
 use Rattle.gtb.proofs.Stored.{stored_codeword}
 use Rattle.correction.proofs.Paper.{Named}

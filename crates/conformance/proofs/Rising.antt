@@ -9,12 +9,11 @@ use lib.ListN.{length}
 use Rattle.parity.proofs.Lists.{is_tabulate}
 use Rattle.paper.specs.Paper as paper
 use Rattle.gtb.specs.declared.Shape.{Shape}
-use Rattle.gtb.specs.Shape.{Lawful, info_length}
+use Rattle.gtb.specs.Shape.{Lawful, info_length, of}
 use Rattle.gtb.specs.Square.{at}
 use Rattle.gtb.specs.Positions.{info_position, extract_of}
 use Rattle.gtb.proofs.Positions.{information_positions}
 use Rattle.gtb.proofs.Places.{dependent_place, place_dependent}
-use Rattle.gtb.specs.Shape.{of}
 
 pub record Rises (a : ℕ) (f : ℕ → ℕ) : Type 0 where
   pub up : (i k : ℕ) → i < k → k < a → f i < f k

@@ -11,21 +11,19 @@ use lib.Seq.{length-take-le, get_or-take}
 use Rattle.paper.specs.Paper as paper
 use Rattle.gtb.specs.declared.Shape.{Shape}
 use Rattle.gtb.specs.declared.Refusal.{Refusal}
-use Rattle.gtb.specs.Shape.{Lawful}
+use Rattle.gtb.specs.Shape.{Lawful, of}
 use Rattle.gtb.specs.Answer.{refusal_number}
 use Rattle.session.specs.declared.Session.{Session}
 use Rattle.session.specs.declared.Outcome.{Outcome}
 use Rattle.session.specs.declared.Outcome.TheVariants.{Taken, Again, Refused}
-use Rattle.session.specs.Session.{fresh_of}
+use Rattle.session.specs.Session.{fresh_of, plain}
 use Rattle.session.specs.Arrival.{by_session, the_ways, outcome_values, presented, outcome_of, session_after, word_after, outcome_scratch, Arriving}
 use Rattle.session.specs.Recording.{Arrival, arrival_at}
 use Rattle.session.specs.Claim.{Run, stop, step, EveryList}
 use Rattle.session.proofs.Progress.{fresh_consistent}
 use Rattle.session.proofs.Demand.{every_list_ways}
 use Rattle.gtb.proofs.Judging.{judged_elim}
-use Rattle.gtb.specs.Shape.{of}
 use Rattle.gtb.proofs.Conditions.{lawful_of}
-use Rattle.session.specs.Session.{plain}
 use Rattle.session.proofs.Paper.{decides_figures}
 use Rattle.session.proofs.Arriving.{arrival}
 use Rattle.conformance.proofs.Bringing.{to_arrival}

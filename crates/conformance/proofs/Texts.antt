@@ -10,6 +10,8 @@ use lib.ListN.{length, get_or}
 use borrow.Author.Tests.{ltb-true, lt-ltb, ne_eqb}
 use Rattle.parity.proofs.Tests.{either, clash}
 use Rattle.paper.specs.Program as paper
+use Rattle.lines.specs.declared.Kind.{Kind}
+use Rattle.lines.specs.declared.Kind.TheVariants as kind
 use Rattle.lines.specs.Text as text
 use Rattle.lines.specs.Content.{Content, Spelled, Unreadable, values_in, content_of}
 use Rattle.lines.proofs.Same.{same_equal, equal_same}
@@ -39,23 +41,17 @@ same_spell (x ∷ []) = same_decimal x
 same_spell (x ∷ (y ∷ ys)) = λ i. same_decimal x i ++ 32 ∷ same_spell (y ∷ ys) i
 
 -- ---- the lines of the output
-same_name : (kind : ℕ) → text.outcome_name kind ≡ paper.outcome_name kind
-unfolding text.outcome_name
-same_name zero = refl
-same_name (suc zero) = refl
-same_name (suc (suc kind)) = refl
-
-same_values : (kind number fixed : ℕ)
-    → text.outcome_text kind number fixed ≡ paper.answer_line (kind ∷ number ∷ fixed ∷ [])
+same_values : (kind : Kind) (k number fixed : ℕ) → text.outcome_name kind ≡ paper.outcome_name k
+    → text.outcome_text kind number fixed ≡ paper.answer_line (k ∷ number ∷ fixed ∷ [])
 unfolding text.outcome_text paper.answer_line
-same_values kind number fixed =
-    λ i. same_name kind i ++ 32 ∷ same_decimal number i ++ 32 ∷ same_decimal fixed i ++ 10 ∷ []
+same_values kind k number fixed same_name =
+    λ i. same_name i ++ 32 ∷ same_decimal number i ++ 32 ∷ same_decimal fixed i ++ 10 ∷ []
 
 pub same_answer : (r : Outcome) → outcome_line r ≡ paper.answer_line (outcome_values r)
-unfolding outcome_line
-same_answer (Taken number k) = same_values 0 number k
-same_answer (Again number k) = same_values 1 number k
-same_answer (Refused e) = same_values 2 _ 0
+unfolding outcome_line text.outcome_name
+same_answer (Taken number k) = same_values kind.Taken 0 number k refl
+same_answer (Again number k) = same_values kind.Again 1 number k refl
+same_answer (Refused e) = same_values kind.Refused 2 _ 0 refl
 
 -- the second table
 pub same_table : (f : ℕ) (calls : List ℕ) → calls_from f calls ≡ paper.table f calls

@@ -1,7 +1,7 @@
 -- The numbers of the checks, and their bounds.
 use mathlib.Core.Path.{◌≡◌, refl, sym, ap, ap₂, ◌∙◌}
 use Prim.Native.Nat.{ℕ, zero, suc, ◌+◌, ◌*◌, ◌/◌, ◌%◌, ◌<◌, ◌≤◌}
-use native.Mathlib.Nat.{zero-mul, zero-add, mul-le-mul, lt_of_lt_of_le}
+use native.Mathlib.Nat.{le_refl, suc-mul, zero-mul, zero-add, mul-le-mul, lt_of_lt_of_le}
 use native.Mathlib.Omega.{arith}
 use lib.Arith.{digits_lt}
 use Rattle.gtb.specs.declared.Shape.{Shape}
@@ -18,6 +18,10 @@ checks_fit s h = mul-le-mul (bounds s h).n8 (bounds s h).q31
 
 pub check_lt : (s : Shape) → Lawful s → (t L : ℕ) → t < s.n → L < s.q → t * s.q + L < 248
 check_lt s h t L lt lL = lt_of_lt_of_le (digits_lt lt lL) (checks_fit s h)
+
+-- and the q of each direction
+pub lines_fit : (s : Shape) → Lawful s → (t : ℕ) → t < s.n → t * s.q + s.q ≤ 248
+lines_fit s h t l = omega (arith, checks_fit s h, suc-mul t s.q, mul-le-mul {n₁ = suc t} {m₁ = s.q} {n₂ = s.n} {m₂ = s.q} l (le_refl s.q))
 
 -- check_number: direction 0, and the others
 pub check_row : (s : Shape) (t j : ℕ) → t ≡ 0 → j / s.q ≡ check_of s j t

@@ -1,6 +1,7 @@
 pub mod CheckNumbers
 pub mod Rows
 pub mod Listing
+pub mod Slices
 pub mod Showing
 pub mod Tabulated
 pub mod Toggles

@@ -1,4 +1,5 @@
 -- The list of the numbers that pass a test, made by going through the numbers in rising order, and lists of values beside it.
+use Rattle.std.specs.Prelude.{Option, Some, None}
 use mathlib.Core.Path.{◌≡◌, refl, sym, ap, ap₂, ◌∙◌, subst}
 use mathlib.Core.Bool.{Bool, true, false, not, ◌&&◌, ◌||◌}
 use mathlib.Core.List.{List}
@@ -86,8 +87,11 @@ pub within : {s : Shape} {p : ℕ → Bool} {k : ℕ} {places : List ℕ} → La
 within {s} h lk l = record { few = omega (arith, (bounds s h).n8); below = l.below }
 
 -- ---- a search that ends at n
-pub scanned_few : {p : ℕ → Bool} {n m k : ℕ} {places : List ℕ} → k < n → Listed p m k places → Scanned p n m k places
-scanned_few l h = record { few = λ l'. h; many = λ l'. absurd (omega arith) }
+pub scanned_few : {p : ℕ → Bool} {n m k : ℕ} {places : List ℕ} → k < n → Listed p m k places → Scanned p n m (Some k) places
+scanned_few {p} {n} {m} {k} {places} l h = record {
+  few = λ k' is. let same : k ≡ k' = cc in subst (λ (x : ℕ). (x < n) × Listed p m x places) same (l, h);
+  many = λ is. let z : ◌≡◌ {A = ℕ} 0 1 = cc in absurd (omega arith);
+}
 
 -- a longer range counts no less
 pub count_grows : (p : ℕ → Bool) {m m' : ℕ} → m ≤ m' → count m p ≤ count m' p
@@ -96,8 +100,8 @@ count_grows p {m} {m'} l =
     let e : m + (m' - m) ≡ m' = omega arith in
     omega (arith, rw e at (sum_split m (m' - m) (λ i. bit (p i))))
 
-pub scanned_many : {p : ℕ → Bool} {n : ℕ} {places : List ℕ} (m : ℕ) {m' : ℕ} → m ≤ m' → n ≤ count m p → Scanned p n m' n places
-scanned_many {p} m l h = record { few = λ l'. absurd (omega arith); many = λ l'. omega (arith, count_grows p l) }
+pub scanned_many : {p : ℕ → Bool} {n : ℕ} {places : List ℕ} (m : ℕ) {m' : ℕ} → m ≤ m' → n ≤ count m p → Scanned p n m' None places
+scanned_many {p} m l h = record { few = λ k is. let z : ◌≡◌ {A = ℕ} 0 1 = cc in absurd (omega arith); many = λ is. omega (arith, count_grows p l) }
 
 -- ---- the values at the places that pass a test are an error
 when_swap : (a b : Bool) (x : ℕ) → when a (when b x) ≡ when b (when a x)

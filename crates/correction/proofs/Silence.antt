@@ -1,24 +1,27 @@
 -- The corrections tried on the table of syndromes, and the test that every check is silent.
 use mathlib.Core.Path.{◌≡◌, refl, sym, ap, ap₂, ◌∙◌}
-use mathlib.Core.Bool.{Bool, ◌&&◌}
+use mathlib.Core.Bool.{Bool, not, ◌&&◌}
 use mathlib.Core.List.{List}
 use Prim.Native.Nat.{ℕ, ◌+◌, ◌*◌, ◌/◌, ◌<◌, ◌≤◌}
 use native.Mathlib.Omega.{arith}
 use lib.Arith.{digits_div}
 use lib.Bits.{bit_and, bit_or, or_add_and, and_le_l, and_le_r}
 use lib.Dec.{eqb}
+use Rattle.std.specs.Prelude.{Option, Some, None, take, position}
 use lib.ListN.{length}
-use borrow.Author.Tests.{eq-eqb, ne_eqb, eqb-true}
+use borrow.Author.Tests.{eq-eqb, ne_eqb, eqb-true, not-false}
 use Rattle.parity.specs.Xor.{◌⊕◌, xor_sum, when}
 use Rattle.parity.proofs.Xors.{assoc, zero_r}
 use Rattle.parity.proofs.XorSums.{xs_zero, more, only}
-use Rattle.parity.proofs.Tests.{and_left, and_right, and_both, same, same_eqb}
+use Rattle.parity.proofs.Tests.{clash, and_left, and_right, and_both, same, same_eqb, not_of_true, all_intro}
 use Rattle.gtb.specs.declared.Shape.{Shape}
 use Rattle.gtb.specs.Shape.{Lawful, word_length}
 use Rattle.gtb.specs.Square.{line_of, at}
 use Rattle.gtb.proofs.Lines.{line_lt}
 use Rattle.correction.specs.Steps.{Toggled, Cancelled}
 use Rattle.correction.specs.Error.{check_of}
+use Rattle.correction.specs.Guesses.{NotSilent}
+use Rattle.correction.proofs.Slices.{position_some, position_none}
 
 -- a check number tells its direction
 direction : (q u t l L : ℕ) → l < q → L < q → u * q + l ≡ t * q + L → u ≡ t
@@ -76,3 +79,12 @@ no_bits a b =
 
     high : bit_and a b ≤ a
     high = and_le_l a b
+
+-- the first check that is not silent
+pub first_loud : (s : Shape) (syn : List ℕ) → s.n * s.q ≤ length syn
+    → (r : Option ℕ) → r ≡ position (λ x. not (eqb x 0)) (take (s.n * s.q) syn) → NotSilent s syn r
+first_loud s syn l (Some check) e =
+    let (inside, loud) = position_some (λ x. not (eqb x 0)) syn (s.n * s.q) l check (sym e) in
+    (inside, λ z. clash loud (not_of_true (eq-eqb (at syn check) 0 z)))
+first_loud s syn l None e =
+    all_intro (s.n * s.q) (λ i. eqb (at syn i) 0) (λ i li. not-false (eqb (at syn i) 0) (position_none (λ x. not (eqb x 0)) syn (s.n * s.q) l (sym e) i li))

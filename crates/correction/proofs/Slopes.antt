@@ -15,7 +15,7 @@ use Rattle.gtb.specs.Square.{line_of, at, narrow, syndrome, silent_test}
 use Rattle.gtb.specs.Answer.{unless}
 use Rattle.gtb.specs.Alike.{reslope, Alike}
 use Rattle.gtb.proofs.Alikes.{lawful_alike, refusal_alike, line_alike, syndrome_alike, silent_alike}
-use Rattle.correction.specs.declared.Decoded.TheVariants.{Corrected, Refused}
+use Rattle.std.specs.Prelude.{Ok, Err}
 use Rattle.correction.specs.Error.{on_check, mended}
 use Rattle.correction.specs.Reading.{Reader, changes_by, restored_by, accepted_by, read_of}
 
@@ -49,8 +49,8 @@ module _ (s : Shape) (slopes : List ℕ) (alike : Alike s slopes) where
     pub read_alike : read_of reader (reslope s slopes) w ≡ read_of reader s w
     unfolding read_of
     read_alike = λ i.
-        unless (lawful_alike s slopes alike i) (Refused (refusal_alike s slopes alike i))
-        (unless (a.suits s slopes i) (Refused Refusal.Directions)
-        (unless (eqb (length w) (word_length s)) (Refused Refusal.Length)
-        (unless (narrow s.b w) (Refused Refusal.Width)
-        (unless (accepted_alike i) (Refused reader.refusal) (Corrected (changes_alike i))))))
+        unless (lawful_alike s slopes alike i) (Err (refusal_alike s slopes alike i))
+        (unless (a.suits s slopes i) (Err Refusal.Directions)
+        (unless (eqb (length w) (word_length s)) (Err Refusal.Length)
+        (unless (narrow s.b w) (Err Refusal.Width)
+        (unless (accepted_alike i) (Err reader.refusal) (Ok (changes_alike i))))))

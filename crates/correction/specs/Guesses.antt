@@ -1,15 +1,15 @@
 -- What a search sees in the table of the syndromes, `syn` here: check t × q + L at that place.
-use Rattle.std.specs.Prelude.{◌≡◌, true, not, cond, ◌&&◌, List, ℕ, zero, suc, ◌+◌, ◌*◌, ◌/◌, ◌%◌, ◌<◌, ◌≤◌, eqb, leb}
+use Rattle.std.specs.Prelude.{◌≡◌, true, not, cond, ◌&&◌, List, Option, Some, None, ℕ, zero, suc, ◌+◌, ◌*◌, ◌/◌, ◌%◌, ◌<◌, eqb, leb}
 use Rattle.gtb.specs.declared.Shape.{Shape}
 use Rattle.gtb.specs.Shape.{word_length}
 use Rattle.gtb.specs.Square.{line_of, at}
 use Rattle.correction.specs.Error.{shows}
 use Rattle.correction.specs.Steps.{quiet}
 
--- a check that is not silent, or n × q if there is none
-pub record NotSilent (s : Shape) (syn : List ℕ) (r : ℕ) : Type 0 where
-  pub nonzero : r < s.n * s.q → at syn r ≡ 0 → ⊥
-  pub silent : s.n * s.q ≤ r → quiet s syn ≡ true
+-- a check that is not silent, or none
+abbrev pub NotSilent : Shape → List ℕ → Option ℕ → Type 0
+NotSilent s syn (Some check) = (check < s.n * s.q) × (at syn check ≡ 0 → ⊥)
+NotSilent s syn None = quiet s syn ≡ true
 
 -- how many lines of direction t are silent
 abbrev pub silent_lines : Shape → List ℕ → ℕ → ℕ

@@ -1,28 +1,24 @@
 -- What the shared steps of reading establish. They see the syndromes in their table alone: check t × q + L at that place.
-use Rattle.std.specs.Prelude.{◌≡◌, Bool, true, false, ◌&&◌, List, ℕ, ◌+◌, ◌*◌, ◌%◌, ◌<◌, ◌≤◌, eqb, length}
+use Rattle.std.specs.Prelude.{◌≡◌, Bool, true, false, ◌&&◌, List, ℕ, ◌+◌, ◌*◌, ◌%◌, ◌<◌, ◌≤◌, eqb, length, Result, Ok, Err, Option, Some, None}
 use Rattle.parity.specs.Xor.{◌⊕◌, xor_sum, when}
 use Rattle.parity.specs.Count.{count, any, all}
 use Rattle.gtb.specs.declared.Shape.{Shape}
 use Rattle.gtb.specs.declared.Refusal.{Refusal}
-use Rattle.gtb.specs.declared.Status.{Status}
-use Rattle.gtb.specs.declared.Status.TheVariants as status
 use Rattle.gtb.specs.Shape.{lawful, shape_refusal, word_length, slope_of}
 use Rattle.gtb.specs.Square.{line_of, at, Word, Syndromes}
 use Rattle.gtb.specs.Answer.{unless}
 use Rattle.gtb.specs.Lent.{word_status}
-use Rattle.correction.specs.declared.Decoded.{Decoded}
-use Rattle.correction.specs.declared.Decoded.TheVariants.{Corrected, Refused}
 use Rattle.correction.specs.Answer.{decoded_word}
 use Rattle.correction.specs.Error.{check_of, mended}
 use Rattle.correction.specs.Reading.{Reader, changes_by, restored_by, accepted_by}
 
 -- tests 1, 18, 16, 2, 3
-unfoldable pub tests_of : Shape → Bool → List ℕ → Status
-tests_of s suits w = unless (lawful s) (status.Refused (shape_refusal s)) (unless suits (status.Refused Refusal.Directions) (word_status s w))
+unfoldable pub tests_of : Shape → Bool → List ℕ → Result (Unit {0}) Refusal
+tests_of s suits w = unless (lawful s) (Err (shape_refusal s)) (unless suits (Err Refusal.Directions) (word_status s w))
 
 -- past them: the reader's own test, the answer and the word
-pub record Corrects (reader : Reader) (s : Shape) (w w' : List ℕ) (r : Decoded) : Type 0 where
-  pub answer : r ≡ unless (accepted_by reader s w) (Refused reader.refusal) (Corrected (changes_by reader s w))
+pub record Corrects (reader : Reader) (s : Shape) (w w' : List ℕ) (r : Result ℕ Refusal) : Type 0 where
+  pub answer : r ≡ unless (accepted_by reader s w) (Err reader.refusal) (Ok (changes_by reader s w))
   pub word : w' ≡ decoded_word w (restored_by reader s w) r
 
 -- `on_check` by the table
@@ -54,11 +50,11 @@ pub record Corrections (reader : Reader) (s : Shape) (w : List ℕ) (k : ℕ) (p
   pub changed : changes_by reader s w ≡ k
   pub word : restored_by reader s w ≡ mended s w error
 
--- what is found from the syndromes of a word: its corrections; or `limit`, if there are none that are accepted, or if not all was looked at
-pub record Found (reader : Reader) (s : Shape) (limit : ℕ) (whole : Bool) (syn places errors : List ℕ) (r : ℕ) : Type 0 where
-  pub within : r < limit → Within s r places
-  pub few : r < limit → (w : List ℕ) → Word s w → Syndromes s w syn → Corrections reader s w r places errors
-  pub many : whole ≡ true → limit ≤ r → (w : List ℕ) → Word s w → Syndromes s w syn → accepted_by reader s w ≡ false
+-- what is found from the syndromes of a word: its corrections; or none, if there are none that are accepted, or if not all was looked at
+pub record Found (reader : Reader) (s : Shape) (whole : Bool) (syn places errors : List ℕ) (r : Option ℕ) : Type 0 where
+  pub within : (k : ℕ) → r ≡ Some k → Within s k places
+  pub few : (k : ℕ) → r ≡ Some k → (w : List ℕ) → Word s w → Syndromes s w syn → Corrections reader s w k places errors
+  pub many : whole ≡ true → r ≡ None → (w : List ℕ) → Word s w → Syndromes s w syn → accepted_by reader s w ≡ false
 
 -- new is old with value x XORed onto the entry at place x, for each x below k
 pub record Toggled (k : ℕ) (place value : ℕ → ℕ) (old new : List ℕ) : Type 0 where
@@ -84,7 +80,7 @@ pub record Listed (p : ℕ → Bool) (m k : ℕ) (places : List ℕ) : Type 0 wh
   pub sums : (f : ℕ → ℕ) → xor_sum m (λ j. when (p j) (f j)) ≡ xor_sum k (λ x. f (at places x))
   pub finds : (r : ℕ → Bool) → any m (λ j. p j && r j) ≡ any k (λ x. r (at places x))
 
--- a search below m that ends at n: the list, or there are n or more
-pub record Scanned (p : ℕ → Bool) (n m r : ℕ) (places : List ℕ) : Type 0 where
-  pub few : r < n → Listed p m r places
-  pub many : n ≤ r → n ≤ count m p
+-- a search below m that gives up at n: the list, which is shorter than n; or there are n or more
+pub record Scanned (p : ℕ → Bool) (n m : ℕ) (r : Option ℕ) (places : List ℕ) : Type 0 where
+  pub few : (k : ℕ) → r ≡ Some k → (k < n) × Listed p m k places
+  pub many : r ≡ None → n ≤ count m p

@@ -1,75 +1,75 @@
 // What a search guesses: the checks that are not silent, the positions on one of them, and the values that enough checks on a position show.
-ghost use Rattle.std.specs.Prelude.{◌≡◌, true, ◌<◌, ◌≤◌};
-ghost use Rattle.gtb.specs.Shape.{Lawful};
+ghost use Rattle.std.specs.Prelude.{◌≡◌, true, not, ◌==◌, ◌<◌, ◌≤◌, position};
 ghost use Rattle.gtb.specs.Square.{at};
 ghost use Rattle.correction.specs.Guesses.{NotSilent, silent_lines, ManyNotSilent, OnRow, Placed, guessed};
 
-use crate::values::{hit, shown};
-use gtb::Shape;
+use crate::checks::Checks;
+use crate::values::shown;
 
-// The first check that is not silent.
-pub fn first_not_silent(shape: Shape, syn: &[u32; 248]) -> usize
-    requires { Lawful shape }
-    ensures { NotSilent shape syn.now result }
+// The first value that is not 0.
+fn first_nonzero(values: &[u32]) -> Option<usize>
+    ensures { result ≡ position (λ x. not (x == 0)) values.now }
 {
-    let q = shape.q as usize;
-    let n = shape.n as usize;
-    let count = n * q;
-    for e in 0..count {
-        if syn[e] != 0 {
-            return e;
+    values.iter().position(|x| *x != 0)
+}
+
+impl Checks {
+    // The first check that is not silent.
+    pub fn first_not_silent(self, syn: &[u32; 248]) -> Option<usize>
+        ensures { NotSilent self.shape syn.now result }
+    {
+        let count = (self.shape.n * self.shape.q) as usize;
+        first_nonzero(&syn[..count])
+    }
+
+    // How many lines of direction t are silent. Kept as a loop, for the reason that `shown` is.
+    fn silent_lines(self, syn: &[u32; 248], t: usize) -> usize
+        requires { t < self.shape.n }
+        ensures { result ≡ silent_lines self.shape syn.now t }
+    {
+        let q = self.shape.q as usize;
+        let mut silent = 0;
+        for line in 0..q {
+            silent += usize::from(syn[t * q + line] == 0);
         }
+        silent
     }
-    count
-}
 
-// How many lines of direction t are silent.
-fn silent_lines(shape: Shape, syn: &[u32; 248], t: usize) -> usize
-    requires { Lawful shape × (t < shape.n) }
-    ensures { result ≡ silent_lines shape syn.now t }
-{
-    let q = shape.q as usize;
-    let mut silent: usize = 0;
-    for line in 0..q {
-        silent += hit(syn[t * q + line], 0);
-    }
-    silent
-}
-
-// In some direction more than k lines are not silent: more than k symbols are wrong.
-pub fn too_many_not_silent(shape: Shape, syn: &[u32; 248], k: usize) -> bool
-    requires { Lawful shape × (k < shape.n) }
-    ensures { result ≡ true → ManyNotSilent shape syn.now k }
-{
-    let q = shape.q as usize;
-    let n = shape.n as usize;
-    for t in 0..n {
-        if silent_lines(shape, syn, t) + k < q {
-            return true;
+    // In some direction more than k lines are not silent: more than k symbols are wrong.
+    pub fn too_many_not_silent(self, syn: &[u32; 248], k: usize) -> bool
+        requires { k < self.shape.n }
+        ensures { result ≡ true → ManyNotSilent self.shape syn.now k }
+    {
+        let q = self.shape.q as usize;
+        let n = self.shape.n as usize;
+        for t in 0..n {
+            if self.silent_lines(syn, t) + k < q {
+                return true;
+            }
         }
+        false
     }
-    false
-}
 
-// The position in a row on a line of direction u, from 1 on.
-pub fn on_row(shape: Shape, u: usize, row: usize, line: usize) -> usize
-    requires { Lawful shape × (1 ≤ u) × (u < shape.n) × (row < shape.q) × (line < shape.q) }
-    ensures { OnRow shape u row line result }
-{
-    let q = shape.q as usize;
-    row * q + (line + (q - gtb::slope(shape, u)) * row) % q
-}
-
-// Position i on a line of direction t.
-pub fn place_of(shape: Shape, t: usize, line: usize, i: usize) -> usize
-    requires { Lawful shape × (t < shape.n) × (line < shape.q) × (i < shape.q) }
-    ensures { Placed shape t line i result }
-{
-    let q = shape.q as usize;
-    if t == 0 {
-        return line * q + i;
+    // The position in a row on a line of direction u, from 1 on.
+    pub fn on_row(self, u: usize, row: usize, line: usize) -> usize
+        requires { (1 ≤ u) × (u < self.shape.n) × (row < self.shape.q) × (line < self.shape.q) }
+        ensures { OnRow self.shape u row line result }
+    {
+        let q = self.shape.q as usize;
+        row * q + (line + (q - gtb::slope(self.shape, u)) * row) % q
     }
-    on_row(shape, t, i, line)
+
+    // Position i on a line of direction t.
+    pub fn place_of(self, t: usize, line: usize, i: usize) -> usize
+        requires { (t < self.shape.n) × (line < self.shape.q) × (i < self.shape.q) }
+        ensures { Placed self.shape t line i result }
+    {
+        if t == 0 {
+            let q = self.shape.q as usize;
+            return line * q + i;
+        }
+        self.on_row(t, i, line)
+    }
 }
 
 // Value t, if it is not 0, none before it is the same, and enough of them are.
@@ -81,7 +81,7 @@ pub fn candidate(values: &[u32; 8], n: usize, least: usize, t: usize) -> u32
     if value == 0 {
         return 0;
     }
-    if shown(values, t, value) != 0 {
+    if values[..t].contains(&value) {
         return 0;
     }
     if shown(values, n, value) < least {

@@ -5,36 +5,31 @@
 pub mod cancel;
 pub mod checks;
 pub mod guesses;
-pub mod number;
 pub mod row;
 pub mod shipped;
 pub mod table;
 pub mod values;
 
-ghost use Rattle.std.specs.Prelude.{◌≡◌, length};
+ghost use Rattle.std.specs.Prelude.{◌≡◌, length, MatchResult, Ok, Err};
 ghost use Rattle.gtb.specs.Shape.{word_length};
 ghost use Rattle.correction.specs.Steps.{tests_of, Within, Mends};
 
-use gtb::{Refusal, Shape, Status};
+use checks::Checks;
+use gtb::code::Code;
+use gtb::{Refusal, Shape};
 
-// The answer of reading: the number of symbols changed, or a refusal.
-#[derive(Clone, Copy)]
-pub enum Decoded {
-    Corrected(u32),
-    Refused(Refusal),
-}
-
-// Tests 1, 18, 16, 2, 3. `suits` says whether the way of reading can be used with the shape.
-pub fn test(shape: Shape, suits: bool, word: &[u32]) -> Status
-    ensures { result ≡ tests_of shape suits word.now }
+// Tests 1, 18, 16, 2, 3; past them the checks are at hand. `suits` says whether the way of reading can be used with the shape.
+pub fn test(shape: Shape, suits: bool, word: &[u32]) -> Result<Checks, Refusal>
+    ensures { MatchResult result
+        (λ checks. (checks.shape ≡ shape) × (tests_of shape suits word.now ≡ Ok tt))
+        (λ e. tests_of shape suits word.now ≡ Err e) }
 {
-    if !gtb::is_lawful(shape) {
-        return Status::Refused(gtb::shape_refusal(shape));
-    }
+    let code = Code::of(shape)?;
     if !suits {
-        return Status::Refused(Refusal::Directions);
+        return Err(Refusal::Directions);
     }
-    gtb::lent::word_status(shape, word)
+    code.test_word(word)?;
+    Ok(Checks::from(code))
 }
 
 // The corrections are taken off the word.

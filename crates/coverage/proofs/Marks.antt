@@ -13,7 +13,7 @@ use Rattle.parity.proofs.Lists.{at_tabulate}
 use Rattle.parity.proofs.Writes.{begins_none, begins_more, begins_all}
 use Rattle.gtb.specs.declared.Refusal.{Refusal}
 use Rattle.session.specs.declared.Session.{Session}
-use Rattle.coverage.specs.declared.Covered.TheVariants.{Functions, Refused}
+use Rattle.std.specs.Prelude.{Ok, Err}
 use Rattle.coverage.specs.Coverage.{is_called, cover_byte, cover_bytes, cover_count, cover_of, Covering}
 use Rattle.coverage.specs.Steps.{Marking}
 
@@ -62,12 +62,12 @@ unfolding cover_count
 cover_small calls = count_bound 256 (is_called calls)
 
 -- ---- what the viewer answers and leaves
-pub refusing : (σ : Session) (bytes : List ℕ) {e : Refusal} → Refused e ≡ cover_of σ bytes → Covering σ bytes bytes (Refused e)
+pub refusing : (σ : Session) (bytes : List ℕ) {e : Refusal} → Err e ≡ cover_of σ bytes → Covering σ bytes bytes (Err e)
 refusing σ bytes h = record { answer = h; left = refl }
 
-pub covering : (σ : Session) (bytes : List ℕ) {bytes' : List ℕ} {covered : ℕ} → cover_of σ bytes ≡ Functions (cover_count σ.calls)
-    → Marking σ.calls 256 bytes' covered → Covering σ bytes bytes' (Functions covered)
+pub covering : (σ : Session) (bytes : List ℕ) {bytes' : List ℕ} {covered : ℕ} → cover_of σ bytes ≡ Ok (cover_count σ.calls)
+    → Marking σ.calls 256 bytes' covered → Covering σ bytes bytes' (Ok covered)
 covering σ bytes {bytes'} {covered} h m =
     let all = marking_all m in
-    let is : Functions covered ≡ cover_of σ bytes = ap Functions all.1 ∙ sym h in
+    let is : Ok covered ≡ cover_of σ bytes = ap Ok all.1 ∙ sym h in
     record { answer = is; left = all.0 }

@@ -14,14 +14,13 @@ use Rattle.parity.proofs.Sums.{bit_true, bit_false}
 use Rattle.parity.proofs.Lists.{length_tabulate, at_tabulate}
 use Rattle.paper.specs.Paper as paper
 use Rattle.gtb.specs.declared.Refusal.{Refusal}
-use Rattle.gtb.specs.Answer.{refusal_number}
+use Rattle.gtb.specs.Answer.{refusal_number, answer_number}
 use Rattle.gtb.proofs.Judging.{decides_eqb, test}
 use Rattle.session.specs.declared.Session.{Session}
 use Rattle.session.specs.Session.{plain}
 use Rattle.session.proofs.Paper.{session_tests_lem}
-use Rattle.coverage.specs.declared.Covered.{Covered}
-use Rattle.coverage.specs.declared.Covered.TheVariants as covered
-use Rattle.coverage.specs.Coverage.{cover_byte, cover_bytes, cover_of, covered_number, bytes_after, Covering}
+use Rattle.std.specs.Prelude.{Result, Err}
+use Rattle.coverage.specs.Coverage.{cover_byte, cover_bytes, cover_of, bytes_after, Covering}
 use Rattle.coverage.proofs.Marks.{number_of_ones}
 
 byte_at : (calls : List ℕ) (f : ℕ) → f < 256 → ((0 < get_or calls f 0) × (get_or (cover_bytes calls) f 0 ≡ 1)) ⊎ ((get_or calls f 0 ≡ 0) × (get_or (cover_bytes calls) f 0 ≡ 0))
@@ -35,18 +34,18 @@ bytes_size : (calls : List ℕ) → length (cover_bytes calls) ≡ 256
 unfolding cover_bytes
 bytes_size calls = length_tabulate 256 (cover_byte calls)
 
-pub covering : (σ : Session) {bytes bytes' : List ℕ} {r : Covered} → Covering σ bytes bytes' r
-    → paper.Covering (plain σ) bytes bytes' (covered_number r)
+pub covering : (σ : Session) {bytes bytes' : List ℕ} {r : Result ℕ Refusal} → Covering σ bytes bytes' r
+    → paper.Covering (plain σ) bytes bytes' (answer_number r)
 unfolding cover_of
 covering σ {bytes} {bytes'} {r} x =
-    session_tests_lem σ covered.Refused _ (turn Refusal.Shape) (turn Refusal.Slope) (turn Refusal.Figures)
+    session_tests_lem σ Err _ (turn Refusal.Shape) (turn Refusal.Slope) (turn Refusal.Figures)
     (test (eqb (length bytes) 256) _ _ (decides_eqb _ _) (turn Refusal.Length) (λ _ h.
     let left : bytes' ≡ cover_bytes σ.calls = x.left ∙ ap (bytes_after σ bytes) h in
-    (ap length left ∙ bytes_size σ.calls, (λ f l. rw left (byte_at σ.calls f l)), ap covered_number h ∙ sym (number_of_ones σ.calls) ∙ ap (λ (b : List ℕ). count 256 (λ f. eqb (get_or b f 0) 1)) (sym left))))
+    (ap length left ∙ bytes_size σ.calls, (λ f l. rw left (byte_at σ.calls f l)), ap answer_number h ∙ sym (number_of_ones σ.calls) ∙ ap (λ (b : List ℕ). count 256 (λ f. eqb (get_or b f 0) 1)) (sym left))))
     x.answer
   where
-    turn : (e : Refusal) → r ≡ covered.Refused e → (covered_number r ≡ 2 ^ 31 + refusal_number e) × (bytes' ≡ bytes)
-    turn e h = (ap covered_number h, x.left ∙ ap (bytes_after σ bytes) h)
+    turn : (e : Refusal) → r ≡ Err e → (answer_number r ≡ 2 ^ 31 + refusal_number e) × (bytes' ≡ bytes)
+    turn e h = (ap answer_number h, x.left ∙ ap (bytes_after σ bytes) h)
 
-pub covering_asked : {σ : Session} {bytes bytes' : List ℕ} {r : Covered} → Covering σ bytes bytes' r → Covering σ bytes bytes' r × paper.Covering (plain σ) bytes bytes' (covered_number r)
+pub covering_asked : {σ : Session} {bytes bytes' : List ℕ} {r : Result ℕ Refusal} → Covering σ bytes bytes' r → Covering σ bytes bytes' r × paper.Covering (plain σ) bytes bytes' (answer_number r)
 covering_asked {σ} x = (x, covering σ x)

@@ -18,14 +18,13 @@ use Rattle.parity.proofs.Lists.{at_tabulate, length_tabulate}
 use Rattle.gtb.specs.declared.Shape.{Shape}
 use Rattle.gtb.specs.Shape.{lawful}
 use Rattle.session.specs.declared.Session.{Session}
-use Rattle.session.specs.declared.Fresh.{Fresh}
 use Rattle.session.specs.declared.Outcome.{Outcome}
-use Rattle.session.specs.Session.{Beginning, is_call, count_of, session_status}
+use Rattle.session.specs.Session.{begun_session, Beginning, is_call, count_of, session_status}
 use Rattle.session.specs.Arrival.{Ways, the_ways}
 use Rattle.session.specs.Recording.{Sheet, sheet_at, Recording, tally, Arrival, Fits}
 use Rattle.session.specs.Claim.{Run, Demand3, ClaimOf}
-use Rattle.coverage.specs.declared.Covered.{Covered}
-use Rattle.coverage.specs.declared.Covered.TheVariants.{Functions}
+use Rattle.std.specs.Prelude.{Result, Ok}
+use Rattle.gtb.specs.declared.Refusal.{Refusal}
 use Rattle.coverage.specs.Coverage.{is_called, cover_byte, cover_bytes, cover_count, cover_of, bytes_after, Covering, Marked, is_marked, Viewed}
 
 -- ---- the marks of one page
@@ -120,16 +119,16 @@ unfolding bit
 no_is true h = absurd (h refl)
 no_is false h = refl
 
-pub recording_cover : {ways : Ways} {s : Shape} {pages : List Sheet} {begin : Fresh} {arrivals : List Arrival} {answers : List Outcome} {end : Session} {bytes bytes' : List ℕ} {r : Covered}
+pub recording_cover : {ways : Ways} {s : Shape} {pages : List Sheet} {begin : Result Session Refusal} {arrivals : List Arrival} {answers : List Outcome} {end : Session} {bytes bytes' : List ℕ} {r : Result ℕ Refusal}
     → Recording s pages → Demand3 ways s pages begin arrivals answers end → length bytes ≡ 256 → Covering end bytes bytes' r → Viewed pages bytes' r
 unfolding cover_of session_status cover_bytes cover_count
 recording_cover {pages = pages} {end = end} {bytes = bytes} {bytes' = bytes'} {r = r} recording d size c =
-    record { size = rw left (length_tabulate 256 _); yes = λ f l. (λ h. (marked_means pages f).0 (yes_is _ (sym (byte f l) ∙ h)), λ m. byte f l ∙ bit_true ((marked_means pages f).1 m)); no = λ f l none. byte f l ∙ no_is _ (λ t. none ((marked_means pages f).0 t)); number = answer ∙ ap Functions (count_cong 256 _ _ called) }
+    record { size = rw left (length_tabulate 256 _); yes = λ f l. (λ h. (marked_means pages f).0 (yes_is _ (sym (byte f l) ∙ h)), λ m. byte f l ∙ bit_true ((marked_means pages f).1 m)); no = λ f l none. byte f l ∙ no_is _ (λ t. none ((marked_means pages f).0 t)); number = answer ∙ ap Ok (count_cong 256 _ _ called) }
   where
     called : (f : ℕ) → f < 256 → is_called end.calls f ≡ is_marked pages f
     called f l = ap (λ (x : ℕ). ltb 0 x) (d.whole f l) ∙ tally_marked pages f
 
-    answer : r ≡ Functions (count 256 (is_called end.calls))
+    answer : r ≡ Ok (count 256 (is_called end.calls))
     answer = c.answer ∙ rw (ap lawful d.every.shape ∙ recording.lawful, d.every.consistent, eq-eqb (length bytes) 256 size)
 
     left : bytes' ≡ tabulate 256 (cover_byte end.calls)
@@ -139,8 +138,8 @@ recording_cover {pages = pages} {end = end} {bytes = bytes} {bytes' = bytes'} {r
     byte f l = ap (λ (x : List ℕ). get_or x f 0) left ∙ at_tabulate 256 (cover_byte end.calls) f l ∙ ap bit (called f l)
 
 -- from a recording, a list that fits it and a run to the bytes, if demand 3 is claimed: the crate above shows that
-pub claimed_cover : {s : Shape} → ClaimOf the_ways s → {pages : List Sheet} {begin : Fresh} {arrivals : List Arrival} {answers : List Outcome} {end : Session} {bytes bytes' : List ℕ} {r : Covered}
-    → Recording s pages → Fits the_ways s pages arrivals → Beginning s begin → Run the_ways begin.session arrivals answers end
+pub claimed_cover : {s : Shape} → ClaimOf the_ways s → {pages : List Sheet} {begin : Result Session Refusal} {arrivals : List Arrival} {answers : List Outcome} {end : Session} {bytes bytes' : List ℕ} {r : Result ℕ Refusal}
+    → Recording s pages → Fits the_ways s pages arrivals → Beginning s begin → Run the_ways (begun_session s begin) arrivals answers end
     → length bytes ≡ 256 → Covering end bytes bytes' r → Viewed pages bytes' r
 claimed_cover claim {pages} {begin} {arrivals} {answers} {end} recording fits made run =
     recording_cover recording (claim pages arrivals answers begin end recording fits made run)

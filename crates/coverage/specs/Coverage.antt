@@ -1,5 +1,5 @@
 -- The coverage viewer (RULES 5.2).
-use Rattle.std.specs.Prelude.{◌≡◌, Bool, ◌&&◌, List, ◌↔◌, ℕ, ◌+◌, ◌^◌, ◌<◌, eqb, ltb, length, get_or}
+use Rattle.std.specs.Prelude.{◌≡◌, Bool, ◌&&◌, List, ◌↔◌, ℕ, ◌+◌, ◌^◌, ◌<◌, eqb, ltb, length, get_or, Result, Ok, Err}
 use Rattle.parity.specs.Count.{bit, any, count}
 use Rattle.parity.specs.Lists.{tabulate}
 use Rattle.gtb.specs.declared.Refusal.{Refusal}
@@ -7,8 +7,6 @@ use Rattle.gtb.specs.Answer.{refusal_number, unless}
 use Rattle.session.specs.declared.Session.{Session}
 use Rattle.session.specs.Session.{session_status, past}
 use Rattle.session.specs.Recording.{Sheet, sheet_at}
-use Rattle.coverage.specs.declared.Covered.{Covered}
-use Rattle.coverage.specs.declared.Covered.TheVariants.{Functions, Refused}
 
 -- function f has a count above zero
 abbrev pub is_called : List ℕ → ℕ → Bool
@@ -27,23 +25,18 @@ unfoldable pub cover_count : List ℕ → ℕ
 cover_count calls = count 256 (is_called calls)
 
 -- the viewer tests 1, 18, 11, then 2
-unfoldable pub cover_of : Session → List ℕ → Covered
+unfoldable pub cover_of : Session → List ℕ → Result ℕ Refusal
 cover_of σ bytes =
-    past (session_status σ) Refused
-    (unless (eqb (length bytes) 256) (Refused Refusal.Length) (Functions (cover_count σ.calls)))
-
--- as one number: how many, or 2^31 plus the refusal's
-abbrev pub covered_number : Covered → ℕ
-covered_number (Functions k) = k
-covered_number (Refused e) = 2 ^ 31 + refusal_number e
+    past (session_status σ) Err
+    (unless (eqb (length bytes) 256) (Err Refusal.Length) (Ok (cover_count σ.calls)))
 
 -- a refusal leaves the slice as it was
-abbrev pub bytes_after : Session → List ℕ → Covered → List ℕ
-bytes_after σ bytes (Functions k) = cover_bytes σ.calls
-bytes_after σ bytes (Refused e) = bytes
+abbrev pub bytes_after : Session → List ℕ → Result ℕ Refusal → List ℕ
+bytes_after σ bytes (Ok k) = cover_bytes σ.calls
+bytes_after σ bytes (Err e) = bytes
 
 -- what the viewer answers and leaves
-pub record Covering (σ : Session) (bytes bytes' : List ℕ) (r : Covered) : Type 0 where
+pub record Covering (σ : Session) (bytes bytes' : List ℕ) (r : Result ℕ Refusal) : Type 0 where
   pub answer : r ≡ cover_of σ bytes
   pub left : bytes' ≡ bytes_after σ bytes r
 
@@ -63,10 +56,10 @@ is_marked pages f =
     ltb 0 f && any (length pages) (λ i. any (length (sheet_at pages i).marks) (λ j. eqb (get_or (sheet_at pages i).marks j 0) f))
 
 -- what the viewer must show of a session that holds the recording's tally
-pub record Viewed (pages : List Sheet) (bytes : List ℕ) (r : Covered) : Type 0 where
+pub record Viewed (pages : List Sheet) (bytes : List ℕ) (r : Result ℕ Refusal) : Type 0 where
   pub size : length bytes ≡ 256
   -- yes exactly for the functions from 1 on that some page has a mark for
   pub yes : (f : ℕ) → f < 256 → (get_or bytes f 0 ≡ 1) ↔ ((0 < f) × Marked pages f)
   pub no : (f : ℕ) → f < 256 → ((0 < f) × Marked pages f → ⊥) → get_or bytes f 0 ≡ 0
   -- and how many these are
-  pub number : r ≡ Functions (count 256 (is_marked pages))
+  pub number : r ≡ Ok (count 256 (is_marked pages))

@@ -17,7 +17,7 @@ use Rattle.gtb.specs.Answer.{unless}
 use Rattle.gtb.specs.Alike.{reslope, Alike}
 use Rattle.gtb.proofs.Alikes.{lawful_alike, refusal_alike, line_alike}
 use Rattle.correction.proofs.Slopes.{AlikeReader, check_alike}
-use Rattle.gtb.specs.declared.Status.TheVariants as status
+use Rattle.std.specs.Prelude.{Ok, Err}
 use Rattle.decoder.specs.Looking.{looked_at, looking_of}
 use Rattle.decoder.specs.Decode.{located, alone, error_at, clean}
 
@@ -48,9 +48,9 @@ module _ (s : Shape) (slopes : List ℕ) (alike : Alike s slopes) where
   pub looking_alike : (w looked : List ℕ) → looking_of (reslope s slopes) w looked ≡ looking_of s w looked
   unfolding looking_of
   looking_alike w looked = λ i.
-      unless (lawful_alike s slopes alike i) (status.Refused (refusal_alike s slopes alike i))
-      (unless (eqb (length w) (word_length s) && eqb (length looked) (word_length s)) (status.Refused Refusal.Length)
-      (unless (narrow s.b w) (status.Refused Refusal.Width) status.Done))
+      unless (lawful_alike s slopes alike i) (Err (refusal_alike s slopes alike i))
+      (unless (eqb (length w) (word_length s) && eqb (length looked) (word_length s)) (Err Refusal.Length)
+      (unless (narrow s.b w) (Err Refusal.Width) (Ok tt)))
 
 -- so does clean reading
 pub clean_alike : AlikeReader clean

@@ -16,8 +16,7 @@ use Rattle.parity.proofs.Tests.{either, clash, and_no_right, not_of_true, not_of
 use Rattle.parity.proofs.Lowest.{lowest_right}
 use Rattle.gtb.specs.declared.Shape.{Shape}
 use Rattle.gtb.specs.declared.Refusal.{Refusal}
-use Rattle.gtb.specs.declared.Status.{Status}
-use Rattle.gtb.specs.declared.Status.TheVariants.{Done, Refused}
+use Rattle.std.specs.Prelude.{Result, Ok, Err}
 use Rattle.gtb.specs.Shape.{lawful, shape_refusal, Lawful, word_length}
 use Rattle.gtb.specs.Square.{line_of, at, narrow, Codeword}
 use Rattle.gtb.specs.Answer.{unless}
@@ -110,14 +109,14 @@ silent_settles s law w v k x t j lt lj z =
 
 -- ---- the answers of `looked`, one for each way out
 module _ {s : Shape} {w looked : List ℕ} where
-  looking : {looked' : List ℕ} {r : Status} → r ≡ looking_of s w looked → looked' ≡ looked_left s w looked r → Looking s w looked looked' r
+  looking : {looked' : List ℕ} {r : Result (Unit {0}) Refusal} → r ≡ looking_of s w looked → looked' ≡ looked_left s w looked r → Looking s w looked looked' r
   looking h left = record { answer = h; left = left }
 
-  pub looking_shape : {e : Refusal} → lawful s ≡ false → e ≡ shape_refusal s → Looking s w looked looked (Refused e)
+  pub looking_shape : {e : Refusal} → lawful s ≡ false → e ≡ shape_refusal s → Looking s w looked looked (Err e)
   unfolding looking_of
-  looking_shape h is = looking (rw h (ap Refused is)) refl
+  looking_shape h is = looking (rw h (ap Err is)) refl
 
-  pub looking_list : Lawful s → (length looked ≡ word_length s → ⊥) → Looking s w looked looked (Refused Refusal.Length)
+  pub looking_list : Lawful s → (length looked ≡ word_length s → ⊥) → Looking s w looked looked (Err Refusal.Length)
   unfolding looking_of
   looking_list h ne = looking (rw (h, and_no_right (eqb (length w) (word_length s)) (ne_eqb _ _ ne))) refl
 
@@ -127,13 +126,13 @@ module _ (s : Shape) (law : Lawful s) (w looked : List ℕ) (size : length looke
   unfolding looking_of word_status
   by_word = rw (law, eq-eqb _ _ size) (same (eqb (length w) (word_length s)))
     where
-      same : (a : Bool) → unless a (Refused Refusal.Length) (unless (narrow s.b w) (Refused Refusal.Width) Done)
-          ≡ unless (a && true) (Refused Refusal.Length) (unless (narrow s.b w) (Refused Refusal.Width) Done)
+      same : (a : Bool) → unless {A = Result (Unit {0}) Refusal} a (Err Refusal.Length) (unless (narrow s.b w) (Err Refusal.Width) (Ok tt))
+          ≡ unless (a && true) (Err Refusal.Length) (unless (narrow s.b w) (Err Refusal.Width) (Ok tt))
       same true = refl
       same false = refl
 
-  pub looking_word : {e : Refusal} → Refused e ≡ word_status s w → Looking s w looked looked (Refused e)
+  pub looking_word : {e : Refusal} → Err e ≡ word_status s w → Looking s w looked looked (Err e)
   looking_word h = looking (h ∙ by_word) refl
 
-  pub looking_done : {looked' : List ℕ} → Done ≡ word_status s w → looked' ≡ tabulate (word_length s) (looked_at s (at w)) → Looking s w looked looked' Done
+  pub looking_done : {looked' : List ℕ} → Ok tt ≡ word_status s w → looked' ≡ tabulate (word_length s) (looked_at s (at w)) → Looking s w looked looked' (Ok tt)
   looking_done h is = looking (h ∙ by_word) is

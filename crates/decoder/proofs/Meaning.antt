@@ -26,7 +26,7 @@ use Rattle.gtb.proofs.Words.{tabulate_word}
 use Rattle.gtb.proofs.Answers.{Foreign}
 use Rattle.distance.specs.Distance.{Near}
 use Rattle.distance.proofs.Near.{near_self}
-use Rattle.correction.specs.declared.Decoded.TheVariants.{Corrected, Refused}
+use Rattle.std.specs.Prelude.{Ok, Err}
 use Rattle.correction.specs.Error.{weight, damaged, on_check}
 use Rattle.correction.specs.Answer.{decoded_word}
 use Rattle.correction.specs.Reading.{changes_by, restored_by, accepted_by}
@@ -133,7 +133,7 @@ clean_meant = record {
 }
 
 -- an explained word is accepted, with that codeword and that number, and there is one at most
-pub explains_decode : (s : Shape) → Lawful s → (w v : List ℕ) (k : ℕ) → Explains s w v k → (decode_of s w ≡ Corrected k) × (restored s w ≡ v)
+pub explains_decode : (s : Shape) → Lawful s → (w v : List ℕ) (k : ℕ) → Explains s w v k → (decode_of s w ≡ Ok k) × (restored s w ≡ v)
 explains_decode s law = means_read clean_meant s law refl
 
 pub explains_unique : (s : Shape) → Lawful s → (w v v' : List ℕ) (k k' : ℕ) → Explains s w v k → Explains s w v' k' → (v ≡ v') × (k ≡ k')
@@ -144,5 +144,5 @@ pub decode_meets : (s : Shape) (w : List ℕ) → Decoding s w (decoded_word w (
 decode_meets = meets clean_meant
 
 -- it refuses with 1, 18, 2, 3 and 4 alone
-pub decode_never : (s : Shape) (w : List ℕ) (e : Refusal) → Foreign s e → decode_of s w ≡ Refused e → ⊥
+pub decode_never : (s : Shape) (w : List ℕ) (e : Refusal) → Foreign s e → decode_of s w ≡ Err e → ⊥
 decode_never s w e f = read_never clean s w e f (λ no. absurd (clash refl no)) f.damage

@@ -12,8 +12,7 @@ use Rattle.paper.specs.Paper as paper
 use Rattle.paper.specs.Reading.{nonzero}
 use Rattle.gtb.specs.declared.Shape.{Shape}
 use Rattle.gtb.specs.declared.Refusal.{Refusal}
-use Rattle.gtb.specs.declared.Status.{Status}
-use Rattle.gtb.specs.declared.Status.TheVariants as status
+use Rattle.std.specs.Prelude.{Result, Err}
 use Rattle.gtb.specs.Shape.{of, Lawful, word_length}
 use Rattle.gtb.specs.Square.{at, narrow}
 use Rattle.gtb.specs.Answer.{refusal_number, status_number}
@@ -79,14 +78,14 @@ module _ (s : Shape) (w : List ℕ) where
         silent = λ lt. sym (on_check_lem s w (looked_at s (at w) j - 1) j) ∙ l.short lt;
       }
 
-  module _ {list list' : List ℕ} {r : Status} (x : Looking s w list list' r) where
-    turn : (e : Refusal) → r ≡ status.Refused e → (status_number r ≡ 2 ^ 31 + refusal_number e) × (list' ≡ list)
+  module _ {list list' : List ℕ} {r : Result (Unit {0}) Refusal} (x : Looking s w list list' r) where
+    turn : (e : Refusal) → r ≡ Err e → (status_number r ≡ 2 ^ 31 + refusal_number e) × (list' ≡ list)
     turn e h = (ap status_number h, x.left ∙ ap (looked_left s w list) h)
 
     pub looking : paper.Looking (of s) w list list' (status_number r)
     unfolding looking_of
     looking =
-        shape_tests s status.Refused _ (turn Refusal.Shape) (turn Refusal.Slope) (λ law.
+        shape_tests s Err _ (turn Refusal.Shape) (turn Refusal.Slope) (λ law.
         test (eqb (length w) (word_length s) && eqb (length list) (word_length s)) _ _ (decides_both _ _ (decides_eqb _ _) (decides_eqb _ _)) (turn Refusal.Length) (λ _.
         test (narrow s.b w) _ _ (decides_width s w) (turn Refusal.Width) (λ _ h.
         let left = x.left ∙ ap (looked_left s w list) h in (

@@ -1,4 +1,5 @@
 -- What is found in the table of syndromes is what the definitions say of the word.
+use Rattle.std.specs.Prelude.{Some, None}
 use mathlib.Core.Path.{◌≡◌, refl, sym, ap, ap₂, ◌∙◌}
 use mathlib.Core.Bool.{Bool, true, false, not, ◌&&◌}
 use mathlib.Core.List.{List}
@@ -71,15 +72,15 @@ module _ (s : Shape) (h : Lawful s) (w syn : List ℕ) (y : Syndromes s w syn) w
         ap₂ (λ (a b : Bool). a && b) (le-leb (changes_by clean s w) (s.n - 1) (omega (arith, counts_located, l.counted))) (silent_by errors_listed y t h)
 
 -- ---- what `find` gives
-pub found_many : {s : Shape} {syn places errors : List ℕ} → Lawful s → s.n ≤ count (word_length s) (judged s syn) → Found clean s s.n true syn places errors s.n
+pub found_many : {s : Shape} {syn places errors : List ℕ} → Lawful s → s.n ≤ count (word_length s) (judged s syn) → Found clean s true syn places errors None
 found_many {s} {syn} h many = found_none (λ whole w hw y. uncorrectable s h w syn y many)
 
 module _ {s : Shape} {syn places errors new : List ℕ} {k : ℕ} (h : Lawful s) (lk : k < s.n) (l : Listed (judged s syn) (word_length s) k places)
     (m : Begins 8 k (λ x. error_among s syn places k (at places x)) errors) (t : Cancelled s k places errors syn new) where
-  pub found_corrections : quiet s new ≡ true → Found clean s s.n true syn places errors k
+  pub found_corrections : quiet s new ≡ true → Found clean s true syn places errors (Some k)
   unfolding restored_by
   found_corrections e =
-      found_few lk (within h lk l)
+      found_few (within h lk l)
       (λ w hw y. record {
         error = error_at s (at w);
         listed = errors_listed s h w syn y l m;
@@ -88,5 +89,5 @@ module _ {s : Shape} {syn places errors new : List ℕ} {k : ℕ} (h : Lawful s)
         word = refl;
       })
 
-  pub found_loud : quiet s new ≡ false → Found clean s s.n true syn places errors s.n
+  pub found_loud : quiet s new ≡ false → Found clean s true syn places errors None
   found_loud e = found_none (λ whole w hw y. correctable_by s h w syn y l m t lk ∙ e)

@@ -1,12 +1,11 @@
 -- Clean reading by its equation, and its contract (RULES 3).
-use Rattle.std.specs.Prelude.{Bool, true, not, ◌&&◌, List, ℕ, ◌-◌, eqb}
+use Rattle.std.specs.Prelude.{Bool, true, not, ◌&&◌, List, ℕ, ◌-◌, eqb, Result}
 use Rattle.parity.specs.Xor.{when}
 use Rattle.parity.specs.Count.{any, all, first_value}
 use Rattle.gtb.specs.declared.Shape.{Shape}
 use Rattle.gtb.specs.declared.Refusal.{Refusal}
 use Rattle.gtb.specs.Shape.{word_length}
 use Rattle.gtb.specs.Square.{line_of}
-use Rattle.correction.specs.declared.Decoded.{Decoded}
 use Rattle.correction.specs.Error.{on_check}
 use Rattle.correction.specs.Reading.{Reader, restored_by, read_of, Reads}
 use Rattle.decoder.specs.Damage.{Explains}
@@ -27,12 +26,12 @@ error_at s f j = when (located s f j) (first_value s.n (alone s f j) (on_check s
 abbrev pub clean : Reader
 clean = record { found = located; change = error_at; bound = λ s. s.n - 1; refusal = Refusal.Uncorrectable; suits = λ s. true }
 
-abbrev pub decode_of : Shape → List ℕ → Decoded
+abbrev pub decode_of : Shape → List ℕ → Result ℕ Refusal
 decode_of = read_of clean
 
 abbrev pub restored : Shape → List ℕ → List ℕ
 restored = restored_by clean
 
 -- clean reading: a codeword and clean damage explain the word that came
-abbrev pub Decoding : Shape → List ℕ → List ℕ → Decoded → Type 0
+abbrev pub Decoding : Shape → List ℕ → List ℕ → Result ℕ Refusal → Type 0
 Decoding = Reads clean Explains

@@ -9,44 +9,34 @@ mod looking;
 ghost use Rattle.paper.specs.Reading as paper;
 ghost use Rattle.gtb.specs.Answer.{status_number};
 ghost use Rattle.gtb.specs.Shape.{of};
-ghost use Rattle.correction.specs.Answer.{decoded_number};
+ghost use Rattle.gtb.specs.Answer.{answer_number};
 ghost use Rattle.decoder.specs.Decode.{Decoding};
 ghost use Rattle.decoder.specs.Looking.{Looking};
 
-use correction::{Decoded, test};
-use gtb::lent::word_status;
-use gtb::size::word_length;
-use gtb::{Refusal, Shape, Status};
+use correction::checks::Checks;
+use correction::test;
+use gtb::code::Code;
+use gtb::{Refusal, Shape};
 
 // Reading: tests 1, 18, 2, 3, then the work.
-pub fn decode(shape: Shape, word: &mut [u32]) -> Decoded
+pub fn decode(shape: Shape, word: &mut [u32]) -> Result<u32, Refusal>
     ensures read { Decoding shape word.old word.new result }
-    ensures paper { paper.Reading (of shape) 0 word.old word.new (decoded_number result) }
+    ensures paper { paper.Reading (of shape) 0 word.old word.new (answer_number result) }
 {
-    let tested = test(shape, true, word);
-    match tested {
-        Status::Refused(e) => Decoded::Refused(e),
-        Status::Done => correct::correct(shape, word),
-    }
+    let checks = test(shape, true, word)?;
+    correct::correct(checks, word)
 }
 
 // How many checks of each symbol reading looks at, by reading's own judging: tests 1, 18, 2, 3, then the list.
-pub fn looked(shape: Shape, word: &[u32], looked: &mut [u32]) -> Status
+pub fn looked(shape: Shape, word: &[u32], looked: &mut [u32]) -> Result<(), Refusal>
     ensures looked { Looking shape word.now looked.old looked.new result }
     ensures paper { paper.Looking (of shape) word.now looked.old looked.new (status_number result) }
 {
-    if !gtb::is_lawful(shape) {
-        return Status::Refused(gtb::shape_refusal(shape));
+    let code = Code::of(shape)?;
+    if looked.len() != code.word_length() {
+        return Err(Refusal::Length);
     }
-    if looked.len() != word_length(shape) {
-        return Status::Refused(Refusal::Length);
-    }
-    let tested = word_status(shape, word);
-    match tested {
-        Status::Refused(e) => Status::Refused(e),
-        Status::Done => {
-            looking::note(shape, word, looked);
-            Status::Done
-        }
-    }
+    code.test_word(word)?;
+    looking::note(Checks::from(code), word, looked);
+    Ok(())
 }

@@ -26,8 +26,7 @@ use Rattle.distance.proofs.Differences.{differs}
 use Rattle.correction.specs.Error.{mended}
 use Rattle.correction.proofs.Errors.{mended_at}
 use Rattle.correction.proofs.Near.{error_of}
-use Rattle.double.specs.declared.Pair.{Pair}
-use Rattle.double.specs.Steps.{pair_of, FirstLine, LastLine, Tried, Parts}
+use Rattle.double.specs.Steps.{pair_of, FirstLine, LastLine, Parts}
 use Rattle.double.proofs.Lone.{lone, lone_check}
 
 -- the word differs from v at p and at r, which may be one position, and nowhere else
@@ -203,12 +202,8 @@ module _ (s : Shape) (law : Lawful s) (w v syn : List ℕ) (k : ℕ) (y : Syndro
       (either (eqb (t * s.q + a) (t * s.q + b)))
 
   -- a pair that is the difference silences every check
-  pair_silent : (a x b z : ℕ) → ((j : ℕ) → j < word_length s → pair_of a x b z j ≡ error_of w v j) → silent_test s (at (mended s w (pair_of a x b z))) ≡ true
+  pub pair_silent : (a x b z : ℕ) → ((j : ℕ) → j < word_length s → pair_of a x b z j ≡ error_of w v j) → silent_test s (at (mended s w (pair_of a x b z))) ≡ true
   pair_silent a x b z same =
       test_cong s (at (mended s w (pair_of a x b z))) (at v)
       (λ j l. mended_at s w (pair_of a x b z) j l ∙ ap (λ (m : ℕ). at w j ⊕ m) (same j l) ∙ twice (at w j) (at v j))
       ∙ silent_test_lem s (at v) near.codeword.checks
-
-  pub tried_works : {a x b z : ℕ} {pair : Pair} → Tried s syn a x b z pair → ((j : ℕ) → j < word_length s → pair_of a x b z j ≡ error_of w v j) → pair.works ≡ true
-  tried_works {a} {x} {b} {z} {pair} tried same =
-      tried.works w y ∙ rw (tried.place_a, tried.value_x, tried.place_b, tried.value_y) (pair_silent a x b z same)

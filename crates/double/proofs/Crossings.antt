@@ -1,10 +1,13 @@
 -- Lines that are not silent, one after the other, and where two lines meet.
 use mathlib.Core.Path.{◌≡◌, refl, sym, ap, ◌∙◌}
 use mathlib.Core.List.{List}
-use Prim.Native.Nat.{ℕ, ◌+◌, ◌-◌, ◌*◌, ◌<◌}
+use Prim.Native.Nat.{ℕ, ◌+◌, ◌*◌, ◌<◌, ◌≤◌}
 use native.Mathlib.Decide.{dec_lt}
 use native.Mathlib.Omega.{arith}
 use lib.Arith.{digits_lt}
+use lib.ListN.{length}
+use Rattle.std.specs.Prelude.{take, drop}
+use Rattle.std.proofs.lemmas.List.{get_or-take, get_or-drop, length-take-le, length-drop}
 use Rattle.gtb.specs.declared.Shape.{Shape}
 use Rattle.gtb.specs.Shape.{Lawful, word_length}
 use Rattle.gtb.specs.Square.{line_of, at}
@@ -14,43 +17,45 @@ use Rattle.correction.specs.Guesses.{OnRow}
 use Rattle.correction.proofs.Guessing.{same_position}
 use Rattle.double.specs.Steps.{FirstLine, LastLine, Crosses}
 
--- ---- the first line that is not silent, and the last
-module _ (s : Shape) (syn : List ℕ) (t : ℕ) where
-  -- this one, and all before it silent
-  pub first_here : (r : ℕ) → r < s.q → ((L : ℕ) → L < r → at syn (t * s.q + L) ≡ 0) → (at syn (t * s.q + r) ≡ 0 → ⊥) → FirstLine s syn t r
-  first_here r lr before here = record {
-    below = lr;
+-- ---- the first line that is not silent, and the last, in the checks of a direction
+module _ (s : Shape) (syn : List ℕ) (t : ℕ) {lines : List ℕ} (l : t * s.q + s.q ≤ length syn) (e : lines ≡ take s.q (drop (t * s.q) syn)) where
+  size : length lines ≡ s.q
+  size = ap length e ∙ length-take-le s.q (drop (t * s.q) syn) (omega (arith, length-drop (t * s.q) syn, l))
+
+  entry : (L : ℕ) → L < s.q → at lines L ≡ at syn (t * s.q + L)
+  entry L lL = ap (λ (xs : List ℕ). at xs L) e ∙ get_or-take s.q (drop (t * s.q) syn) L 0 lL ∙ get_or-drop (t * s.q) syn L 0
+
+  pub first_found : (r : ℕ) → r < length lines → (at lines r ≡ 0 → ⊥) → ((k : ℕ) → k < r → at lines k ≡ 0) → FirstLine s syn t r
+  first_found r lr here before = record {
+    below = omega (arith, lr, size);
     first = λ L lL nz. (
       elim (dec_lt L r) [
-        | yes l ↦ absurd (nz (before L l))
-        | no l ↦ omega arith
+        | yes less ↦ absurd (nz (sym (entry L lL) ∙ before L less))
+        | no more ↦ omega arith
       ],
-      here,
+      λ z. here (entry r (omega (arith, lr, size)) ∙ z),
     );
   }
 
-  pub first_none : 0 < s.q → ((L : ℕ) → L < s.q → at syn (t * s.q + L) ≡ 0) → FirstLine s syn t 0
-  first_none pos silent = record { below = pos; first = λ L lL nz. absurd (nz (silent L lL)) }
-
-  -- going down: k lines passed
-  pub last_here : (k r : ℕ) → k < s.q → r ≡ s.q - 1 - k → ((m : ℕ) → m < k → at syn (t * s.q + (s.q - 1 - m)) ≡ 0)
-      → (at syn (t * s.q + r) ≡ 0 → ⊥) → LastLine s syn t r
-  last_here k r lk e after here = record {
-    below = omega arith;
+  pub last_found : (r : ℕ) → r < length lines → (at lines r ≡ 0 → ⊥) → ((k : ℕ) → r < k → k < length lines → at lines k ≡ 0) → LastLine s syn t r
+  last_found r lr here after = record {
+    below = omega (arith, lr, size);
     last = λ L lL nz. (
       elim (dec_lt r L) [
-        | yes l ↦ absurd (nz (ap (λ (x : ℕ). at syn (t * s.q + x)) (omega arith) ∙ after (s.q - 1 - L) (omega arith)))
-        | no l ↦ omega arith
+        | yes more ↦ absurd (nz (sym (entry L lL) ∙ after L more (omega (arith, lL, size))))
+        | no less ↦ omega arith
       ],
-      here,
+      λ z. here (entry r (omega (arith, lr, size)) ∙ z),
     );
   }
 
-  pub last_none : 0 < s.q → ((m : ℕ) → m < s.q → at syn (t * s.q + (s.q - 1 - m)) ≡ 0) → LastLine s syn t 0
-  last_none pos silent = record {
-    below = pos;
-    last = λ L lL nz. absurd (nz (ap (λ (x : ℕ). at syn (t * s.q + x)) (omega arith) ∙ silent (s.q - 1 - L) (omega arith)));
-  }
+  -- all are silent
+  module _ (pos : 0 < s.q) (silent : (k : ℕ) → k < length lines → at lines k ≡ 0) where
+    pub first_none : FirstLine s syn t 0
+    first_none = record { below = pos; first = λ L lL nz. absurd (nz (sym (entry L lL) ∙ silent L (omega (arith, lL, size)))) }
+
+    pub last_none : LastLine s syn t 0
+    last_none = record { below = pos; last = λ L lL nz. absurd (nz (sym (entry L lL) ∙ silent L (omega (arith, lL, size)))) }
 
 -- ---- where two lines meet
 module _ (s : Shape) (law : Lawful s) where

@@ -11,6 +11,8 @@ use lib.Pow.{pow_pos}
 use Rattle.parity.specs.Xor.{◌⊕◌, when}
 use Rattle.parity.proofs.Xors.{self, zero_l, when_zero}
 use Rattle.parity.proofs.Tests.{either, clash}
+use Rattle.std.specs.Prelude.{Option, Some, None}
+use Rattle.std.specs.Option.{MatchOption}
 use Rattle.gtb.specs.declared.Shape.{Shape}
 use Rattle.gtb.specs.Shape.{Lawful, word_length}
 use Rattle.gtb.specs.Square.{line_of, at, Word, Syndromes}
@@ -19,7 +21,7 @@ use Rattle.gtb.proofs.Rows.{syndrome_width}
 use Rattle.distance.specs.Distance.{Near}
 use Rattle.double.specs.declared.Pair.{Pair}
 use Rattle.double.specs.Steps.{pair_of, FirstLine, LastLine, Crosses, Tried, Parts, Proposed, Attempted, FoundTwo}
-use Rattle.double.proofs.Attempts.{Holds, turned, support, shows_none, ends, error_right, tried_works}
+use Rattle.double.proofs.Attempts.{Holds, turned, support, shows_none, ends, error_right, pair_silent}
 
 -- the value of the first line, and of the last if it is another
 abbrev pub value_of : Shape → List ℕ → ℕ → ℕ → ℕ
@@ -40,20 +42,22 @@ module _ (s : Shape) (law : Lawful s) (syn : List ℕ) (t u a b c d : ℕ) (tu :
       (λ (e : eqb (t * s.q + a) (t * s.q + b) ≡ false). rw e (value_narrow w hw y b lb.below))
       (either (eqb (t * s.q + a) (t * s.q + b)))
 
-  proposes : {i j : ℕ} {p : Pair} → i < word_length s → j < word_length s → Tried s syn i (value_of s syn t a) j (second_of s syn t a b) p → Proposed s syn p
-  proposes li lj tried = record {
-    below_a = rw tried.place_a li;
-    below_b = rw tried.place_b lj;
-    width = λ w hw y. (rw tried.value_x (value_narrow w hw y a fa.below), rw tried.value_y (second_narrow w hw y));
-    works = λ w y h. sym (tried.works w y) ∙ h;
-  }
+  -- the pair of these values at two positions
+  abbrev guess : ℕ → ℕ → Pair
+  guess i j = record { a = i; b = j; x = value_of s syn t a; y = second_of s syn t a b }
 
-  module _ {i j k l : ℕ} {one two : Pair}
-      (ci : Crosses s t u a c i) (cj : Crosses s t u b d j) (ck : Crosses s t u a d k) (cl : Crosses s t u b c l)
-      (straight : Tried s syn i (value_of s syn t a) j (second_of s syn t a b) one)
-      (crossed : Tried s syn k (value_of s syn t a) l (second_of s syn t a b) two) where
-    module _ (no : one.works ≡ false) (neither : two.works ≡ false) (w v : List ℕ) (m : ℕ) (y : Syndromes s w syn) (near : Near s 2 w v m)
-        (pt : Parts s w v t) (pu : Parts s w v u) where
+  proposes : {i j : ℕ} {p : Pair} → i < word_length s → j < word_length s → Tried s syn (guess i j) (Some p) → Proposed s syn p
+  proposes li lj tried =
+      rw tried.0 (record {
+        below_a = li;
+        below_b = lj;
+        width = λ w hw y. (value_narrow w hw y a fa.below, second_narrow w hw y);
+        works = tried.1;
+      })
+
+  module _ {i j k l : ℕ} (ci : Crosses s t u a c i) (cj : Crosses s t u b d j) (ck : Crosses s t u a d k) (cl : Crosses s t u b c l)
+      (straight : Tried s syn (guess i j) None) (crossed : Tried s syn (guess k l) None) where
+    module _ (w v : List ℕ) (m : ℕ) (y : Syndromes s w syn) (near : Near s 2 w v m) (pt : Parts s w v t) (pu : Parts s w v u) where
       -- line a is that of p, line b that of r
       by_lines : {p r : ℕ} → Holds s w v p r → a ≡ line_of s t p → b ≡ line_of s t r → ⊥
       by_lines {p} {r} h ea eb =
@@ -62,11 +66,11 @@ module _ (s : Shape) (law : Lawful s) (syn : List ℕ) (t u a b c d : ℕ) (tu :
           (λ (e : (c ≡ line_of s u p) × (d ≡ line_of s u r)).
           let pi = ci.meets p h.below_p (sym ea) (sym e.0) in
           let rj = cj.meets r h.below_r (sym eb) (sym e.1) in
-          clash (tried_works s law w v syn m y near straight (rw (← pi, ← rj) right)) no)
+          clash (pair_silent s law w v syn m y near i (value_of s syn t a) j (second_of s syn t a b) (rw (← pi, ← rj) right)) (straight w y))
           (λ (e : (c ≡ line_of s u r) × (d ≡ line_of s u p)).
           let pk = ck.meets p h.below_p (sym ea) (sym e.1) in
           let rl = cl.meets r h.below_r (sym eb) (sym e.0) in
-          clash (tried_works s law w v syn m y near crossed (rw (← pk, ← rl) right)) neither)
+          clash (pair_silent s law w v syn m y near k (value_of s syn t a) l (second_of s syn t a b) (rw (← pk, ← rl) right)) (crossed w y))
           (ends s law w v syn m y near h u lu pu c d fc ld)
 
       -- nothing differs: both values are 0
@@ -79,13 +83,13 @@ module _ (s : Shape) (law : Lawful s) (syn : List ℕ) (t u a b c d : ℕ) (tu :
           ⊎_elim (λ (e : eqb (t * s.q + a) (t * s.q + b) ≡ true). rw e) (λ (e : eqb (t * s.q + a) (t * s.q + b) ≡ false). rw e z)
           (either (eqb (t * s.q + a) (t * s.q + b))) in
           clash
-          (tried_works s law w v syn m y near straight
+          (pair_silent s law w v syn m y near i (value_of s syn t a) j (second_of s syn t a b)
           (λ n ln.
           ap₂ (λ (f g : ℕ). when (eqb n i) f ⊕ when (eqb n j) g) x second
           ∙ ap₂ (λ (f g : ℕ). f ⊕ g) (when_zero (eqb n i)) (when_zero (eqb n j))
           ∙ zero_l 0
           ∙ sym (ap (λ (f : ℕ). f ⊕ at v n) (same n ln) ∙ self (at v n))))
-          no
+          (straight w y)
 
       no_near : ⊥
       no_near =
@@ -97,17 +101,14 @@ module _ (s : Shape) (law : Lawful s) (syn : List ℕ) (t u a b c d : ℕ) (tu :
           (support s w v m near)
 
   -- what `attempt` gives: the straight guess works, or the crossed one is the last
-  module _ {i j z : ℕ} {one : Pair} (second : z ≡ second_of s syn t a b) (ci : Crosses s t u a c i) (cj : Crosses s t u b d j)
-      (straight : Tried s syn i (value_of s syn t a) j z one) where
-    pub attempt_straight : one.works ≡ true → Attempted s syn t u one
-    attempt_straight works = record { proposed = proposes ci.below cj.below (rw second at straight); fails = λ fails. absurd (clash works fails) }
+  module _ {i j z : ℕ} (second : z ≡ second_of s syn t a b) (ci : Crosses s t u a c i) (cj : Crosses s t u b d j) where
+    pub attempt_straight : {p : Pair} → Tried s syn (record { a = i; b = j; x = value_of s syn t a; y = z }) (Some p) → Proposed s syn p
+    attempt_straight tried = proposes ci.below cj.below (rw second at tried)
 
-    pub attempt_crossed : {k l : ℕ} {two : Pair} → Crosses s t u a d k → Crosses s t u b c l → Tried s syn k (value_of s syn t a) l z two
-        → one.works ≡ false → Attempted s syn t u two
-    attempt_crossed ck cl crossed first = record {
-      proposed = proposes ck.below cl.below (rw second at crossed);
-      fails = λ fails. no_near ci cj ck cl (rw second at straight) (rw second at crossed) first fails;
-    }
+    pub attempt_crossed : {k l : ℕ} (r : Option Pair) → Tried s syn (record { a = i; b = j; x = value_of s syn t a; y = z }) None
+        → Crosses s t u a d k → Crosses s t u b c l → Tried s syn (record { a = k; b = l; x = value_of s syn t a; y = z }) r → Attempted s syn t u r
+    attempt_crossed (Some p) straight ck cl crossed = proposes ck.below cl.below (rw second at crossed)
+    attempt_crossed None straight ck cl crossed = no_near ci cj ck cl (rw second at straight) (rw second at crossed)
 
 -- ---- the three attempts
 -- a direction parts what differs, or two that differ share its line
@@ -157,12 +158,15 @@ two_part s law n3 w v k near first second third = ⊎_elim by_none (λ (e : (p :
         (part_or_share s w v h 1))
         (part_or_share s w v h 0)
 
-pub found_early : {s : Shape} {syn : List ℕ} {t u : ℕ} {p : Pair} → Attempted s syn t u p → p.works ≡ true → FoundTwo s syn p
-found_early h works = record { proposed = h.proposed; fails = λ no. absurd (clash works no) }
+-- the last of three, where the first two find nothing
+found_last : (s : Shape) (syn : List ℕ) → Lawful s → 2 < s.n → (r : Option Pair) → Attempted s syn 0 1 None → Attempted s syn 0 2 None → Attempted s syn 1 2 r → FoundTwo s syn r
+found_last s syn law n3 (Some p) first second third = third
+found_last s syn law n3 None first second third =
+    λ w v k y near. two_part s law n3 w v k near (first w v k y near) (second w v k y near) (third w v k y near)
 
-pub found_last : {s : Shape} {syn : List ℕ} {one two p : Pair} → Lawful s → 2 < s.n → Attempted s syn 0 1 one → one.works ≡ false
-    → Attempted s syn 0 2 two → two.works ≡ false → Attempted s syn 1 2 p → FoundTwo s syn p
-found_last {s} law n3 one no_one two no_two last = record {
-  proposed = last.proposed;
-  fails = λ no w v k y near. two_part s law n3 w v k near (one.fails no_one w v k y near) (two.fails no_two w v k y near) (last.fails no w v k y near);
-}
+-- each is made where the ones before it find nothing
+pub found_first : (s : Shape) (syn : List ℕ) → Lawful s → 2 < s.n → (one two three : Option Pair) → Attempted s syn 0 1 one
+    → MatchOption one (Attempted s syn 0 2 two) (λ p. two ≡ Some p) → MatchOption two (Attempted s syn 1 2 three) (λ p. three ≡ Some p) → FoundTwo s syn three
+found_first s syn law n3 (Some p) two three first second third = rw (rw second at third) first
+found_first s syn law n3 None (Some p) three first second third = rw third second
+found_first s syn law n3 None None three first second third = found_last s syn law n3 three first second third

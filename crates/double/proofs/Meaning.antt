@@ -17,7 +17,7 @@ use Rattle.gtb.specs.Square.{line_of, at, Word, Codeword}
 use Rattle.gtb.proofs.Rows.{syndrome_width}
 use Rattle.distance.specs.Distance.{Near}
 use Rattle.distance.proofs.Near.{near_within}
-use Rattle.correction.specs.declared.Decoded.TheVariants.{Corrected, Refused}
+use Rattle.std.specs.Prelude.{Ok, Err}
 use Rattle.correction.specs.Error.{weight, damaged, on_check, off}
 use Rattle.correction.specs.Answer.{decoded_word}
 use Rattle.correction.specs.Reading.{read_of}
@@ -45,7 +45,7 @@ pub two_meant : Meant two (λ s. Near s (two.bound s))
 two_meant = near_meant two refl (λ s f j. refl) (λ s w hw j l. two_narrow s w hw j) (λ s law fits. two_right s law (leb-true 3 s.n fits))
 
 -- a word with a codeword near it is accepted, with that codeword and that number
-pub near_two : (s : Shape) → Lawful s → 3 ≤ s.n → (w v : List ℕ) (k : ℕ) → Near s 2 w v k → (two_of s w ≡ Corrected k) × (two_restored s w ≡ v)
+pub near_two : (s : Shape) → Lawful s → 3 ≤ s.n → (w v : List ℕ) (k : ℕ) → Near s 2 w v k → (two_of s w ≡ Ok k) × (two_restored s w ≡ v)
 near_two s law n3 = means_read two_meant s law (le-leb 3 s.n n3)
 
 -- for every shape and word: the answer by equation, and what it means
@@ -54,17 +54,17 @@ two_meets = meets two_meant
 
 -- any damage to at most two symbols of a codeword is undone
 pub double_right : (s : Shape) → Lawful s → 3 ≤ s.n → (v e : List ℕ) → Codeword s v → Word s e → weight s (at e) ≤ 2
-    → (two_of s (damaged v e) ≡ Corrected (weight s (at e))) × (two_restored s (damaged v e) ≡ v)
+    → (two_of s (damaged v e) ≡ Ok (weight s (at e))) × (two_restored s (damaged v e) ≡ v)
 double_right s law n3 v e hv he few = near_two s law n3 (damaged v e) v (weight s (at e)) (damaged_near s 2 v e hv he few)
 
 -- where clean reading changes no more than two symbols, the two agree
-pub clean_agrees : (s : Shape) → 3 ≤ s.n → (w : List ℕ) (k : ℕ) → decode_of s w ≡ Corrected k → k ≤ 2
-    → (two_of s w ≡ Corrected k) × (two_restored s w ≡ restored s w)
+pub clean_agrees : (s : Shape) → 3 ≤ s.n → (w : List ℕ) (k : ℕ) → decode_of s w ≡ Ok k → k ≤ 2
+    → (two_of s w ≡ Ok k) × (two_restored s w ≡ restored s w)
 clean_agrees s n3 w k h few =
     near_two s (read_accepted clean s w k h).lawful n3 w (restored s w) k
     (near_within (explains_near s w (restored s w) k (read_means clean_meant s w k h)) few)
 
 -- with two directions every word gets 16, whatever its length and width
-pub two_directions : (s : Shape) → Lawful s → s.n < 3 → (w : List ℕ) → two_of s w ≡ Refused Refusal.Directions
+pub two_directions : (s : Shape) → Lawful s → s.n < 3 → (w : List ℕ) → two_of s w ≡ Err Refusal.Directions
 unfolding read_of
 two_directions s law few w = rw (law, lt-leb 3 s.n few)

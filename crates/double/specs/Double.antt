@@ -1,12 +1,11 @@
 -- Two wrong symbols, masked or not (RULES 3.3; request N6).
-use Rattle.std.specs.Prelude.{Bool, not, ◌&&◌, List, ℕ, eqb, leb}
+use Rattle.std.specs.Prelude.{Bool, not, ◌&&◌, List, ℕ, eqb, leb, Result}
 use Rattle.parity.specs.Count.{any, first_value}
 use Rattle.gtb.specs.declared.Shape.{Shape}
 use Rattle.gtb.specs.declared.Refusal.{Refusal}
 use Rattle.gtb.specs.Shape.{word_length}
 use Rattle.gtb.specs.Square.{silent_test}
 use Rattle.distance.specs.Distance.{Near}
-use Rattle.correction.specs.declared.Decoded.{Decoded}
 use Rattle.correction.specs.Error.{on_check, off}
 use Rattle.correction.specs.Reading.{Reader, restored_by, read_of, Reads}
 
@@ -32,12 +31,12 @@ two = record {
   suits = three_directions;
 }
 
-abbrev pub two_of : Shape → List ℕ → Decoded
+abbrev pub two_of : Shape → List ℕ → Result ℕ Refusal
 two_of = read_of two
 
 abbrev pub two_restored : Shape → List ℕ → List ℕ
 two_restored = restored_by two
 
 -- reading two wrong symbols: a codeword differs from the word that came in at most two
-abbrev pub ReadingTwo : Shape → List ℕ → List ℕ → Decoded → Type 0
+abbrev pub ReadingTwo : Shape → List ℕ → List ℕ → Result ℕ Refusal → Type 0
 ReadingTwo = Reads two (λ s. Near s 2)

@@ -1,5 +1,5 @@
 -- What the private steps of reading two wrong symbols establish. They see the syndromes in their table alone, `syn` here: check t × q + L at that place.
-use Rattle.std.specs.Prelude.{◌≡◌, true, false, not, List, ℕ, ◌+◌, ◌*◌, ◌^◌, ◌<◌, ◌≤◌, eqb}
+use Rattle.std.specs.Prelude.{◌≡◌, true, false, not, List, Option, Some, None, ℕ, ◌+◌, ◌*◌, ◌^◌, ◌<◌, ◌≤◌, eqb}
 use Rattle.parity.specs.Xor.{◌⊕◌, when}
 use Rattle.parity.specs.Count.{count}
 use Rattle.gtb.specs.declared.Shape.{Shape}
@@ -31,34 +31,31 @@ pub record Crosses (s : Shape) (t u a b j : ℕ) : Type 0 where
 abbrev pub without : Shape → List ℕ → Pair → List ℕ
 without s w p = mended s w (pair_of p.a p.x p.b p.y)
 
--- two corrections tried: whether they silence every check
-pub record Tried (s : Shape) (syn : List ℕ) (a x b y : ℕ) (p : Pair) : Type 0 where
-  pub place_a : p.a ≡ a
-  pub value_x : p.x ≡ x
-  pub place_b : p.b ≡ b
-  pub value_y : p.y ≡ y
-  pub works : (w : List ℕ) → Syndromes s w syn → p.works ≡ silent_test s (at (without s w p))
+-- a pair tried: given if it silences every check
+abbrev pub Tried : Shape → List ℕ → Pair → Option Pair → Type 0
+Tried s syn p (Some r) = (r ≡ p) × ((w : List ℕ) → Syndromes s w syn → silent_test s (at (without s w p)) ≡ true)
+Tried s syn p None = (w : List ℕ) → Syndromes s w syn → silent_test s (at (without s w p)) ≡ false
 
 -- v is another symbol than w at no two positions of one line of direction t
 pub record Parts (s : Shape) (w v : List ℕ) (t : ℕ) : Type 0 where
   pub parts : (i j : ℕ) → i < word_length s → j < word_length s → (at w i ≡ at v i → ⊥) → (at w j ≡ at v j → ⊥) → line_of s t i ≡ line_of s t j → i ≡ j
 
--- a pair of corrections of the table's word
+-- a pair of corrections of the table's word, which silence every check
 pub record Proposed (s : Shape) (syn : List ℕ) (p : Pair) : Type 0 where
   pub below_a : p.a < word_length s
   pub below_b : p.b < word_length s
   pub width : (w : List ℕ) → Word s w → Syndromes s w syn → (p.x < 2 ^ s.b) × (p.y < 2 ^ s.b)
-  pub works : (w : List ℕ) → Syndromes s w syn → p.works ≡ true → silent_test s (at (without s w p)) ≡ true
+  pub works : (w : List ℕ) → Syndromes s w syn → silent_test s (at (without s w p)) ≡ true
 
 -- found by two directions, if each parts the wrong symbols
-pub record Attempted (s : Shape) (syn : List ℕ) (t u : ℕ) (p : Pair) : Type 0 where
-  pub proposed : Proposed s syn p
-  pub fails : p.works ≡ false → (w v : List ℕ) (k : ℕ) → Syndromes s w syn → Near s 2 w v k → Parts s w v t → Parts s w v u → ⊥
+abbrev pub Attempted : Shape → List ℕ → ℕ → ℕ → Option Pair → Type 0
+Attempted s syn t u (Some p) = Proposed s syn p
+Attempted s syn t u None = (w v : List ℕ) (k : ℕ) → Syndromes s w syn → Near s 2 w v k → Parts s w v t → Parts s w v u → ⊥
 
 -- found, if at most two symbols are wrong
-pub record FoundTwo (s : Shape) (syn : List ℕ) (p : Pair) : Type 0 where
-  pub proposed : Proposed s syn p
-  pub fails : p.works ≡ false → (w v : List ℕ) (k : ℕ) → Syndromes s w syn → Near s 2 w v k → ⊥
+abbrev pub FoundTwo : Shape → List ℕ → Option Pair → Type 0
+FoundTwo s syn (Some p) = Proposed s syn p
+FoundTwo s syn None = (w v : List ℕ) (k : ℕ) → Syndromes s w syn → Near s 2 w v k → ⊥
 
 -- how many positions a pair changes
 unfoldable pub pair_changes : Shape → Pair → ℕ

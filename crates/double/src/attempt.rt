@@ -1,42 +1,26 @@
 // Two wrong symbols by two directions that part them: each shows two lines, and these four lines cross in the two positions.
-ghost use Rattle.std.specs.Prelude.{◌≡◌, cond, ◌+◌, ◌*◌, ◌<◌, eqb, length};
-ghost use Rattle.gtb.specs.Shape.{Lawful, word_length};
+ghost use Rattle.std.specs.Prelude.{◌≡◌, cond, ◌+◌, ◌*◌, ◌<◌, eqb};
+ghost use Rattle.gtb.specs.Shape.{word_length};
 ghost use Rattle.gtb.specs.Square.{at};
-ghost use Rattle.correction.specs.Shipped.{Tabled};
 ghost use Rattle.double.specs.Steps.{Tried, Attempted, FoundTwo};
 
 use crate::Pair;
 use crate::lines::{cross, first_line, last_line};
-use correction::cancel::{cancel_by, is_silent};
-use correction::shipped::is_shipped;
-use correction::table::check_numbers;
-use gtb::Shape;
+use correction::checks::Checks;
 
-// The corrections are tried on a copy of the syndromes.
-fn test_pair(
-    shape: Shape,
-    table: &[u8],
-    syn: &[u32; 248],
-    a: usize,
-    x: u32,
-    b: usize,
-    y: u32,
-) -> Pair
-    requires { Lawful shape × Tabled shape table.now × (length syn.now ≡ 248) × (a < word_length shape) × (b < word_length shape) }
-    ensures { Tried shape syn.now a x b y result }
+// The pair, if it silences every check. It is tried on a copy of the syndromes.
+fn test_pair(checks: Checks, syn: &[u32; 248], pair: Pair) -> Option<Pair>
+    requires { (pair.a < word_length checks.shape) × (pair.b < word_length checks.shape) }
+    ensures { Tried checks.shape syn.now pair result }
 {
-    let places = [a, b, 0, 0, 0, 0, 0, 0];
-    let errors = [x, y, 0, 0, 0, 0, 0, 0];
+    let places = [pair.a, pair.b, 0, 0, 0, 0, 0, 0];
+    let errors = [pair.x, pair.y, 0, 0, 0, 0, 0, 0];
     let mut left = *syn;
-    cancel_by(shape, table, &mut left, &places, &errors, 2);
-    let works = is_silent(shape, &left);
-    Pair {
-        works: works,
-        a: a,
-        b: b,
-        x: x,
-        y: y,
+    checks.cancel(&mut left, &places, &errors, 2);
+    if checks.is_silent(&left) {
+        return Some(pair);
     }
+    None
 }
 
 // What the second line shows: 0 if it is the first one again, since then one symbol is wrong.
@@ -51,65 +35,41 @@ fn second_value(syn: &[u32; 248], first: usize, last: usize) -> u32
 }
 
 // Lines a and b of direction t, c and d of direction u: a meets c or d, and b the other.
-fn attempt(shape: Shape, table: &[u8], syn: &[u32; 248], t: usize, u: usize) -> Pair
-    requires { Lawful shape × Tabled shape table.now × (length syn.now ≡ 248) × (t < u) × (u < shape.n) }
-    ensures { Attempted shape syn.now t u result }
+fn attempt(checks: Checks, syn: &[u32; 248], t: usize, u: usize) -> Option<Pair>
+    requires { (t < u) × (u < checks.shape.n) }
+    ensures { Attempted checks.shape syn.now t u result }
 {
-    let q = shape.q as usize;
-    let a = first_line(shape, syn, t);
-    let b = last_line(shape, syn, t);
-    let c = first_line(shape, syn, u);
-    let d = last_line(shape, syn, u);
+    let q = checks.shape.q as usize;
+    let a = first_line(checks, syn, t);
+    let b = last_line(checks, syn, t);
+    let c = first_line(checks, syn, u);
+    let d = last_line(checks, syn, u);
     let x = syn[t * q + a];
     let y = second_value(syn, t * q + a, t * q + b);
-    let straight = test_pair(
-        shape,
-        table,
-        syn,
-        cross(shape, table, t, u, a, c),
+    let straight = Pair {
+        a: cross(checks, t, u, a, c),
+        b: cross(checks, t, u, b, d),
         x,
-        cross(shape, table, t, u, b, d),
         y,
-    );
-    if straight.works {
-        return straight;
+    };
+    if let Some(pair) = test_pair(checks, syn, straight) {
+        return Some(pair);
     }
-    test_pair(
-        shape,
-        table,
-        syn,
-        cross(shape, table, t, u, a, d),
+    let crossed = Pair {
+        a: cross(checks, t, u, a, d),
+        b: cross(checks, t, u, b, c),
         x,
-        cross(shape, table, t, u, b, c),
         y,
-    )
+    };
+    test_pair(checks, syn, crossed)
 }
 
 // Two positions share a line in at most one of three directions, so two of these part them.
-fn find_by(shape: Shape, table: &[u8], syn: &[u32; 248]) -> Pair
-    requires { Lawful shape × Tabled shape table.now × (length syn.now ≡ 248) × (2 < shape.n) }
-    ensures { FoundTwo shape syn.now result }
+pub fn find(checks: Checks, syn: &[u32; 248]) -> Option<Pair>
+    requires { 2 < checks.shape.n }
+    ensures { FoundTwo checks.shape syn.now result }
 {
-    let first = attempt(shape, table, syn, 0, 1);
-    if first.works {
-        return first;
-    }
-    let second = attempt(shape, table, syn, 0, 2);
-    if second.works {
-        return second;
-    }
-    attempt(shape, table, syn, 1, 2)
-}
-
-// The same, with the table of the shipped shape.
-pub fn find(shape: Shape, syn: &[u32; 248]) -> Pair
-    requires { Lawful shape × (length syn.now ≡ 248) × (2 < shape.n) }
-    ensures { FoundTwo shape syn.now result }
-{
-    if is_shipped(shape) {
-        let table = check_numbers();
-        return find_by(shape, &table, syn);
-    }
-    let none = [0u8; 0];
-    find_by(shape, &none, syn)
+    attempt(checks, syn, 0, 1)
+        .or_else(|| attempt(checks, syn, 0, 2))
+        .or_else(|| attempt(checks, syn, 1, 2))
 }

@@ -7,16 +7,15 @@ mod restore;
 
 ghost use Rattle.paper.specs.Reading.{Reading};
 ghost use Rattle.gtb.specs.Shape.{of};
-ghost use Rattle.correction.specs.Answer.{decoded_number};
+ghost use Rattle.gtb.specs.Answer.{answer_number};
 ghost use Rattle.double.specs.Double.{ReadingTwo};
 
-use correction::{Decoded, test};
-use gtb::{Shape, Status};
+use correction::test;
+use gtb::{Refusal, Shape};
 
-// Two corrections, x at position a and y at position b, and whether they silence every check.
+// Two corrections, x at position a and y at position b.
 #[derive(Clone, Copy)]
 struct Pair {
-    works: bool,
     a: usize,
     b: usize,
     x: u32,
@@ -24,13 +23,10 @@ struct Pair {
 }
 
 // Reading two wrong symbols: tests 1, 18, 16, 2, 3, then the work.
-pub fn decode_two(shape: Shape, word: &mut [u32]) -> Decoded
+pub fn decode_two(shape: Shape, word: &mut [u32]) -> Result<u32, Refusal>
     ensures read { ReadingTwo shape word.old word.new result }
-    ensures paper { Reading (of shape) 2 word.old word.new (decoded_number result) }
+    ensures paper { Reading (of shape) 2 word.old word.new (answer_number result) }
 {
-    let tested = test(shape, 3 <= shape.n, word);
-    match tested {
-        Status::Refused(e) => Decoded::Refused(e),
-        Status::Done => restore::restore(shape, word),
-    }
+    let checks = test(shape, 3 <= shape.n, word)?;
+    restore::restore(checks, word)
 }

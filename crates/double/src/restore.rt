@@ -1,7 +1,6 @@
 // The work on a word of lawful shape, length and width. Nothing is written to it before the answer is known.
-ghost use Rattle.std.specs.Prelude.{◌≡◌, not, ◌<◌, eqb, length};
-ghost use Rattle.parity.specs.Count.{bit};
-ghost use Rattle.gtb.specs.Shape.{Lawful, word_length};
+ghost use Rattle.std.specs.Prelude.{◌≡◌, ◌<◌, length};
+ghost use Rattle.gtb.specs.Shape.{word_length};
 ghost use Rattle.gtb.specs.Square.{Word};
 ghost use Rattle.correction.specs.Steps.{Corrects};
 ghost use Rattle.double.specs.Double.{two};
@@ -9,20 +8,10 @@ ghost use Rattle.double.specs.Steps.{without, pair_changes};
 
 use crate::Pair;
 use crate::attempt::find;
-use correction::cancel::is_silent;
-use correction::{Decoded, apply};
+use correction::apply;
+use correction::checks::Checks;
 use gtb::{Refusal, Shape};
 use syndrome::syndromes;
-
-// 1, or 0 for no change.
-fn is_change(x: u32) -> u32
-    ensures { result ≡ bit (not (eqb x 0)) }
-{
-    if x == 0 {
-        return 0;
-    }
-    1
-}
 
 // How many positions the pair changes.
 fn changed(shape: Shape, pair: Pair) -> u32
@@ -30,9 +19,9 @@ fn changed(shape: Shape, pair: Pair) -> u32
     ensures { result ≡ pair_changes shape pair }
 {
     if pair.a == pair.b {
-        return is_change(pair.x ^ pair.y);
+        return (pair.x ^ pair.y != 0) as u32;
     }
-    is_change(pair.x) + is_change(pair.y)
+    (pair.x != 0) as u32 + (pair.y != 0) as u32
 }
 
 // The pair is taken off the word.
@@ -45,20 +34,17 @@ fn take_off(shape: Shape, word: &mut [u32], pair: Pair)
     apply(shape, word, &places, &errors, 2);
 }
 
-// Test 17: the word is restored, or left as it came. Where every check is silent no table is made.
-pub fn restore(shape: Shape, word: &mut [u32]) -> Decoded
-    requires { Lawful shape × (2 < shape.n) × Word shape word.old }
-    ensures { Corrects two shape word.old word.new result }
+// Test 17: the word is restored, or left as it came. Where every check is silent nothing is to be found.
+pub fn restore(checks: Checks, word: &mut [u32]) -> Result<u32, Refusal>
+    requires { (2 < checks.shape.n) × Word checks.shape word.old }
+    ensures { Corrects two checks.shape word.old word.new result }
 {
-    let syn = syndromes(shape, word);
-    if is_silent(shape, &syn) {
-        return Decoded::Corrected(0);
+    let syn = syndromes(checks.shape, word);
+    if checks.is_silent(&syn) {
+        return Ok(0);
     }
-    let pair = find(shape, &syn);
-    if !pair.works {
-        return Decoded::Refused(Refusal::BeyondTwo);
-    }
-    let count = changed(shape, pair);
-    take_off(shape, word, pair);
-    Decoded::Corrected(count)
+    let pair = find(checks, &syn).ok_or(Refusal::BeyondTwo)?;
+    let count = changed(checks.shape, pair);
+    take_off(checks.shape, word, pair);
+    Ok(count)
 }

@@ -18,7 +18,7 @@ use Rattle.parity.specs.Lists.{at}
 use Rattle.parity.proofs.Xors.{zero_r}
 use Rattle.parity.proofs.Tests.{either, and_no_left}
 use Rattle.elimination.specs.Packed.{bit_at, cell_of}
-use Rattle.elimination.specs.Steps.{Row, RunAdded}
+use Rattle.elimination.specs.Steps.{RunAdded}
 use Rattle.elimination.proofs.Systems.{xor_none}
 
 -- one bit of each
@@ -83,7 +83,7 @@ rows_apart S p s i l ne =
       | no a ↦ let b : i < s = omega (arith, ne) in inr (omega (arith, row_before S i s b))
     ]
 
-module _ {S p s i k : ℕ} {old new values : List ℕ} (from : Row S p s old values) (row : Row S p i old values) (lk : k < p)
+module _ (S s i : ℕ) {p k : ℕ} {old new : List ℕ} (fits : p ≤ 32 * S) (lk : k < p)
     (zeros : (j : ℕ) → j < k → cell_of S old s j ≡ false) (h : RunAdded (i * S) (s * S) (k / 32) ((p + 31) / 32) old new) where
   -- row i itself
   same_row : (j : ℕ) → j < p → cell_of S new i j ≡ xor (cell_of S old i j) (cell_of S old s j)
@@ -100,12 +100,12 @@ module _ {S p s i k : ℕ} {old new values : List ℕ} (from : Row S p s old val
   other_row : (t j : ℕ) → (t ≡ i → ⊥) → j < p → cell_of S new t j ≡ cell_of S old t j
   unfolding cell_of
   other_row t j ne l =
-      let w : j / 32 < S = omega (arith, row.columns) in
+      let w : j / 32 < S = omega (arith, fits) in
       ap (λ (x : ℕ). bit_at x (j % 32))
       (h.outside (t * S + j / 32)
       (elim (dec_lt t i) [
         | yes a ↦ inl (omega (arith, row_before S t i a))
-        | no a ↦ let b : i < t = omega (arith, ne) in inr (omega (arith, row_before S i t b, row.columns))
+        | no a ↦ let b : i < t = omega (arith, ne) in inr (omega (arith, row_before S i t b, fits))
       ]))
 
   pub added_cell : (t j : ℕ) → j < p → cell_of S new t j ≡ xor (cell_of S old t j) (eqb t i && cell_of S old s j)

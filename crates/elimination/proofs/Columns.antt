@@ -4,7 +4,6 @@ use mathlib.Core.Bool.{Bool, true, false, not, xor, ◌&&◌}
 use mathlib.Core.List.{List}
 use mathlib.Core.Logic.{⊎_elim}
 use Prim.Native.Nat.{ℕ, ◌+◌, ◌*◌, ◌/◌, ◌<◌, ◌≤◌}
-use native.Mathlib.Nat.{mul-le-mul_right}
 use native.Mathlib.Decide.{dec_lt}
 use native.Mathlib.Omega.{arith}
 use lib.Dec.{eqb, ltb}
@@ -14,22 +13,21 @@ use Rattle.parity.specs.Xor.{◌⊕◌, when}
 use Rattle.parity.specs.Lists.{at}
 use Rattle.parity.proofs.Tests.{either, and_no_left, and_no_right, not_of_true}
 use Rattle.elimination.specs.Packed.{cell_of}
-use Rattle.elimination.specs.Outcome.{Room}
-use Rattle.elimination.specs.Steps.{lifted, cleared, Reduced, First, Row, RunAdded, RowsCombined, Progress}
+use Rattle.elimination.specs.Steps.{lifted, cleared, Reduced, NoneFrom, FirstAt, RunAdded, RowsCombined, Progress}
 use Rattle.elimination.proofs.Systems.{xor_none, when_off, combined_same, combined_more, combined_kept, kept_none, kept_trans}
 use Rattle.elimination.proofs.Reductions.{reduced_none, reduced_free, reduced_lift, lift_pivot, reduced_pivot}
-use Rattle.elimination.proofs.Cells.{row_before, added_cell, added_value}
+use Rattle.elimination.proofs.Cells.{added_cell, added_value}
 
 -- one row
-pub joined_one : {S p s i k : ℕ} {old new values : List ℕ} → Row S p s old values → Row S p i old values → k < p
+pub joined_one : {S p s i k : ℕ} {old new values : List ℕ} → p ≤ 32 * S → length values ≡ 248 → i < 248 → k < p
     → ((j : ℕ) → j < k → cell_of S old s j ≡ false) → RunAdded (i * S) (s * S) (k / 32) ((p + 31) / 32) old new
     → RowsCombined S p s (λ t. eqb t i) old values new (set values i (at values i ⊕ at values s))
-joined_one {s = s} {i} {values = values} from to lk zeros h = record {
+joined_one {S} {s = s} {i} {values = values} fits size li lk zeros h = record {
   size = h.size;
-  sizes = length-set values i (at values i ⊕ at values s) ∙ to.sizes;
+  sizes = length-set values i (at values i ⊕ at values s) ∙ size;
   rows = record {
-    cell = added_cell from to lk zeros h;
-    value = λ t. added_value values i (at values s) t (omega (arith, to.row, to.sizes));
+    cell = added_cell S s i fits lk zeros h;
+    value = λ t. added_value values i (at values s) t (omega arith);
   };
 }
 
@@ -135,57 +133,28 @@ cleared_more {S} {u = u} {k} i {old} {mid = mid} lk lu a b =
           ∙ sym (single (λ t. cell_of S mid t k) i refl t)));
     }
 
--- the room stays
-pub room_same : {r S p : ℕ} {old values new left : List ℕ} → Room r S p old values → length new ≡ length old → length left ≡ 248 → Room r S p new left
-room_same room e sizes = record {
-  rows = room.rows;
-  width = room.width;
-  columns = room.columns;
-  space = omega (arith, room.space);
-  sizes = sizes;
-}
-
--- the first p rows alone
-pub room_first : {r S p : ℕ} {scratch values : List ℕ} → Room r S p scratch values → p ≤ r → Room p S p scratch values
-room_first {r} {S} {p} room l = record {
-  rows = omega (arith, room.rows);
-  width = room.width;
-  columns = room.columns;
-  space = omega (arith, room.space, mul-le-mul_right S l);
-  sizes = room.sizes;
-}
-
--- a row of those that lie in the scratch
-pub row_of : {r S p : ℕ} {scratch values : List ℕ} → Room r S p scratch values → (i : ℕ) → i < r → Row S p i scratch values
-row_of {r} {S} room i l = record {
-  width = room.width;
-  columns = room.columns;
-  row = omega (arith, room.rows);
-  space = omega (arith, row_before S i r l, room.space);
-  sizes = room.sizes;
-}
-
 -- a row that is left out keeps its zeros
 pub zeros_joined : {S p s k : ℕ} {e : ℕ → Bool} {old values new left : List ℕ} → RowsCombined S p s e old values new left → (i : ℕ) → e i ≡ false → k < p
     → ((j : ℕ) → j < k → cell_of S old i j ≡ false) → (j : ℕ) → j < k → cell_of S new i j ≡ false
 zeros_joined h i f lk zeros j l = combined_same h.rows i j f (omega arith) ∙ zeros j l
 
 -- no row from u on has the column
-pub column_free : {r S p k u i : ℕ} {scratch values : List ℕ} → length values ≡ 248 → Reduced p r k u (cell_of S scratch)
-    → First u r (λ t. cell_of S scratch t k) i → i ≡ r → Progress r S p (k + 1) u scratch values scratch values
-column_free {r} {S} {p} {scratch = scratch} {values} size h first e = record {
+pub column_free : {r S p k u : ℕ} {scratch values : List ℕ} → length values ≡ 248 → Reduced p r k u (cell_of S scratch)
+    → NoneFrom u r (λ t. cell_of S scratch t k) → Progress r S p (k + 1) u scratch values scratch values
+column_free {r} {S} {p} {scratch = scratch} {values} size h none = record {
   size = refl;
   sizes = size;
   kept = kept_none p r (cell_of S scratch) (at values);
-  reduced = reduced_free h (λ t lt lr. first.fails t (omega arith) lt);
+  reduced = reduced_free h none;
 }
 
 -- row i is the first
 pub column_pivot : {r S p k u i : ℕ} {old values mid left new last : List ℕ} → k < p → Reduced p r k u (cell_of S old)
-    → First u r (λ t. cell_of S old t k) i → i < r → RowsCombined S p i (lifted u i) old values mid left
+    → FirstAt u r (λ t. cell_of S old t k) i → RowsCombined S p i (lifted u i) old values mid left
     → RowsCombined S p u (cleared r (cell_of S mid) k u) mid left new last → Progress r S p (k + 1) (u + 1) old values new last
-column_pivot {r} {S} {k = k} {u} {i} {mid = mid} lk h first li a b =
+column_pivot {r} {S} {k = k} {u} {i} {mid = mid} lk h first a b =
     let m : ℕ → ℕ → Bool = cell_of S mid in
+    let li = first.inside in
     let lu : u < r = omega (arith, first.least) in
     record {
       size = b.size ∙ a.size;
@@ -196,17 +165,17 @@ column_pivot {r} {S} {k = k} {u} {i} {mid = mid} lk h first li a b =
           (combined_kept r b.rows lu (cleared_own r m k u));
       reduced =
           reduced_pivot (reduced_lift h lk first.least li a.rows) lk lu
-          (lift_pivot h lk first.least li a.rows first.fails (first.passes li))
+          (lift_pivot h lk first.least li a.rows (λ j l lu. first.fails j lu l) first.passes)
           (cleared r m k u) (cleared_above r m k u)
           (λ t lt lu. ap₂ (λ (x y : Bool). x && (y && m t k)) (lt-ltb t r lt) (lt-ltb u t lu))
           b.rows;
     }
 
 -- column after column
-pub progress_none : {r S p : ℕ} {scratch values : List ℕ} → Room r S p scratch values → Progress r S p 0 0 scratch values scratch values
-progress_none {r} {S} {p} {scratch} {values} room = record {
+pub progress_none : {r S p : ℕ} {scratch values : List ℕ} → length values ≡ 248 → Progress r S p 0 0 scratch values scratch values
+progress_none {r} {S} {p} {scratch} {values} size = record {
   size = refl;
-  sizes = room.sizes;
+  sizes = size;
   kept = kept_none p r (cell_of S scratch) (at values);
   reduced = reduced_none p r (cell_of S scratch);
 }

@@ -1,11 +1,9 @@
 -- The three answers of an elimination.
 use mathlib.Core.Path.{◌≡◌, refl, sym, ap, ◌∙◌}
-use mathlib.Core.Bool.{Bool, not}
+use mathlib.Core.Bool.{Bool}
 use mathlib.Core.List.{List}
-use Prim.Native.Nat.{ℕ, ◌<◌, ◌≤◌}
+use Prim.Native.Nat.{ℕ, ◌+◌, ◌-◌, ◌<◌, ◌≤◌}
 use native.Mathlib.Omega.{arith}
-use lib.Dec.{eqb}
-use borrow.Author.Tests.{eqb-true, eqb-false, not-true, not-false}
 use Rattle.parity.specs.Xor.{◌⊕◌}
 use Rattle.parity.specs.Lists.{at}
 use Rattle.parity.proofs.Xors.{self, twice}
@@ -13,26 +11,25 @@ use Rattle.elimination.specs.declared.Outcome.{Outcome}
 use Rattle.elimination.specs.declared.Outcome.TheVariants.{Solved, Unsolvable, Ambiguous}
 use Rattle.elimination.specs.System.{Impossible, Unique, Several}
 use Rattle.elimination.specs.Outcome.{Eliminated}
-use Rattle.elimination.specs.Steps.{First, Progress, Substituted}
+use Rattle.elimination.specs.Steps.{Progress, Substituted}
 use Rattle.elimination.proofs.Ends.{end_none, end_one, end_several}
 
 never : {A : Type 0} → ◌≡◌ {A = ℕ} 0 1 → A
 never z = absurd (omega arith)
 
-module _ {r S p u i : ℕ} {old values new left : List ℕ} (h : Progress r S p p u old values new left)
-    (first : First u r (λ k. not (eqb (at left k) 0)) i) where
+module _ {r S p u : ℕ} {old values new left : List ℕ} (h : Progress r S p p u old values new left) where
   -- a value is left in a row without columns
-  pub answer_none : i < r → Eliminated r S p old values Unsolvable left
-  answer_none l = record {
+  pub answer_none : (i : ℕ) × (u ≤ i) × (i < r) × (at left i ≡ 0 → ⊥) → Eliminated r S p old values Unsolvable left
+  answer_none (i, lu, lr, ne) = record {
     size = h.sizes;
     solved = λ q. never (cc);
-    unsolvable = λ q. end_none h.kept h.reduced i first.least l (eqb-false (at left i) 0 (not-true (eqb (at left i) 0) (first.passes l)));
+    unsolvable = λ q. end_none h.kept h.reduced i lu lr ne;
     ambiguous = λ q. never (cc);
   }
 
-  module _ (none : r ≤ i) where
-    zero : (k : ℕ) → u ≤ k → k < r → at left k ≡ 0
-    zero k lu lr = eqb-true (at left k) 0 (not-false (eqb (at left k) 0) (first.fails k (omega arith) lu))
+  module _ (none : (i : ℕ) → i < r - u → at left (u + i) ≡ 0) where
+    zero : (i : ℕ) → u ≤ i → i < r → at left i ≡ 0
+    zero i lu lr = let e : u + (i - u) ≡ i = omega arith in rw e at (none (i - u) (omega arith))
 
     pub answer_several : u < p → Eliminated r S p old values Ambiguous left
     answer_several l = record {

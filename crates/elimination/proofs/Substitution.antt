@@ -41,9 +41,6 @@ row_more : (k : ℕ) (a : ℕ → Bool) (x : ℕ → ℕ) → row_sum (k + 1) a 
 unfolding row_sum xor_sum
 row_more k a x = rw (add-one k)
 
-pub substituted_none : {S p : ℕ} {scratch values : List ℕ} → length values ≡ 248 → Substituted S p p scratch values values
-substituted_none size = record { size = size; known = λ x s j l lp. absurd (omega arith); rest = λ x s. s }
-
 -- row k, of which only column k is left, gives unknown k
 pub substituted_more : {S p k n : ℕ} {scratch old mid new : List ℕ} → ((i j : ℕ) → i < p → j ≤ i → cell_of S scratch i j ≡ eqb i j) → k < p → n ≡ k + 1
     → Substituted S p n scratch old mid → TakenOff S k k scratch mid new → Substituted S p k scratch old new

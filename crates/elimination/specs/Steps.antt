@@ -1,6 +1,7 @@
 -- What the steps of an elimination do.
-use Rattle.std.specs.Prelude.{◌≡◌, Bool, true, false, not, ◌&&◌, List, ◌⊎◌, ℕ, ◌+◌, ◌*◌, ◌^◌, ◌<◌, ◌≤◌, eqb, ltb, length}
+use Rattle.std.specs.Prelude.{◌≡◌, Bool, true, false, not, ◌&&◌, List, Option, ◌⊎◌, ℕ, ◌+◌, ◌^◌, ◌<◌, ◌≤◌, eqb, ltb, length}
 use Rattle.std.specs.Bool.{xor}
+use Rattle.std.specs.Option.{MatchOption}
 use Rattle.parity.specs.Xor.{◌⊕◌, when}
 use Rattle.parity.specs.Lists.{at}
 use Rattle.elimination.specs.System.{Solves, Below}
@@ -51,20 +52,20 @@ pub record Reduced (p r k u : ℕ) (m : ℕ → ℕ → Bool) : Type 0 where
   pub unit : u ≡ k → (i j : ℕ) → i < u → j ≤ i → m i j ≡ eqb i j
   pub free : u < k → Kernel p k u m
 
--- the first number from `from` on, and below n, that passes the test, or n
-pub record First (from n : ℕ) (test : ℕ → Bool) (i : ℕ) : Type 0 where
-  pub least : from ≤ i
-  pub most : i ≤ n
-  pub fails : (j : ℕ) → j < i → from ≤ j → test j ≡ false
-  pub passes : i < n → test i ≡ true
+-- no number from `from` on, and below n, passes the test
+abbrev pub NoneFrom : ℕ → ℕ → (ℕ → Bool) → Type 0
+NoneFrom from n test = (j : ℕ) → from ≤ j → j < n → test j ≡ false
 
--- row i, of S values with p columns, lies in the scratch
-pub record Row (S p i : ℕ) (scratch values : List ℕ) : Type 0 where
-  pub width : S ≤ 31
-  pub columns : p ≤ 32 * S
-  pub row : i < 248
-  pub space : i * S + S ≤ length scratch
-  pub sizes : length values ≡ 248
+-- i, below n, is the first number from `from` on that passes the test
+pub record FirstAt (from n : ℕ) (test : ℕ → Bool) (i : ℕ) : Type 0 where
+  pub least : from ≤ i
+  pub inside : i < n
+  pub fails : NoneFrom from i test
+  pub passes : test i ≡ true
+
+-- the first number from `from` on, and below n, that passes the test, where there is one
+abbrev pub First : ℕ → ℕ → (ℕ → Bool) → Option ℕ → Type 0
+First from n test found = MatchOption found (NoneFrom from n test) (FirstAt from n test)
 
 -- the values from + w are XORed onto the values to + w, for w from `first` on and below `last`
 pub record RunAdded (to from first last : ℕ) (old new : List ℕ) : Type 0 where

@@ -4,7 +4,7 @@ use mathlib.Core.List.{List}
 use Prim.Native.Nat.{ℕ}
 use Rattle.gtb.specs.declared.Shape.{Shape}
 use Rattle.gtb.specs.declared.Refusal.{Refusal}
-use Rattle.gtb.specs.declared.Status.TheVariants.{Done, Refused}
+use Rattle.std.specs.Prelude.{Ok, Err}
 use Rattle.gtb.specs.Shape.{kept_checks, scratch_length}
 use Rattle.gtb.specs.Square.{narrow}
 use Rattle.gtb.specs.Answer.{unless}
@@ -17,5 +17,5 @@ pub status_alike : (s : Shape) (slopes : List ℕ) → Alike s slopes → (symbo
     → status_of (reslope s slopes) symbols scratch word given ≡ status_of s symbols scratch word given
 unfolding status_of scratch_length kept_checks
 status_alike s slopes alike symbols scratch word given = λ i.
-    unless (lawful_alike s slopes alike i) (Refused (refusal_alike s slopes alike i))
-    (unless (sized s symbols scratch word) (Refused Refusal.Length) (unless (narrow s.b given) (Refused Refusal.Width) Done))
+    unless (lawful_alike s slopes alike i) (Err (refusal_alike s slopes alike i))
+    (unless (sized s symbols scratch word) (Err Refusal.Length) (unless (narrow s.b given) (Err Refusal.Width) (Ok tt)))

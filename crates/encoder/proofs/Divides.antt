@@ -1,9 +1,8 @@
 -- Rows divided by a root.
-use mathlib.Core.Path.{◌≡◌, refl, sym, ap, ap₂, ◌∙◌, subst, fun_ext}
+use mathlib.Core.Path.{◌≡◌, sym, ap, ap₂, ◌∙◌, subst, fun_ext}
 use mathlib.Core.List.{List}
-use mathlib.Core.Logic.{⊎_elim}
 use Prim.Native.Nat.{ℕ, suc, ◌+◌, ◌*◌, ◌-◌, ◌%◌, ◌≤◌, ◌<◌}
-use native.Mathlib.Nat.{one-mul, add_comm, mod-mod, le_refl, le_of_lt, eq-or-lt_of_le, zero-add, mod-add-mod, mod-lt}
+use native.Mathlib.Nat.{one-mul, add_comm, mod-mod, le_refl, le_of_lt, zero-add, mod-add-mod, mod-lt}
 use native.Mathlib.Omega.{arith}
 use lib.ListN.{length}
 use Rattle.parity.specs.Xor.{◌⊕◌, xor_sum}
@@ -15,13 +14,14 @@ use Rattle.parity.proofs.Modular.{no_step}
 use Rattle.parity.proofs.Walk.{walk_period, quotient, divided}
 use Rattle.parity.proofs.Walk as parity
 use Rattle.gtb.specs.declared.Shape.{Shape}
+use Rattle.gtb.specs.Shape.{Lawful}
 use Rattle.gtb.specs.Square.{at}
 use Rattle.gtb.proofs.Bounds.{bounds, positive}
 use Rattle.gtb.proofs.Sizes.{sizes}
 use Rattle.gtb.proofs.Turns.{row_in}
 use Rattle.gtb.proofs.Slopes.{shift_apart}
 use Rattle.gtb.specs.Rows.{shift_of}
-use Rattle.encoder.specs.Steps.{row, difference, Walked, Sound, Ready, Divisible, Quotient, RowDivided, Divided}
+use Rattle.encoder.specs.Steps.{row, difference, Walked, Sound, Ready, Divisible, RowDivided, Divided}
 use Rattle.parity.specs.Lists.{Written}
 use Rattle.encoder.proofs.Rows.{written_row, written_other}
 use Rattle.encoder.proofs.Bounds.{shift_bounds}
@@ -37,12 +37,12 @@ pub record Numbers (s : Shape) (k t : ℕ) (w : List ℕ) : Type 0 where
   pub row_fits' : t * s.q + s.q ≤ length w
   pub wide : length w ≤ 961
 
-pub numbers : (s : Shape) (k t : ℕ) (w : List ℕ) → Divisible s k t w → Numbers s k t w
-numbers s k t w h =
-    let bd = bounds s h.lawful in
-    let root = shift_bounds s h.lawful k (omega arith) in
-    let shift = shift_bounds s h.lawful t h.last in
-    let z = sizes s h.lawful in
+pub numbers : (s : Shape) → Lawful s → (k t : ℕ) (w : List ℕ) → Divisible s k t w → Numbers s k t w
+numbers s law k t w h =
+    let bd = bounds s law in
+    let root = shift_bounds s law k (omega arith) in
+    let shift = shift_bounds s law t h.last in
+    let z = sizes s law in
     record {
       low = omega arith;
       high = bd.q31;
@@ -72,11 +72,11 @@ module _ (q : ℕ) (pos : 0 < q) (t z δ e sum : ℕ) (inv : δ * e % q ≡ 1) (
       (ap (at v) (mod-add-mod c q z) ∙ walked.entry e inv ((c + z) % q) (mod-lt (c + z) pos) ∙ wrap q (walk q δ e d) (walk_period q δ e d pos) (c + z))
       stored_total
 
-pub row_divided : (s : Shape) (k t : ℕ) (w w' v : List ℕ) (z δ sum : ℕ) → Divisible s k t w
+pub row_divided : (s : Shape) → Lawful s → (k t : ℕ) (w w' v : List ℕ) (z δ sum : ℕ) → Divisible s k t w
     → z ≡ s.q - shift_of s k → δ ≡ (z + shift_of s t) % s.q → Walked s.q δ (difference s.q w k t) v
     → sum ≡ xor_sum s.q (λ i. at v (0 + i)) → Written (t * s.q) s.q (λ c. at v ((c + z) % s.q) ⊕ sum) w w'
     → RowDivided s k t w w'
-row_divided s k t w w' v z δ sum h hz hδ walked total written = record {
+row_divided s law k t w w' v z δ sum h hz hδ walked total written = record {
   size = written.size;
   others = written_other q pos t (λ c. at v ((c + z) % q) ⊕ sum) w w' written;
   sound = sound_same s g (row q w' t) is (record { cyclic = division.cyclic; width = division.width });
@@ -90,13 +90,13 @@ row_divided s k t w w' v z δ sum h hz hδ walked total written = record {
     d = difference q w k t
 
     o : Order q
-    o = (bounds s h.lawful).order
+    o = (bounds s law).order
 
     pos : 0 < q
-    pos = positive s h.lawful
+    pos = positive s law
 
     around : shift_of s k + z ≡ 1 * q
-    around = let (low, high) = shift_bounds s h.lawful k (omega (arith, h.after, h.last)) in omega (arith, one-mul q)
+    around = let (low, high) = shift_bounds s law k (omega (arith, h.after, h.last)) in omega (arith, one-mul q)
 
     -- δ is the step between the shifts
     is_step : (shift_of s t + z) % q ≡ δ % q
@@ -106,7 +106,7 @@ row_divided s k t w w' v z δ sum h hz hδ walked total written = record {
     inverse =
         o.inverse δ
         (λ zero.
-        (shift_apart s h.lawful).apart k t (omega (arith, h.after, h.last)) (omega (arith, h.last)) (λ same. omega (arith, h.after))
+        (shift_apart s law).apart k t (omega (arith, h.after, h.last)) (omega (arith, h.last)) (λ same. omega (arith, h.after))
         (no_step q 1 (shift_of s k) (shift_of s t) z around (is_step ∙ zero)))
 
     g : ℕ → ℕ
@@ -121,47 +121,13 @@ row_divided s k t w w' v z δ sum h hz hδ walked total written = record {
     is : (c : ℕ) → row q w' t c ≡ g c
     is = stored_quotient q pos t z δ inverse.0 sum inverse.1 d w w' v walked total written
 
-module _ (s : Shape) (k : ℕ) (w : List ℕ) where
-  pub divided_none : Divided s k (k + 1) w w
-  divided_none = record {
-    size = refl;
-    upto = λ r l c. refl;
-    past = λ r l c. refl;
-    sound = λ r l lt. absurd (omega arith);
-    step = λ r l lt. absurd (omega arith);
+module _ (s : Shape) (k : ℕ) (w : List ℕ) (h : Ready s k w) (t : ℕ) (after : k < t) (last : suc t < s.n) (w' : List ℕ) (so_far : Divided s k t w w') where
+  -- row t has not been touched yet, nor row k
+  pub divisible : Divisible s k t w'
+  divisible = record {
+    size = so_far.size ∙ h.size;
+    after = after;
+    last = last;
+    root = sound_same s (row s.q w k) (row s.q w' k) (so_far.upto k (le_refl k)) (h.sound k (le_refl k) h.first);
+    value = sound_same s (row s.q w t) (row s.q w' t) (so_far.past t (le_refl t)) (h.sound t (le_of_lt after) last);
   }
-
-  module _ (h : Ready s k w) (t : ℕ) (after : k < t) (last : suc t < s.n) (w' : List ℕ) (so_far : Divided s k t w w') where
-    -- row t has not been touched yet, nor row k
-    pub divisible : Divisible s k t w'
-    divisible = record {
-      lawful = h.lawful;
-      size = so_far.size ∙ h.size;
-      after = after;
-      last = last;
-      root = sound_same s (row s.q w k) (row s.q w' k) (so_far.upto k (le_refl k)) (h.sound k (le_refl k) h.first);
-      value = sound_same s (row s.q w t) (row s.q w' t) (so_far.past t (le_refl t)) (h.sound t (le_of_lt after) last);
-    }
-
-    pub divided_more : (w'' : List ℕ) → RowDivided s k t w' w'' → Divided s k (t + 1) w w''
-    divided_more w'' one = record {
-      size = one.size ∙ so_far.size;
-      upto = λ r l c. one.others r (λ e. omega arith) c ∙ so_far.upto r l c;
-      past = λ r l c. one.others r (λ e. omega arith) c ∙ so_far.past r (omega arith) c;
-      sound = λ r l lt.
-          ⊎_elim (λ (e : r ≡ t). rw e one.sound)
-          (λ (l' : r < t). sound_same s (row q w' r) (row q w'' r) (other r l') (so_far.sound r l l')) (eq-or-lt_of_le (omega arith));
-      step = λ r l lt.
-          ⊎_elim (λ (e : r ≡ t). rw e here)
-          (λ (l' : r < t) c. ap₂ (λ (a b : ℕ). a ⊕ b) (other r l' (c + shift_of s r)) (other r l' (c + shift_of s k)) ∙ so_far.step r l l' c)
-          (eq-or-lt_of_le (omega arith));
-    }
-      where
-        q : ℕ
-        q = s.q
-
-        other : (r : ℕ) → r < t → (c : ℕ) → row q w'' r c ≡ row q w' r c
-        other r l = one.others r (λ e. omega arith)
-
-        here : Quotient s k t w (row q w'' t)
-        here c = one.step c ∙ ap₂ (λ (a b : ℕ). a ⊕ b) (so_far.past t (le_refl t) c) (so_far.upto k (le_refl k) c)

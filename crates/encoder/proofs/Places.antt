@@ -1,9 +1,9 @@
 -- The symbols put down, one lower row at a time.
-use mathlib.Core.Path.{◌≡◌, refl, sym, ap, ◌∙◌}
+use mathlib.Core.Path.{◌≡◌, sym, ap, ◌∙◌}
 use mathlib.Core.List.{List}
 use mathlib.Core.Logic.{⊎_elim}
 use Prim.Native.Nat.{ℕ, ◌+◌, ◌-◌, ◌*◌, ◌%◌, ◌<◌}
-use native.Mathlib.Nat.{not-suc-le-zero, eq-or-lt_of_le, zero-add, mod-lt}
+use native.Mathlib.Nat.{eq-or-lt_of_le, zero-add, mod-lt}
 use native.Mathlib.Omega.{arith}
 use lib.Arith.{digits_lt}
 use lib.ListN.{length}
@@ -23,9 +23,6 @@ pub record Placing (q m p i : ℕ) (xs w w' : List ℕ) : Type 0 where
   pub lower : (k : ℕ) → k < i → (c : ℕ) → row q w' (m + k) c ≡ lower_row p (λ j. at xs (k * p + j)) (c % q)
 
 module _ (q m p : ℕ) (xs w : List ℕ) where
-  pub placing_none : Placing q m p 0 xs w w
-  placing_none = record { size = refl; upper = λ r l c. refl; lower = λ k l. absurd (not-suc-le-zero l) }
-
   pub placing_more : (i : ℕ) (w' w'' : List ℕ) → 0 < q → p + 1 ≡ q → Placing q m p i xs w w'
       → Written ((m + i) * q) (p + 1) (lower_row p (λ j. at xs (i * p + j))) w' w'' → Placing q m p (i + 1) xs w w''
   placing_more i w' w'' pos width so_far lent = record {

@@ -1,5 +1,5 @@
 -- The first row takes in one row after the other.
-use mathlib.Core.Path.{◌≡◌, refl, sym, ap, ◌∙◌}
+use mathlib.Core.Path.{refl, sym, ap, ◌∙◌}
 use mathlib.Core.List.{List}
 use Prim.Native.Nat.{ℕ, ◌+◌, ◌*◌, ◌≤◌}
 use native.Mathlib.Nat.{zero-mul, one-mul, mul-le-mul_right}
@@ -40,11 +40,3 @@ module _ (q : ℕ) (w : List ℕ) where
     below = λ j lt. joined.below j lt ∙ so_far.below j lt;
     above = λ j lt. joined.above j lt ∙ so_far.above j lt;
   }
-
--- an order that is matched is the literal that is passed on
-pub literal_size : {n q k : ℕ} → q ≡ k → n ≡ q * q → n ≡ k * k
-literal_size e h = h ∙ ap (λ (x : ℕ). x * x) e
-
-pub literal_stack : (w w' : List ℕ) {q k : ℕ} → q ≡ k → Written 0 k (λ c. xor_sum k (λ r. at w (r * k + c))) w w'
-    → Written 0 q (λ c. xor_sum q (λ r. at w (r * q + c))) w w'
-literal_stack w w' e h = rw e h

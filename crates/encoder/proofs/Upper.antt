@@ -99,7 +99,6 @@ module _ (s : Shape) (h : Lawful s) where
   -- ---- either way
   pub raised_ready : (w w₁ : List ℕ) → Raised s w w₁ → length w ≡ word_length s → ((r : ℕ) → r < s.q → Sound s (row s.q w r)) → Ready s 0 w₁
   raised_ready w w₁ raised size sound = record {
-    lawful = h;
     size = raised.size ∙ size;
     first = let b = bounds s h in omega arith;
     sound = λ t from l. sound_same s (eval s.q (row s.q w) (shift_of s t)) (row s.q w₁ t) (raised.upper t l) (eval_sound w sound (shift_of s t));

@@ -1,22 +1,20 @@
 -- The steps of writing and of data extraction, for the contracts of the private functions.
-use Rattle.std.specs.Prelude.{◌≡◌, List, ℕ, suc, ◌+◌, ◌-◌, ◌*◌, ◌%◌, ◌^◌, ◌≤◌, ◌<◌, length, replicate}
+use Rattle.std.specs.Prelude.{◌≡◌, List, ℕ, suc, ◌+◌, ◌-◌, ◌*◌, ◌%◌, ◌^◌, ◌≤◌, ◌<◌, length, replicate, Result, Ok, Err}
 use Rattle.parity.specs.Xor.{◌⊕◌}
 use Rattle.parity.specs.Cyclic.{Cyclic, eval, walk}
 use Rattle.gtb.specs.declared.Shape.{Shape}
 use Rattle.gtb.specs.declared.Refusal.{Refusal}
-use Rattle.gtb.specs.declared.Status.{Status}
-use Rattle.gtb.specs.declared.Status.TheVariants.{Done, Refused}
-use Rattle.gtb.specs.Shape.{Lawful, word_length}
+use Rattle.gtb.specs.Shape.{word_length}
 use Rattle.gtb.specs.Square.{at}
 use Rattle.gtb.specs.Answer.{scratch_after}
 use Rattle.gtb.specs.Rows.{shift_of, row_of, lower_row}
 use Rattle.encoder.specs.Contract.{status_of}
 
 -- the tests of both entries, on the symbols that come in: what they answer and leave in the scratch
-pub record Tested (s : Shape) (symbols scratch word given scratch' : List ℕ) (r : Status) : Type 0 where
+pub record Tested (s : Shape) (symbols scratch word given scratch' : List ℕ) (r : Result (Unit {0}) Refusal) : Type 0 where
   pub answer : r ≡ status_of s symbols scratch word given
-  pub refused : (e : Refusal) → r ≡ Refused e → scratch' ≡ scratch_after e scratch
-  pub done : r ≡ Done → scratch' ≡ replicate (length scratch) 0
+  pub refused : (e : Refusal) → r ≡ Err e → scratch' ≡ scratch_after e scratch
+  pub done : r ≡ Ok tt → scratch' ≡ replicate (length scratch) 0
 
 -- row r of a word as a function on a cycle of q places
 abbrev pub row : ℕ → List ℕ → ℕ → ℕ → ℕ
@@ -50,14 +48,12 @@ pub record Sound (s : Shape) (f : ℕ → ℕ) : Type 0 where
 
 -- the upper rows from k on are sound; the last of them is row n - 2
 pub record Ready (s : Shape) (k : ℕ) (w : List ℕ) : Type 0 where
-  pub lawful : Lawful s
   pub size : length w ≡ word_length s
   pub first : suc k < s.n
   pub sound : (r : ℕ) → k ≤ r → suc r < s.n → Sound s (row s.q w r)
 
 -- row t can be divided by the root of row k
 pub record Divisible (s : Shape) (k t : ℕ) (w : List ℕ) : Type 0 where
-  pub lawful : Lawful s
   pub size : length w ≡ word_length s
   pub after : k < t
   pub last : suc t < s.n

@@ -2,22 +2,23 @@
 ghost use Rattle.std.specs.Prelude.{◌≡◌, suc, ◌+◌, ◌-◌, ◌*◌, ◌%◌, ◌≤◌, ◌<◌, length};
 ghost use Rattle.parity.specs.Xor.{◌⊕◌};
 ghost use Rattle.parity.specs.Cyclic.{Cyclic};
-ghost use Rattle.gtb.specs.Shape.{Lawful, word_length};
+ghost use Rattle.gtb.specs.Shape.{word_length};
 ghost use Rattle.gtb.specs.Square.{at};
 ghost use Rattle.gtb.specs.Rows.{shift_of};
 ghost use Rattle.encoder.specs.Steps.{difference, Walked, Ready, Divisible, RowDivided, Divided, Joined, Interpolated};
 ghost use Rattle.parity.specs.Lists.{Written};
 
 use crate::runs::join_run;
-use gtb::{Shape, add_mod};
+use gtb::add_mod;
+use gtb::code::Code;
 
 // How far direction t + 1 moves a line from one row to the next.
-fn shift(shape: Shape, t: usize) -> usize
-    requires { (Lawful shape) × (suc t < shape.n) }
-    ensures { result ≡ shift_of shape t }
+fn shift(code: Code, t: usize) -> usize
+    requires { suc t < code.shape.n }
+    ensures { result ≡ shift_of code.shape t }
 {
-    let q = shape.q as usize;
-    q - gtb::slope(shape, t + 1)
+    let q = code.shape.q as usize;
+    q - gtb::slope(code.shape, t + 1)
 }
 
 // Once round the cycle in steps of `delta`, taking up the difference of the rows t and k. The value is carried along: read back from the
@@ -39,6 +40,7 @@ fn walk(word: &[u32], q: usize, k: usize, t: usize, delta: usize) -> [u32; 32]
 }
 
 // What was walked from place `from` on, with the total added, goes to place a.
+// Kept as it is: of what is written through iter_mut() and zip(..), a proof knows the length alone.
 fn store_run(word: &mut [u32], walked: &[u32], total: u32, a: usize, from: usize, count: usize)
     requires { (a + count ≤ length word.old) × (from + count ≤ length walked.now) }
     ensures { Written a count (λ c. at walked.now (from + c) ⊕ total) word.old word.new }
@@ -59,27 +61,27 @@ fn store_row(word: &mut [u32], walked: &[u32], total: u32, q: usize, a: usize, z
 }
 
 // Row t becomes its difference from row k, divided by the difference of their shifts.
-fn divide_row(shape: Shape, word: &mut [u32], k: usize, t: usize)
-    requires { Divisible shape k t word.old }
-    ensures { RowDivided shape k t word.old word.new }
+fn divide_row(code: Code, word: &mut [u32], k: usize, t: usize)
+    requires { Divisible code.shape k t word.old }
+    ensures { RowDivided code.shape k t word.old word.new }
 {
-    let q = shape.q as usize;
-    let z = q - shift(shape, k);
-    let delta = add_mod(z, shift(shape, t), q);
+    let q = code.shape.q as usize;
+    let z = q - shift(code, k);
+    let delta = add_mod(z, shift(code, t), q);
     let walked = walk(word, q, k, t, delta);
     let total = syndrome::run_sum(&walked, 0, q);
     store_row(word, &walked, total, q, t * q, z);
 }
 
 // Each row from k + 1 to n - 2 is divided.
-fn divide(shape: Shape, word: &mut [u32], k: usize)
-    requires { Ready shape k word.old }
-    ensures { Divided shape k (shape.n - 1) word.old word.new }
+fn divide(code: Code, word: &mut [u32], k: usize)
+    requires { Ready code.shape k word.old }
+    ensures { Divided code.shape k (code.shape.n - 1) word.old word.new }
 {
-    let n = shape.n as usize;
+    let n = code.shape.n as usize;
     let m = n - 1;
     for t in k + 1..m {
-        divide_row(shape, word, k, t);
+        divide_row(code, word, k, t);
     }
 }
 
@@ -94,28 +96,28 @@ fn join_row(word: &mut [u32], q: usize, a: usize, x: usize)
 }
 
 // Each row from k to n - 3 takes the next one in.
-fn join(shape: Shape, word: &mut [u32], k: usize)
-    requires { (Lawful shape) × (length word.old ≡ word_length shape) × (suc k < shape.n) }
-    ensures { Joined shape.q (shift_of shape k) k (shape.n - 2) word.old word.new }
+fn join(code: Code, word: &mut [u32], k: usize)
+    requires { (length word.old ≡ word_length code.shape) × (suc k < code.shape.n) }
+    ensures { Joined code.shape.q (shift_of code.shape k) k (code.shape.n - 2) word.old word.new }
 {
-    let q = shape.q as usize;
-    let n = shape.n as usize;
+    let q = code.shape.q as usize;
+    let n = code.shape.n as usize;
     let last = n - 2;
-    let x = shift(shape, k);
+    let x = shift(code, k);
     for r in k..last {
         join_row(word, q, r * q, x);
     }
 }
 
 // The upper rows from k on become those that take, at the shift of each, the value that its row had.
-pub fn interpolate(shape: Shape, word: &mut [u32], k: usize)
-    requires { Ready shape k word.old }
-    ensures { Interpolated shape k word.old word.new }
+pub fn interpolate(code: Code, word: &mut [u32], k: usize)
+    requires { Ready code.shape k word.old }
+    ensures { Interpolated code.shape k word.old word.new }
 {
-    let n = shape.n as usize;
+    let n = code.shape.n as usize;
     if k + 2 < n {
-        divide(shape, word, k);
-        interpolate(shape, word, k + 1);
-        join(shape, word, k);
+        divide(code, word, k);
+        interpolate(code, word, k + 1);
+        join(code, word, k);
     }
 }

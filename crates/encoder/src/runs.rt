@@ -6,6 +6,7 @@ ghost use Rattle.gtb.specs.Rows.{lower_row};
 ghost use Rattle.parity.specs.Lists.{Written};
 
 // A lower row of the word, at place `a`: `count` symbols from place `start` on, and their XOR before them.
+// Kept as one loop: rows are short, and copied first and summed then they take longer.
 pub fn place_row(word: &mut [u32], symbols: &[u32], a: usize, start: usize, count: usize)
     requires { (a + 1 + count ≤ length word.old) × (start + count ≤ length symbols.now) }
     ensures { Written a (count + 1) (lower_row count (λ i. at symbols.now (start + i))) word.old word.new }
@@ -24,12 +25,10 @@ pub fn clear_run(word: &mut [u32], count: usize)
     requires { count ≤ length word.old }
     ensures { Written 0 count (λ i. 0) word.old word.new }
 {
-    for i in 0..count {
-        word[i] = 0;
-    }
+    word[..count].fill(0);
 }
 
-// The places from a on take in those from `from` on.
+// The places from a on take in those from `from` on. Both are places of one slice, so they go by index.
 pub fn join_run(word: &mut [u32], a: usize, from: usize, count: usize)
     requires { (a + count ≤ from) × (from + count ≤ length word.old) }
     ensures { Written a count (λ c. at word.old (a + c) ⊕ at word.old (from + c)) word.old word.new }

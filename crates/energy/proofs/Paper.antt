@@ -12,8 +12,8 @@ use Rattle.gtb.proofs.Judging.{Decides, decides_eqb, test}
 use Rattle.session.specs.declared.Session.{Session}
 use Rattle.session.specs.Session.{plain}
 use Rattle.session.proofs.Paper.{session_tests_lem}
-use Rattle.energy.specs.declared.Billed.{Billed}
-use Rattle.energy.specs.declared.Billed.TheVariants as billed
+use Rattle.std.specs.Prelude.{Result, Err}
+use Rattle.gtb.specs.declared.Refusal.{Refusal}
 use Rattle.energy.specs.Energy.{calls_of, millis, rounded_up, due, bill_of, billed_number}
 
 module _ (σ : Session) where
@@ -28,14 +28,14 @@ module _ (σ : Session) where
   rounded : {m c p : ℕ} → m ≡ c → p ≡ rounded_up m → paper.RoundedUp c p
   rounded same h = record { enough = omega arith; least = omega arith }
 
-  pub billing : (prices : List ℕ) {r : Billed} → r ≡ bill_of σ prices
+  pub billing : (prices : List ℕ) {r : Result ℕ Refusal} → r ≡ bill_of σ prices
       → paper.Billing (plain σ) prices (billed_number r)
   unfolding bill_of due
   billing prices =
-      session_tests_lem σ billed.Refused _ (ap billed_number) (ap billed_number) (ap billed_number)
+      session_tests_lem σ Err _ (ap billed_number) (ap billed_number) (ap billed_number)
       (test (eqb (length prices) 256) _ _ (decides_eqb _ _) (ap billed_number) (λ _.
       test (ltb (millis (calls_of σ) prices) (2 ^ 64)) _ _ (rw (same_cost prices) (decides_bill _)) (ap billed_number) (λ _ h.
       rounded (same_cost prices) (ap billed_number h))))
 
-  pub billing_asked : (prices : List ℕ) {r : Billed} → r ≡ bill_of σ prices → (r ≡ bill_of σ prices) × paper.Billing (plain σ) prices (billed_number r)
+  pub billing_asked : (prices : List ℕ) {r : Result ℕ Refusal} → r ≡ bill_of σ prices → (r ≡ bill_of σ prices) × paper.Billing (plain σ) prices (billed_number r)
   billing_asked prices h = (h, billing prices h)

@@ -1,12 +1,10 @@
 -- The energy of a run (RULES 5.1).
-use Rattle.std.specs.Prelude.{List, ℕ, ◌+◌, ◌*◌, ◌/◌, ◌^◌, eqb, ltb, length, get_or}
+use Rattle.std.specs.Prelude.{List, ℕ, ◌+◌, ◌*◌, ◌/◌, ◌^◌, eqb, ltb, length, get_or, Result, Ok, Err}
 use Rattle.parity.specs.Count.{sum}
 use Rattle.gtb.specs.declared.Refusal.{Refusal}
 use Rattle.gtb.specs.Answer.{refusal_number, unless}
 use Rattle.session.specs.declared.Session.{Session}
 use Rattle.session.specs.Session.{session_status, past}
-use Rattle.energy.specs.declared.Billed.{Billed}
-use Rattle.energy.specs.declared.Billed.TheVariants.{Picojoules, Refused}
 
 -- how often a session counts function f
 abbrev pub calls_of : Session → ℕ → ℕ
@@ -21,17 +19,17 @@ abbrev pub rounded_up : ℕ → ℕ
 rounded_up m = (m + 999) / 1000
 
 -- what such a sum is billed with: test 19, then rounded
-unfoldable pub due : ℕ → Billed
-due m = unless (ltb m (2 ^ 64)) (Refused Refusal.Bill) (Picojoules (rounded_up m))
+unfoldable pub due : ℕ → Result ℕ Refusal
+due m = unless (ltb m (2 ^ 64)) (Err Refusal.Bill) (Ok (rounded_up m))
 
 -- a bill tests 1, 18, 11, 2, 19
-unfoldable pub bill_of : Session → List ℕ → Billed
+unfoldable pub bill_of : Session → List ℕ → Result ℕ Refusal
 bill_of σ prices =
-    past (session_status σ) Refused
-    (unless (eqb (length prices) 256) (Refused Refusal.Length)
+    past (session_status σ) Err
+    (unless (eqb (length prices) 256) (Err Refusal.Length)
     (due (millis (calls_of σ) prices)))
 
 -- as one number, a refusal above all bills
-abbrev pub billed_number : Billed → ℕ
-billed_number (Picojoules p) = p
-billed_number (Refused e) = 2 ^ 63 + refusal_number e
+abbrev pub billed_number : Result ℕ Refusal → ℕ
+billed_number (Ok p) = p
+billed_number (Err e) = 2 ^ 63 + refusal_number e

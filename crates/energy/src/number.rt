@@ -2,14 +2,14 @@
 ghost use Rattle.std.specs.Prelude.{◌≡◌};
 ghost use Rattle.energy.specs.Energy.{billed_number};
 
-use crate::Billed;
+use gtb::Refusal;
 
 // A refusal is above all bills.
-pub fn billed(billed: Billed) -> u64
+pub fn billed(billed: Result<u64, Refusal>) -> u64
     ensures { result ≡ billed_number billed }
 {
     match billed {
-        Billed::Picojoules(p) => p,
-        Billed::Refused(e) => 9223372036854775808 + gtb::number::refusal(e) as u64,
+        Ok(p) => p,
+        Err(e) => 9223372036854775808 + u32::from(e) as u64,
     }
 }

@@ -10,7 +10,7 @@ use borrow.Author.Tests.{ne_eqb}
 use Rattle.parity.proofs.Tests.{and_no_right}
 use Rattle.gtb.specs.declared.Shape.{Shape}
 use Rattle.gtb.specs.declared.Refusal.{Refusal}
-use Rattle.gtb.specs.declared.Status.TheVariants as status
+use Rattle.std.specs.Prelude.{Result, Ok, Err}
 use Rattle.gtb.specs.Shape.{Lawful, word_length, kept_checks, scratch_length}
 use Rattle.gtb.specs.Square.{narrow}
 use Rattle.gtb.specs.Answer.{unless}
@@ -18,7 +18,6 @@ use Rattle.gtb.specs.Alike.{reslope, Alike}
 use Rattle.gtb.proofs.Kept.{old_scratch}
 use Rattle.gtb.proofs.Alikes.{lawful_alike, refusal_alike, codeword_alike, alike_back}
 use Rattle.distance.specs.Distance.{differences}
-use Rattle.correction.specs.declared.Decoded.{Decoded}
 use Rattle.erasure.specs.Fill.{rising, fill_status, Agrees, FilledIn, NoWord, SeveralWords, Decision, TestedFirst, Filling}
 
 agrees_alike : (s : Shape) (slopes : List ℕ) → Alike s slopes → {word places v : List ℕ} → Agrees s word places v → Agrees (reslope s slopes) word places v
@@ -31,12 +30,12 @@ module _ (s : Shape) (slopes : List ℕ) (alike : Alike s slopes) (word places :
   pub fill_status_alike : (scratch : List ℕ) → fill_status (reslope s slopes) word places scratch ≡ fill_status s word places scratch
   unfolding fill_status scratch_length kept_checks
   fill_status_alike scratch = λ i.
-      unless (lawful_alike s slopes alike i) (status.Refused (refusal_alike s slopes alike i))
-      (unless (eqb (length word) (word_length s) && eqb (length scratch) (scratch_length s)) (status.Refused Refusal.Length)
-      (unless (narrow s.b word) (status.Refused Refusal.Width)
-      (unless (rising (word_length s) places) (status.Refused Refusal.Places) status.Done)))
+      unless (lawful_alike s slopes alike i) (Err (refusal_alike s slopes alike i))
+      (unless (eqb (length word) (word_length s) && eqb (length scratch) (scratch_length s)) (Err Refusal.Length)
+      (unless (narrow s.b word) (Err Refusal.Width)
+      (unless (rising (word_length s) places) (Err Refusal.Places) (Ok tt))))
 
-  module _ {word' : List ℕ} {r : Decoded} where
+  module _ {word' : List ℕ} {r : Result ℕ Refusal} where
     filled_alike : FilledIn s word places word' r → FilledIn (reslope s slopes) word places word' r
     unfolding differences
     filled_alike f = record { agrees = agrees_alike s slopes alike f.agrees; only = λ v a. f.only v (back a); answer = f.answer; number = f.number }
@@ -75,7 +74,7 @@ module _ (s : Shape) (slopes : List ℕ) (alike : Alike s slopes) (word places :
 
 -- ---- the scratch of before N7
 pub fill_old : (s : Shape) (word places scratch : List ℕ) → Lawful s → length scratch ≡ s.n * s.q * ((s.q * s.q + 31) / 32)
-    → fill_status s word places scratch ≡ status.Refused Refusal.Length
+    → fill_status s word places scratch ≡ Err Refusal.Length
 unfolding fill_status
 fill_old s word places scratch law e =
     let wrong : eqb (length scratch) (scratch_length s) ≡ false = ne_eqb _ _ (λ z. old_scratch s law (sym e ∙ z)) in

@@ -1,146 +1,125 @@
 -- The tests, then the work, whatever is decided there.
-use mathlib.Core.Path.{◌≡◌, refl, sym, ap, ap₂, ◌∙◌}
+use mathlib.Core.Path.{◌≡◌, refl, sym, ap, ◌∙◌}
 use mathlib.Core.Bool.{Bool, true, false, ◌&&◌}
 use mathlib.Core.List.{List}
 use mathlib.Core.Logic.{◌⊎◌, inl, inr, ⊎_elim}
 use Prim.Native.Nat.{ℕ}
 use lib.Dec.{eqb}
 use lib.ListN.{length, replicate}
-use borrow.Author.Tests.{eq-eqb, ne_eqb}
-use Rattle.parity.proofs.Tests.{either, clash, and_both, and_no_left, and_no_right}
+use borrow.Author.Tests.{eqb-true}
+use Rattle.parity.proofs.Tests.{and_left, and_right}
 use Rattle.gtb.specs.declared.Shape.{Shape}
 use Rattle.gtb.specs.declared.Refusal.{Refusal}
-use Rattle.gtb.specs.declared.Status.{Status}
-use Rattle.gtb.specs.declared.Status.TheVariants as status
+use Rattle.std.specs.Prelude.{Result, Ok, Err}
 use Rattle.gtb.specs.Shape.{lawful, Lawful, shape_refusal, word_length, scratch_length}
-use Rattle.gtb.specs.Square.{narrow}
-use Rattle.gtb.specs.Answer.{unless, scratch_after}
+use Rattle.gtb.specs.Square.{narrow, Word}
+use Rattle.gtb.specs.Answer.{unless, scratch_after, answer_number}
+use Rattle.gtb.proofs.Words.{narrow_word}
 use Rattle.gtb.proofs.Answers.{same_refusal, never_done, never_refused, shape_scratch}
-use Rattle.correction.specs.declared.Decoded.{Decoded}
-use Rattle.correction.specs.declared.Decoded.TheVariants.{Refused}
-use Rattle.correction.specs.Answer.{decoded_number}
 use Rattle.erasure.specs.Fill.{rising, fill_status, TestedFirst}
-use Rattle.erasure.specs.Steps.{LateTests}
-
--- a refusal by a test
-refused : {Decided : Type 0} {s : Shape} {word places scratch word' scratch' : List ℕ} {r : Decoded} (e : Refusal) → fill_status s word places scratch ≡ status.Refused e
-    → r ≡ Refused e → word' ≡ word → scratch' ≡ scratch_after e scratch → TestedFirst Decided s word places scratch word' scratch' r
-refused {scratch = scratch} e tests answer left lent = record {
-  tested = λ e' h.
-      let same : e ≡ e' = same_refusal e e' (sym tests ∙ h) in
-      (answer ∙ ap Refused same, ap decoded_number (answer ∙ ap Refused same), left, lent ∙ ap (λ (x : Refusal). scratch_after x scratch) same);
-  decided = λ h. absurd (never_done e (sym tests ∙ h));
-}
-
--- no test refuses
-passed : {Decided : Type 0} {s : Shape} {word places scratch word' scratch' : List ℕ} {r : Decoded} → fill_status s word places scratch ≡ status.Done
-    → Decided → scratch' ≡ replicate (length scratch) 0 → TestedFirst Decided s word places scratch word' scratch' r
-passed tests decision cleared = record {
-  tested = λ e h. absurd (never_refused e (sym tests ∙ h));
-  decided = λ h. (decision, cleared);
-}
+use Rattle.erasure.specs.Steps.{Places, length_tests, value_tests, LateTests}
+use Rattle.erasure.proofs.Lists.{rising_places}
 
 -- ---- what holds of the work holds of the whole
-pub status_cases : (t : Status) → ((e : Refusal) × (t ≡ status.Refused e)) ⊎ (t ≡ status.Done)
-status_cases status.Done = inr refl
-status_cases (status.Refused e) = inl (e, refl)
+pub status_cases : (t : Result (Unit {0}) Refusal) → ((e : Refusal) × (t ≡ Err e)) ⊎ (t ≡ Ok tt)
+status_cases (Ok tt) = inr refl
+status_cases (Err e) = inl (e, refl)
 
 -- where the work leaves one answer and one word
-pub tested_unique : {Decided Decided' : Type 0} {s : Shape} {word places scratch w₁ w₂ x₁ x₂ : List ℕ} {r₁ r₂ : Decoded}
+pub tested_unique : {Decided Decided' : Type 0} {s : Shape} {word places scratch w₁ w₂ x₁ x₂ : List ℕ} {r₁ r₂ : Result ℕ Refusal}
     → (Decided → Decided' → (r₁ ≡ r₂) × (w₁ ≡ w₂)) → TestedFirst Decided s word places scratch w₁ x₁ r₁ → TestedFirst Decided' s word places scratch w₂ x₂ r₂
     → (r₁ ≡ r₂) × (w₁ ≡ w₂) × (x₁ ≡ x₂)
 tested_unique {s = s} {word = word} {places = places} {scratch = scratch} one f g =
     ⊎_elim
-    (λ (h : (e : Refusal) × (fill_status s word places scratch ≡ status.Refused e)).
+    (λ (h : (e : Refusal) × (fill_status s word places scratch ≡ Err e)).
     let (rf, nf, wf, xf) = f.tested h.0 h.1 in
     let (rg, ng, wg, xg) = g.tested h.0 h.1 in
     (rf ∙ sym rg, wf ∙ sym wg, xf ∙ sym xg))
-    (λ (h : fill_status s word places scratch ≡ status.Done).
+    (λ (h : fill_status s word places scratch ≡ Ok tt).
     let (df, xf) = f.decided h in
     let (dg, xg) = g.decided h in
     let (r, w) = one df dg in
     (r, w, xf ∙ sym xg))
     (status_cases (fill_status s word places scratch))
 
--- ---- tests 1 and 18, and 2
--- the tests from 3 on, and those from 2 on
-abbrev late : Shape → List ℕ → List ℕ → Status
-late s word places =
-    unless (narrow s.b word) (status.Refused Refusal.Width)
-    (unless (rising (word_length s) places) (status.Refused Refusal.Places) status.Done)
+-- ---- tests 1, 18 and 2, and what follows them
+abbrev early : Refusal → Bool → Bool → Result (Unit {0}) Refusal → Result (Unit {0}) Refusal
+early refusal a b next = unless a (Err refusal) (unless b (Err Refusal.Length) next)
 
-abbrev sized : Shape → List ℕ → List ℕ → Bool → Status
-sized s word places fits = unless fits (status.Refused Refusal.Length) (late s word places)
+early_refuses : (refusal : Refusal) (a b : Bool) (next : Result (Unit {0}) Refusal) {e : Refusal} → early refusal a b (Ok tt) ≡ Err e → early refusal a b next ≡ Err e
+early_refuses refusal true true next {e} h = absurd (never_refused e h)
+early_refuses refusal true false next h = h
+early_refuses refusal false b next h = h
 
-abbrev fitting : Shape → List ℕ → List ℕ → Bool
-fitting s word scratch = eqb (length word) (word_length s) && eqb (length scratch) (scratch_length s)
+early_passed : (refusal : Refusal) (a b : Bool) (next : Result (Unit {0}) Refusal) → early refusal a b (Ok tt) ≡ Ok tt
+    → (a ≡ true) × (b ≡ true) × (early refusal a b next ≡ next)
+early_passed refusal true true next h = (refl, refl, refl)
+early_passed refusal true false next h = absurd (never_done Refusal.Length h)
+early_passed refusal false b next h = absurd (never_done refusal h)
 
-pub refuses_shape : {Decided : Type 0} {s : Shape} {word places scratch : List ℕ} {e : Refusal} → lawful s ≡ false → e ≡ shape_refusal s
-    → TestedFirst Decided s word places scratch word scratch (Refused e)
-unfolding fill_status
-refuses_shape {s = s} {word = word} {places = places} {scratch = scratch} law e =
-    refused (shape_refusal s)
-    (ap (λ (b : Bool). unless b (status.Refused (shape_refusal s)) (sized s word places (fitting s word scratch))) law)
-    (ap Refused e) refl (shape_scratch s scratch)
+early_scratch : (refusal : Refusal) (a b : Bool) (scratch : List ℕ) {e : Refusal} → scratch ≡ scratch_after refusal scratch → early refusal a b (Ok tt) ≡ Err e
+    → scratch ≡ scratch_after e scratch
+unfolding scratch_after
+early_scratch refusal true true scratch {e} kept h = absurd (never_refused e h)
+early_scratch refusal true false scratch {e} kept h = ap (λ (x : Refusal). scratch_after x scratch) (same_refusal Refusal.Length e h)
+early_scratch refusal false b scratch {e} kept h = kept ∙ ap (λ (x : Refusal). scratch_after x scratch) (same_refusal refusal e h)
 
-module _ (s : Shape) (law : Lawful s) (word places scratch : List ℕ) where
-  past_shape : {fits : Bool} → fitting s word scratch ≡ fits → fill_status s word places scratch ≡ sized s word places fits
-  unfolding fill_status
-  past_shape e = ap₂ (λ (a b : Bool). unless a (status.Refused (shape_refusal s)) (sized s word places b)) law e
+-- ---- tests 3 and 12
+abbrev late : Bool → Bool → Result (Unit {0}) Refusal
+late a b = unless a (Err Refusal.Width) (unless b (Err Refusal.Places) (Ok tt))
 
-  refuses_length : {Decided : Type 0} → fitting s word scratch ≡ false → TestedFirst Decided s word places scratch word scratch (Refused Refusal.Length)
-  unfolding scratch_after
-  refuses_length e = refused Refusal.Length (past_shape e) refl refl refl
+late_scratch : (a b : Bool) (scratch : List ℕ) {e : Refusal} → late a b ≡ Err e → replicate (length scratch) 0 ≡ scratch_after e scratch
+unfolding scratch_after
+late_scratch true true scratch {e} h = absurd (never_refused e h)
+late_scratch true false scratch {e} h = ap (λ (x : Refusal). scratch_after x scratch) (same_refusal Refusal.Places e h)
+late_scratch false b scratch {e} h = ap (λ (x : Refusal). scratch_after x scratch) (same_refusal Refusal.Width e h)
 
-  pub refuses_word : {Decided : Type 0} → (length word ≡ word_length s → ⊥) → TestedFirst Decided s word places scratch word scratch (Refused Refusal.Length)
-  refuses_word ne = refuses_length (and_no_left (eqb (length scratch) (scratch_length s)) (ne_eqb (length word) (word_length s) ne))
+late_passed : (a b : Bool) → late a b ≡ Ok tt → (a ≡ true) × (b ≡ true)
+late_passed true true h = (refl, refl)
+late_passed true false h = absurd (never_done Refusal.Places h)
+late_passed false b h = absurd (never_done Refusal.Width h)
 
-  pub refuses_scratch : {Decided : Type 0} → (length scratch ≡ scratch_length s → ⊥) → TestedFirst Decided s word places scratch word scratch (Refused Refusal.Length)
-  refuses_scratch ne = refuses_length (and_no_right (eqb (length word) (word_length s)) (ne_eqb (length scratch) (scratch_length s) ne))
+pub values_passed : (s : Shape) (word places : List ℕ) → length word ≡ word_length s → value_tests s word places ≡ Ok tt → Word s word × Places (word_length s) places
+unfolding value_tests
+values_passed s word places size h =
+    let p = late_passed (narrow s.b word) (rising (word_length s) places) h in
+    (narrow_word s word size p.0, rising_places p.1)
 
-  -- ---- the others, and the work
-  module _ (sw : length word ≡ word_length s) (ss : length scratch ≡ scratch_length s) where
-    abbrev ordered : Status
-    ordered = unless (rising (word_length s) places) (status.Refused Refusal.Places) status.Done
+-- ---- both
+module _ (s : Shape) (word scratch : List ℕ) where
+  abbrev fitting : Bool
+  fitting = eqb (length word) (word_length s) && eqb (length scratch) (scratch_length s)
 
-    past_length : fill_status s word places scratch ≡ late s word places
-    past_length = past_shape (and_both (eq-eqb (length word) (word_length s) sw) (eq-eqb (length scratch) (scratch_length s) ss))
+  pub lengths_passed : length_tests s word scratch ≡ Ok tt → Lawful s × (length word ≡ word_length s) × (length scratch ≡ scratch_length s)
+  unfolding length_tests
+  lengths_passed h =
+      let p = early_passed (shape_refusal s) (lawful s) fitting (Ok tt) h in
+      (p.0, eqb-true _ _ (and_left _ _ p.1), eqb-true _ _ (and_right (eqb (length word) (word_length s)) _ p.1))
 
-    past_width : narrow s.b word ≡ true → fill_status s word places scratch ≡ ordered
-    past_width e = past_length ∙ ap (λ (b : Bool). unless b (status.Refused Refusal.Width) ordered) e
+  pub refuses : {Decided : Type 0} {places : List ℕ} {e : Refusal} → length_tests s word scratch ≡ Err e → TestedFirst Decided s word places scratch word scratch (Err e)
+  unfolding length_tests value_tests fill_status
+  refuses {places = places} {e} h = record {
+    tested = λ d t.
+        let same : e ≡ d = same_refusal e d (sym (early_refuses (shape_refusal s) (lawful s) fitting (value_tests s word places) h) ∙ t) in
+        (ap Err same, ap (λ (x : Refusal). answer_number (Err x)) same, refl, early_scratch (shape_refusal s) (lawful s) fitting scratch (shape_scratch s scratch) h ∙ ap (λ (x : Refusal). scratch_after x scratch) same);
+    decided = λ t. absurd (never_done e (sym (early_refuses (shape_refusal s) (lawful s) fitting (value_tests s word places) h) ∙ t));
+  }
 
-    module _ {Decided : Type 0} {word' scratch' : List ℕ} {r : Decoded} (h : LateTests Decided s word places word' r) (cleared : scratch' ≡ replicate (length scratch) 0) where
-      decides_wide : narrow s.b word ≡ false → TestedFirst Decided s word places scratch word' scratch' r
-      unfolding scratch_after
-      decides_wide e =
-          let (answer, left) = h.wide e in
-          refused Refusal.Width (past_length ∙ ap (λ (b : Bool). unless b (status.Refused Refusal.Width) ordered) e) answer left cleared
-
-      decides_unordered : narrow s.b word ≡ true → rising (word_length s) places ≡ false → TestedFirst Decided s word places scratch word' scratch' r
-      unfolding scratch_after
-      decides_unordered e f =
-          let (answer, left) = h.unordered e f in
-          refused Refusal.Places (past_width e ∙ ap (λ (b : Bool). unless b (status.Refused Refusal.Places) status.Done) f) answer left cleared
-
-      decides_work : narrow s.b word ≡ true → rising (word_length s) places ≡ true → TestedFirst Decided s word places scratch word' scratch' r
-      decides_work e f = passed (past_width e ∙ ap (λ (b : Bool). unless b (status.Refused Refusal.Places) status.Done) f) (h.decided e f) cleared
-
-      pub decides : TestedFirst Decided s word places scratch word' scratch' r
-      decides =
-          ⊎_elim
-          (λ (e : narrow s.b word ≡ true).
-          ⊎_elim (λ (f : rising (word_length s) places ≡ true). decides_work e f) (λ f. decides_unordered e f) (either (rising (word_length s) places)))
-          (λ (e : narrow s.b word ≡ false). decides_wide e)
-          (either (narrow s.b word))
+  pub decides : {Decided : Type 0} {places word' scratch' : List ℕ} {r : Result ℕ Refusal} → length_tests s word scratch ≡ Ok tt → LateTests Decided s word places word' r
+      → scratch' ≡ replicate (length scratch) 0 → TestedFirst Decided s word places scratch word' scratch' r
+  unfolding length_tests value_tests fill_status
+  decides {places = places} h work cleared = record {
+    tested = λ e t.
+        let late : value_tests s word places ≡ Err e = sym (early_passed (shape_refusal s) (lawful s) fitting (value_tests s word places) h).2 ∙ t in
+        let p = work.tested e late in
+        (p.0, ap answer_number p.0, p.1, cleared ∙ late_scratch (narrow s.b word) (rising (word_length s) places) scratch late);
+    decided = λ t. (work.decided (sym (early_passed (shape_refusal s) (lawful s) fitting (value_tests s word places) h).2 ∙ t), cleared);
+  }
 
 -- ---- what the steps past test 2 give
-pub answers_wide : {Decided : Type 0} {s : Shape} {word places : List ℕ} → narrow s.b word ≡ false → LateTests Decided s word places word (Refused Refusal.Width)
-answers_wide e = record { wide = λ f. (refl, refl); unordered = λ t. absurd (clash t e); decided = λ t. absurd (clash t e) }
+pub answers_refused : {Decided : Type 0} {s : Shape} {word places : List ℕ} {e : Refusal} → value_tests s word places ≡ Err e → LateTests Decided s word places word (Err e)
+answers_refused {e = e} h = record { tested = λ d t. (ap Err (same_refusal e d (sym h ∙ t)), refl); decided = λ t. absurd (never_done e (sym h ∙ t)) }
 
-pub answers_unordered : {Decided : Type 0} {s : Shape} {word places : List ℕ} → narrow s.b word ≡ true → rising (word_length s) places ≡ false
-    → LateTests Decided s word places word (Refused Refusal.Places)
-answers_unordered e f = record { wide = λ w. absurd (clash e w); unordered = λ t g. (refl, refl); decided = λ t u. absurd (clash u f) }
-
-pub answers_decided : {Decided : Type 0} {s : Shape} {word places word' : List ℕ} {r : Decoded} → narrow s.b word ≡ true → rising (word_length s) places ≡ true
-    → Decided → LateTests Decided s word places word' r
-answers_decided e f d = record { wide = λ w. absurd (clash e w); unordered = λ t g. absurd (clash f g); decided = λ t u. d }
+pub answers_decided : {Decided : Type 0} {s : Shape} {word places word' : List ℕ} {r : Result ℕ Refusal} → value_tests s word places ≡ Ok tt → Decided
+    → LateTests Decided s word places word' r
+answers_decided h d = record { tested = λ e t. absurd (never_done e (sym t ∙ h)); decided = λ t. d }

@@ -22,7 +22,7 @@ use Rattle.parity.proofs.Only.{only_count}
 use Rattle.parity.proofs.Lists.{at_tabulate}
 use Rattle.gtb.specs.declared.Shape.{Shape}
 use Rattle.gtb.specs.declared.Refusal.{Refusal}
-use Rattle.gtb.specs.declared.Status.TheVariants as status
+use Rattle.std.specs.Prelude.{Result, Ok, Err}
 use Rattle.gtb.specs.Shape.{Lawful, word_length, scratch_length}
 use Rattle.gtb.specs.Square.{line_of, at, syndrome, Word, Codeword}
 use Rattle.gtb.proofs.Bounds.{bounds}
@@ -31,8 +31,6 @@ use Rattle.gtb.proofs.Lines.{line_lt, share_one}
 use Rattle.distance.specs.Distance.{differences, minimum_distance}
 use Rattle.distance.proofs.Even.{bit_inside}
 use Rattle.distance.proofs.Twice.{twice}
-use Rattle.correction.specs.declared.Decoded.{Decoded}
-use Rattle.correction.specs.declared.Decoded.TheVariants.{Refused}
 use Rattle.erasure.specs.Fill.{is_listed, rising, fill_status, Agrees, Spoiled, Decision}
 use Rattle.erasure.proofs.Lists.{rising_places, listed_count}
 use Rattle.erasure.proofs.Filling.{tests_pass}
@@ -74,7 +72,7 @@ one_changed s j lj =
     ∙ only_count (word_length s) (λ i. eqb i j) j (record { below = lj; passes = eq-eqb j j refl; alone = λ i l e. eqb-true i j e })
 
 one_passes : (s : Shape) → Lawful s → (j : ℕ) (places : List ℕ) → rising (word_length s) places ≡ true → (scratch : List ℕ)
-    → length scratch ≡ scratch_length s → fill_status s (one_at s j) places scratch ≡ status.Done
+    → length scratch ≡ scratch_length s → fill_status s (one_at s j) places scratch ≡ Ok tt
 one_passes s law j places up scratch size = tests_pass s (one_at s j) places scratch law (one_word s law j) size up
 
 -- ---- counts on a line l and off it
@@ -120,8 +118,8 @@ part_smaller n l a b inside even odd =
     )
 
 -- ---- what filling in answers
-none_refused : {s : Shape} {word places word' : List ℕ} {r : Decoded} → ((v : List ℕ) → Agrees s word places v → ⊥) → Decision s word places word' r
-    → r ≡ Refused Refusal.Unfillable
+none_refused : {s : Shape} {word places word' : List ℕ} {r : Result ℕ Refusal} → ((v : List ℕ) → Agrees s word places v → ⊥) → Decision s word places word' r
+    → r ≡ Err Refusal.Unfillable
 none_refused {word' = word'} none (inl a) = absurd (none word' a.agrees)
 none_refused none (inr (inl a)) = a.answer
 none_refused none (inr (inr a)) = absurd (none a.one a.agrees)

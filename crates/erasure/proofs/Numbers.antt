@@ -7,6 +7,7 @@ use native.Mathlib.Nat.{mul-suc, suc-mul, mul-one, zero-mul, zero-add, mul-le-mu
 use native.Mathlib.Numerals.{add-one}
 use native.Mathlib.Omega.{arith}
 use lib.Dec.{eqb}
+use Rattle.std.specs.Prelude.{Some, None}
 use borrow.Author.Tests.{eqb-true, eq-eqb, ne_eqb, le-ltb}
 use Rattle.parity.proofs.Tests.{either, clash, same, and_left, and_right, and_both}
 use Rattle.gtb.specs.declared.Shape.{Shape}
@@ -14,7 +15,6 @@ use Rattle.gtb.specs.Shape.{Lawful, word_length, kept_checks}
 use Rattle.gtb.specs.Square.{line_of}
 use Rattle.gtb.specs.Kept.{is_kept, kept_direction, kept_line}
 use Rattle.gtb.proofs.Bounds.{bounds, positive}
-use Rattle.gtb.proofs.Sizes.{sizes}
 use Rattle.gtb.proofs.Lines.{line_lt}
 use Rattle.gtb.proofs.Kept.{number_of, first_kept, low_kept, last_kept, kept_number, kept_back, kept_rows}
 use Rattle.correction.specs.Error.{check_of}
@@ -45,12 +45,12 @@ module _ (s : Shape) (law : Lawful s) (t j : ℕ) (lt : t < s.n) (lj : j < word_
       (d, sym (eqb-true _ _ (and_right (eqb (kept_direction s i) t) _ y)) ∙ ap (λ (u : ℕ). line_of s u j) d)
 
   -- it is kept
-  numbered_kept : is_kept s t (line_of s t j) ≡ true → Numbered s t j (number_of s t (line_of s t j))
+  numbered_kept : is_kept s t (line_of s t j) ≡ true → Numbered s t j (Some (number_of s t (line_of s t j)))
   unfolding on_kept
   numbered_kept kept =
-      let (few, direction, line) = kept_number s law t (line_of s t j) lt (line_lt s law t j lt lj) kept in
-      record {
-        number = λ i l.
+      let (few, direction, line) = kept_number s law t (line_of s t j) lt (line_lt s law t j lt lj) kept in (
+        few,
+        λ i l.
             same
             (λ y.
             let e : i ≡ number_of s t (line_of s t j) = eqb-true i _ y in
@@ -59,32 +59,28 @@ module _ (s : Shape) (law : Lawful s) (t j : ℕ) (lt : t < s.n) (lj : j < word_
             (eq-eqb _ _ (ap (λ (u : ℕ). line_of s u j) d ∙ sym line ∙ ap (kept_line s) (sym e))))
             (λ y.
             let (d, c) = on_line i y in
-            eq-eqb i _ (sym (kept_back s law i) ∙ ap₂ (number_of s) d c));
-      }
+            eq-eqb i _ (sym (kept_back s law i) ∙ ap₂ (number_of s) d c)),
+      )
 
-  pub numbered_first : t ≡ 0 → Numbered s t j (check_of s j t)
+  pub numbered_first : t ≡ 0 → Numbered s t j (Some (check_of s j t))
   numbered_first e =
-      subst (Numbered s t j) (number_first s t (line_of s t j) e) (numbered_kept (ap (λ (u : ℕ). is_kept s u (line_of s t j)) e ∙ first_kept s (line_of s t j)))
+      subst (λ (r : ℕ). Numbered s t j (Some r)) (number_first s t (line_of s t j) e) (numbered_kept (ap (λ (u : ℕ). is_kept s u (line_of s t j)) e ∙ first_kept s (line_of s t j)))
 
-  pub numbered_later : (t ≡ 0 → ⊥) → (check_of s j t + 1 ≡ (t + 1) * s.q → ⊥) → Numbered s t j (check_of s j t + 1 - t)
+  pub numbered_later : (t ≡ 0 → ⊥) → (check_of s j t + 1 ≡ (t + 1) * s.q → ⊥) → Numbered s t j (Some (check_of s j t + 1 - t))
   numbered_later ne e =
-      subst (Numbered s t j) (number_later s law t (line_of s t j) ne)
+      subst (λ (r : ℕ). Numbered s t j (Some r)) (number_later s law t (line_of s t j) ne)
       (numbered_kept (low_kept s t (line_of s t j) (omega (arith, turn t s.q, line_lt s law t j lt lj, e))))
 
   -- it is not kept
-  pub numbered_none : (t ≡ 0 → ⊥) → check_of s j t + 1 ≡ (t + 1) * s.q → Numbered s t j 248
-  numbered_none ne e = record {
-    number = λ i l.
-        ne_eqb i 248 (λ q. omega (arith, (sizes s law).kept))
-        ∙ sym
-        (⊎_elim
-        (λ (y : (eqb (kept_direction s i) t && on_kept s i j) ≡ true).
-        let (d, c) = on_line i y in
-        let (dn, lq, kept) = (kept_rows s law).kept i l in
-        absurd
-        (clash (sym (ap₂ (is_kept s) d (c ∙ last)) ∙ kept) (last_kept s law t ∙ ne_eqb t 0 ne)))
-        (λ n. n) (either (eqb (kept_direction s i) t && on_kept s i j)));
-  }
+  pub numbered_none : (t ≡ 0 → ⊥) → check_of s j t + 1 ≡ (t + 1) * s.q → Numbered s t j None
+  numbered_none ne e i l =
+      ⊎_elim
+      (λ (y : (eqb (kept_direction s i) t && on_kept s i j) ≡ true).
+      let (d, c) = on_line i y in
+      let (dn, lq, kept) = (kept_rows s law).kept i l in
+      absurd
+      (clash (sym (ap₂ (is_kept s) d (c ∙ last)) ∙ kept) (last_kept s law t ∙ ne_eqb t 0 ne)))
+      (λ n. n) (either (eqb (kept_direction s i) t && on_kept s i j))
     where
       last : line_of s t j ≡ s.q - 1
       last = omega (arith, turn t s.q, line_lt s law t j lt lj)

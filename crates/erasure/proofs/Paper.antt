@@ -16,15 +16,12 @@ use Rattle.paper.specs.Paper as paper
 use Rattle.paper.specs.Writing.{scratch_left}
 use Rattle.gtb.specs.declared.Shape.{Shape}
 use Rattle.gtb.specs.declared.Refusal.{Refusal}
-use Rattle.gtb.specs.declared.Status.TheVariants as status
-use Rattle.gtb.specs.Shape.{word_length, kept_checks, scratch_length}
+use Rattle.std.specs.Prelude.{Result, Ok, Err}
+use Rattle.gtb.specs.Shape.{word_length, kept_checks, scratch_length, of}
 use Rattle.gtb.specs.Square.{at, narrow}
-use Rattle.gtb.specs.Answer.{refusal_number}
-use Rattle.correction.specs.declared.Decoded.{Decoded}
-use Rattle.correction.specs.Answer.{decoded_number}
+use Rattle.gtb.specs.Answer.{refusal_number, answer_number}
 use Rattle.erasure.specs.Fill.{is_listed, rising, fill_status, Agrees, Filling}
 use Rattle.gtb.proofs.Judging.{Decides, decides_eqb, decides_both, test, all_fails}
-use Rattle.gtb.specs.Shape.{of}
 use Rattle.gtb.proofs.Conditions.{shape_tests, decides_width}
 use Rattle.gtb.proofs.Scratches.{scratch_same}
 use Rattle.gtb.proofs.Stored.{codeword_stored, stored_codeword}
@@ -89,8 +86,8 @@ module _ (s : Shape) where
   paper_agrees {places = places} a = record { codeword = stored_codeword s a.stored; same = λ j l no. a.same j l (λ yes. clash (in_listed places j yes) no) }
 
   -- ---- tests 1, 18, 2, 3 and 12, as every entry with places begins
-  pub place_tests : (word places scratch : List ℕ) (Refused : ℕ → Type 0) (Next : Type 0) → ((e : Refusal) → fill_status s word places scratch ≡ status.Refused e → Refused (refusal_number e))
-      → (fill_status s word places scratch ≡ status.Done → Next)
+  pub place_tests : (word places scratch : List ℕ) (Refused : ℕ → Type 0) (Next : Type 0) → ((e : Refusal) → fill_status s word places scratch ≡ Err e → Refused (refusal_number e))
+      → (fill_status s word places scratch ≡ Ok tt → Next)
       → paper.Judged
       ((1, ¬ paper.InLists (of s))
       ∷ (18, paper.WrongSlopes (of s))
@@ -101,21 +98,21 @@ module _ (s : Shape) where
       Refused Next
   unfolding fill_status scratch_length kept_checks
   place_tests word places scratch Refused Next turn pass =
-      shape_tests s status.Refused _ (turn Refusal.Shape) (turn Refusal.Slope) (λ _.
+      shape_tests s Err _ (turn Refusal.Shape) (turn Refusal.Slope) (λ _.
       test (eqb (length word) (word_length s) && eqb (length scratch) (scratch_length s)) _ _ (decides_both _ _ (decides_eqb _ _) (decides_eqb _ _)) (turn Refusal.Length) (λ _.
       test (narrow s.b word) _ _ (decides_width s word) (turn Refusal.Width) (λ _.
       test (rising (word_length s) places) _ _ (decides_places places) (turn Refusal.Places) (λ _. pass))))
       refl
 
-  module _ {word places scratch word' scratch' : List ℕ} {r : Decoded} (f : Filling s word places scratch word' scratch' r) where
-    turn : (e : Refusal) → fill_status s word places scratch ≡ status.Refused e
-        → (decoded_number r ≡ 2 ^ 31 + refusal_number e) × (word' ≡ word) × (scratch' ≡ scratch_left (refusal_number e) scratch)
+  module _ {word places scratch word' scratch' : List ℕ} {r : Result ℕ Refusal} (f : Filling s word places scratch word' scratch' r) where
+    turn : (e : Refusal) → fill_status s word places scratch ≡ Err e
+        → (answer_number r ≡ 2 ^ 31 + refusal_number e) × (word' ≡ word) × (scratch' ≡ scratch_left (refusal_number e) scratch)
     turn e h = let (answer, number, left, used) = f.tested e h in (number, left, used ∙ scratch_same s e scratch)
 
-    pub filling : paper.Filling (of s) word places scratch word' scratch' (decoded_number r)
+    pub filling : paper.Filling (of s) word places scratch word' scratch' (answer_number r)
     unfolding scratch_left
     filling =
-        place_tests word places scratch (λ k. (decoded_number r ≡ paper.refusal k) × (word' ≡ word) × (scratch' ≡ scratch_left k scratch)) _ turn
+        place_tests word places scratch (λ k. (answer_number r ≡ paper.refusal k) × (word' ≡ word) × (scratch' ≡ scratch_left k scratch)) _ turn
         (λ h.
         let (decision, used) = f.decided h in
         ⊎_elim
@@ -132,5 +129,5 @@ module _ (s : Shape) where
         )))
         decision)
 
-    pub filling_asked : Filling s word places scratch word' scratch' r × paper.Filling (of s) word places scratch word' scratch' (decoded_number r)
+    pub filling_asked : Filling s word places scratch word' scratch' r × paper.Filling (of s) word places scratch word' scratch' (answer_number r)
     filling_asked = (f, filling)

@@ -25,7 +25,7 @@ use Rattle.gtb.proofs.Sizes.{sizes}
 use Rattle.gtb.proofs.Rows.{syndrome_width}
 use Rattle.gtb.proofs.Kept.{kept_rows, kept_silent}
 use Rattle.distance.specs.Distance.{differences}
-use Rattle.correction.specs.declared.Decoded.TheVariants.{Corrected, Refused}
+use Rattle.std.specs.Prelude.{Ok, Err}
 use Rattle.correction.specs.Error.{mended}
 use Rattle.erasure.specs.Fill.{Agrees, FilledIn, NoWord, SeveralWords}
 use Rattle.erasure.specs.Steps.{Places, on_kept, Posed, Applied, Solution}
@@ -95,7 +95,7 @@ module _ (s : Shape) (law : Lawful s) (w places : List ℕ) (S : ℕ) (scratch v
 
   -- one solution
   one_word : {changes : List ℕ} → Unique (length places) (kept_checks s) (cell_of S scratch) (at values) (at changes) → (w' : List ℕ) (r : ℕ)
-      → Applied places changes (length places) w w' r → FilledIn s w places w' (Corrected r)
+      → Applied places changes (length places) w w' r → FilledIn s w places w' (Ok r)
   one_word {changes} u w' r a =
       let e : w' ≡ made (at changes) = toggled_changed s h w (at changes) hw.size a.word in
       let changed : r ≡ differences s w' w = a.changed ∙ sym (ap (λ (v : List ℕ). differences s v w) e ∙ changed_count s h w (at changes)) in
@@ -103,16 +103,16 @@ module _ (s : Shape) (law : Lawful s) (w places : List ℕ) (S : ℕ) (scratch v
         agrees = subst (Agrees s w places) (sym e) (solved_agrees (at changes) u.solves (u.narrow s.b values_narrow).below);
         only = λ v av.
             agreeing v av ∙ changed_cong s places w (changes_of v) (at changes) (u.only (changes_of v) (agreeing_solved v av)) ∙ sym e;
-        answer = ap Corrected changed;
+        answer = ap Ok changed;
         number = changed;
       }
 
   -- none
-  no_word : Impossible (length places) (kept_checks s) (cell_of S scratch) (at values) → NoWord s w places w (Refused Refusal.Unfillable)
+  no_word : Impossible (length places) (kept_checks s) (cell_of S scratch) (at values) → NoWord s w places w (Err Refusal.Unfillable)
   no_word u = record { none = λ v a. u.none (changes_of v) (agreeing_solved v a); answer = refl; number = refl; left = refl }
 
   -- several
-  several_words : Several (length places) (kept_checks s) (cell_of S scratch) (at values) → SeveralWords s w places w (Refused Refusal.Ambiguous)
+  several_words : Several (length places) (kept_checks s) (cell_of S scratch) (at values) → SeveralWords s w places w (Err Refusal.Ambiguous)
   several_words u = record {
     one = made u.one;
     another = made (λ k. u.one k ⊕ u.change k);

@@ -6,8 +6,9 @@ use Prim.Native.Nat.{ℕ, ◌+◌, ◌*◌, ◌/◌, ◌≤◌}
 use native.Mathlib.Nat.{mul-le-mul_left}
 use native.Mathlib.Omega.{arith}
 use lib.Dec.{eqb, ltb}
+use Rattle.std.specs.Prelude.{Some, None}
 use lib.ListN.{length, replicate, length-replicate}
-use borrow.Author.Tests.{lt-ltb, le-ltb, ne_eqb}
+use borrow.Author.Tests.{lt-ltb, le-ltb}
 use Rattle.parity.proofs.Tests.{and_no_left}
 use Rattle.elimination.specs.Outcome.{Room}
 use Rattle.elimination.proofs.Columns.{single, rows_more}
@@ -29,20 +30,17 @@ turned true false true = refl
 turned true false false = refl
 turned false b c = refl
 
-module _ {s : Shape} {S t j row : ℕ} (k : ℕ) (h : Numbered s t j row) where
-  pub check_marked : {old new : List ℕ} → Flipped S (kept_checks s) (λ i c. eqb i row && eqb c k) old new
+module _ (s : Shape) {S : ℕ} (t j k : ℕ) where
+  pub check_marked : {row : ℕ} → Numbered s t j (Some row) → {old new : List ℕ} → Flipped S (kept_checks s) (λ i c. eqb i row && eqb c k) old new
       → Flipped S (kept_checks s) (λ i c. eqb (kept_direction s i) t && (eqb c k && on_kept s i j)) old new
-  check_marked f =
+  check_marked h f =
       flipped_as (λ i c. eqb (kept_direction s i) t && (eqb c k && on_kept s i j)) f
-      (λ i c l. turned (eqb (kept_direction s i) t) (on_kept s i j) (eqb c k) ∙ ap (λ (b : Bool). b && eqb c k) (sym (h.number i l)))
+      (λ i c l. turned (eqb (kept_direction s i) t) (on_kept s i j) (eqb c k) ∙ ap (λ (b : Bool). b && eqb c k) (sym (h.1 i l)))
 
-  pub check_unmarked : (xs : List ℕ) → kept_checks s ≤ row
-      → Flipped S (kept_checks s) (λ i c. eqb (kept_direction s i) t && (eqb c k && on_kept s i j)) xs xs
-  check_unmarked xs le =
+  pub check_unmarked : Numbered s t j None → (xs : List ℕ) → Flipped S (kept_checks s) (λ i c. eqb (kept_direction s i) t && (eqb c k && on_kept s i j)) xs xs
+  check_unmarked h xs =
       flipped_none S (kept_checks s) _ xs
-      (λ i c l.
-      turned (eqb (kept_direction s i) t) (on_kept s i j) (eqb c k)
-      ∙ and_no_left (eqb c k) (sym (h.number i l) ∙ ne_eqb i row (λ e. omega arith)))
+      (λ i c l. turned (eqb (kept_direction s i) t) (on_kept s i j) (eqb c k) ∙ and_no_left (eqb c k) (h i l))
 
 -- the directions below t
 abbrev pub up_to : Shape → ℕ → ℕ → ℕ → ℕ → ℕ → Bool

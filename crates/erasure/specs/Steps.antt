@@ -1,5 +1,5 @@
 -- What the private steps of filling in establish.
-use Rattle.std.specs.Prelude.{◌≡◌, Bool, true, false, not, ◌&&◌, List, ℕ, ◌+◌, ◌*◌, ◌<◌, ◌≤◌, eqb, ltb, length}
+use Rattle.std.specs.Prelude.{◌≡◌, Bool, false, not, ◌&&◌, List, Option, Some, None, ℕ, ◌+◌, ◌*◌, ◌<◌, ◌≤◌, eqb, ltb, length, Result, Ok, Err}
 use Rattle.std.specs.Bool.{xor}
 use Rattle.parity.specs.Count.{count, all}
 use Rattle.parity.specs.Lists.{Begins}
@@ -8,11 +8,10 @@ use Rattle.elimination.specs.declared.Outcome.TheVariants as outcome
 use Rattle.elimination.specs.Packed.{cell_of}
 use Rattle.gtb.specs.declared.Shape.{Shape}
 use Rattle.gtb.specs.declared.Refusal.{Refusal}
-use Rattle.gtb.specs.Shape.{word_length, kept_checks}
+use Rattle.gtb.specs.Shape.{lawful, shape_refusal, word_length, kept_checks, scratch_length}
 use Rattle.gtb.specs.Square.{line_of, at, narrow, syndrome}
 use Rattle.gtb.specs.Kept.{kept_direction, kept_line}
-use Rattle.correction.specs.declared.Decoded.{Decoded}
-use Rattle.correction.specs.declared.Decoded.TheVariants.{Corrected, Refused}
+use Rattle.gtb.specs.Answer.{unless}
 use Rattle.correction.specs.Steps.{Toggled}
 use Rattle.erasure.specs.Fill.{rising, FilledIn, NoWord, SeveralWords, Decision}
 
@@ -38,9 +37,14 @@ pub record Above (places : List ℕ) (i next : ℕ) : Type 0 where
 unfoldable pub on_kept : Shape → ℕ → ℕ → Bool
 on_kept s i j = eqb (line_of s (kept_direction s i) j) (kept_line s i)
 
--- r is the number of the check of direction t on position j, and that of no kept check if it is not kept
-pub record Numbered (s : Shape) (t j r : ℕ) : Type 0 where
-  pub number : (i : ℕ) → i < kept_checks s → eqb i r ≡ (eqb (kept_direction s i) t && on_kept s i j)
+-- kept check i is the check of direction t on position j
+abbrev pub is_check : Shape → ℕ → ℕ → ℕ → Bool
+is_check s t j i = eqb (kept_direction s i) t && on_kept s i j
+
+-- r is the number of that check, or none if it is not kept
+abbrev pub Numbered : Shape → ℕ → ℕ → Option ℕ → Type 0
+Numbered s t j (Some r) = (r < kept_checks s) × ((i : ℕ) → i < kept_checks s → eqb i r ≡ is_check s t j i)
+Numbered s t j None = (i : ℕ) → i < kept_checks s → is_check s t j i ≡ false
 
 -- a row of S values for each kept check lies in the scratch, and a place has its column there
 pub record Table (s : Shape) (S p : ℕ) (scratch : List ℕ) : Type 0 where
@@ -71,15 +75,23 @@ pub record Applied (places changes : List ℕ) (k : ℕ) (old new : List ℕ) (r
 pub record Solution (s : Shape) (word places : List ℕ) (answer : Outcome) (changes : List ℕ) : Type 0 where
   pub few : answer ≡ outcome.Solved → length places ≤ 248
   pub one : answer ≡ outcome.Solved → (word' : List ℕ) (r : ℕ) → Applied places changes (length places) word word' r
-      → FilledIn s word places word' (Corrected r)
-  pub none : answer ≡ outcome.Unsolvable → NoWord s word places word (Refused Refusal.Unfillable)
-  pub several : answer ≡ outcome.Ambiguous → SeveralWords s word places word (Refused Refusal.Ambiguous)
+      → FilledIn s word places word' (Ok r)
+  pub none : answer ≡ outcome.Unsolvable → NoWord s word places word (Err Refusal.Unfillable)
+  pub several : answer ≡ outcome.Ambiguous → SeveralWords s word places word (Err Refusal.Ambiguous)
 
--- tests 3 and 12, then the work
-pub record LateTests (Decided : Type 0) (s : Shape) (word places word' : List ℕ) (r : Decoded) : Type 0 where
-  pub wide : narrow s.b word ≡ false → (r ≡ Refused Refusal.Width) × (word' ≡ word)
-  pub unordered : narrow s.b word ≡ true → rising (word_length s) places ≡ false → (r ≡ Refused Refusal.Places) × (word' ≡ word)
-  pub decided : narrow s.b word ≡ true → rising (word_length s) places ≡ true → Decided
+-- tests 1, 18 and 2
+unfoldable pub length_tests : Shape → List ℕ → List ℕ → Result (Unit {0}) Refusal
+length_tests s word scratch =
+    unless (lawful s) (Err (shape_refusal s)) (unless (eqb (length word) (word_length s) && eqb (length scratch) (scratch_length s)) (Err Refusal.Length) (Ok tt))
 
-abbrev pub PlacesTested : Shape → List ℕ → List ℕ → List ℕ → Decoded → Type 0
+-- tests 3 and 12
+unfoldable pub value_tests : Shape → List ℕ → List ℕ → Result (Unit {0}) Refusal
+value_tests s word places = unless (narrow s.b word) (Err Refusal.Width) (unless (rising (word_length s) places) (Err Refusal.Places) (Ok tt))
+
+-- those, then the work
+pub record LateTests (Decided : Type 0) (s : Shape) (word places word' : List ℕ) (r : Result ℕ Refusal) : Type 0 where
+  pub tested : (e : Refusal) → value_tests s word places ≡ Err e → (r ≡ Err e) × (word' ≡ word)
+  pub decided : value_tests s word places ≡ Ok tt → Decided
+
+abbrev pub PlacesTested : Shape → List ℕ → List ℕ → List ℕ → Result ℕ Refusal → Type 0
 PlacesTested s word places word' r = LateTests (Decision s word places word' r) s word places word' r

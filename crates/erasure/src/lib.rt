@@ -1,6 +1,7 @@
 // Filling in the symbols at places that are named as gone.
 #![tactic(auto)]
 
+pub mod lent;
 pub mod list;
 mod system;
 
@@ -8,94 +9,89 @@ ghost use Rattle.std.specs.Prelude.{◌≡◌, List, ℕ, length};
 ghost use Rattle.paper.specs.DeadCells as paper;
 ghost use Rattle.gtb.specs.Shape.{of, Lawful, word_length, scratch_length};
 ghost use Rattle.gtb.specs.Square.{Word, Syndromes};
-ghost use Rattle.correction.specs.Answer.{decoded_number};
+ghost use Rattle.gtb.specs.Answer.{answer_number};
 ghost use Rattle.erasure.specs.Fill.{Decision, Filling};
 ghost use Rattle.erasure.specs.Steps.{Places, Solution, PlacesTested};
 
-use correction::Decoded;
+use correction::checks::Checks;
 use elimination::{Outcome, eliminate};
-use gtb::size::{kept_checks, scratch_length, word_length};
+use gtb::size::kept_checks;
 use gtb::{Refusal, Shape};
-use list::{apply, is_rising};
+use lent::{test_lengths, test_values};
+use list::apply;
 use syndrome::syndromes;
 use system::{ask, mark_places};
 
 // The changes at the places that make a word with these syndromes a codeword: how many such lists of changes there are, and the one.
 // Unknown k is the change at place k, so that a row needs as many bits as there are places.
 fn solve(
-    shape: Shape,
+    checks: Checks,
     syn: &[u32; 248],
     places: &[u32],
     scratch: &mut [u32],
     changes: &mut [u32; 248],
 ) -> Outcome
-    requires { Lawful shape × Places (word_length shape) places.now
-        × (length scratch.old ≡ scratch_length shape) × (length changes.old ≡ 248) }
-    ensures { (word : List ℕ) → Word shape word → Syndromes shape word syn.now → Solution shape word places.now result changes.new }
+    requires { Places (word_length checks.shape) places.now
+        × (length scratch.old ≡ scratch_length checks.shape) × (length changes.old ≡ 248) }
+    ensures { (word : List ℕ) → Word checks.shape word → Syndromes checks.shape word syn.now
+        → Solution checks.shape word places.now result changes.new }
 {
-    let rows = kept_checks(shape);
+    let rows = kept_checks(checks.shape);
     let count = places.len();
     let width = (count + 31) / 32;
-    gtb::clear(scratch);
-    mark_places(shape, width, scratch, places);
-    ask(shape, syn, changes);
+    scratch.fill(0);
+    mark_places(checks, width, scratch, places);
+    ask(checks.shape, syn, changes);
     eliminate(rows, width, count, scratch, changes)
 }
 
 // Tests 13 and 14, by the word's syndromes: the word is written only if there is no choice.
 pub fn decide(
-    shape: Shape,
+    checks: Checks,
     word: &mut [u32],
     syn: &[u32; 248],
     places: &[u32],
     scratch: &mut [u32],
-) -> Decoded
-    requires { Lawful shape × Word shape word.old × Places (word_length shape) places.now
-        × (length scratch.old ≡ scratch_length shape) × Syndromes shape word.old syn.now }
-    ensures { Decision shape word.old places.now word.new result }
+) -> Result<u32, Refusal>
+    requires { Word checks.shape word.old × Places (word_length checks.shape) places.now
+        × (length scratch.old ≡ scratch_length checks.shape) × Syndromes checks.shape word.old syn.now }
+    ensures { Decision checks.shape word.old places.now word.new result }
 {
     let mut changes = [0u32; 248];
-    let outcome = solve(shape, syn, places, scratch, &mut changes);
-    match outcome {
-        Outcome::Unsolvable => Decoded::Refused(Refusal::Unfillable),
-        Outcome::Ambiguous => Decoded::Refused(Refusal::Ambiguous),
-        Outcome::Solved => {
-            let changed = apply(word, places, &changes);
-            Decoded::Corrected(changed)
-        }
+    match solve(checks, syn, places, scratch, &mut changes) {
+        Outcome::Unsolvable => Err(Refusal::Unfillable),
+        Outcome::Ambiguous => Err(Refusal::Ambiguous),
+        Outcome::Solved => Ok(apply(word, places, &changes)),
     }
 }
 
 // Tests 3 and 12, then the work.
-fn judge(shape: Shape, word: &mut [u32], places: &[u32], scratch: &mut [u32]) -> Decoded
-    requires { Lawful shape × (length word.old ≡ word_length shape) × (length scratch.old ≡ scratch_length shape) }
-    ensures { PlacesTested shape word.old places.now word.new result }
+fn judge(
+    checks: Checks,
+    word: &mut [u32],
+    places: &[u32],
+    scratch: &mut [u32],
+) -> Result<u32, Refusal>
+    requires { (length word.old ≡ word_length checks.shape) × (length scratch.old ≡ scratch_length checks.shape) }
+    ensures { PlacesTested checks.shape word.old places.now word.new result }
 {
-    if !gtb::is_narrow(word, shape.b) {
-        return Decoded::Refused(Refusal::Width);
-    }
-    if !is_rising(places, word_length(shape)) {
-        return Decoded::Refused(Refusal::Places);
-    }
-    let syn = syndromes(shape, word);
-    decide(shape, word, &syn, places, scratch)
+    test_values(checks.shape, word, places)?;
+    let syn = syndromes(checks.shape, word);
+    decide(checks, word, &syn, places, scratch)
 }
 
 // Filling in: tests 1, 18, 2, then the others. From test 3 on the scratch ends as zeros.
-pub fn fill(shape: Shape, word: &mut [u32], places: &[u32], scratch: &mut [u32]) -> Decoded
+pub fn fill(
+    shape: Shape,
+    word: &mut [u32],
+    places: &[u32],
+    scratch: &mut [u32],
+) -> Result<u32, Refusal>
     ensures filled { Filling shape word.old places.now scratch.old word.new scratch.new result }
-    ensures paper { paper.Filling (of shape) word.old places.now scratch.old word.new scratch.new (decoded_number result) }
+    ensures paper { paper.Filling (of shape) word.old places.now scratch.old word.new scratch.new (answer_number result) }
 {
-    if !gtb::is_lawful(shape) {
-        return Decoded::Refused(gtb::shape_refusal(shape));
-    }
-    if word.len() != word_length(shape) {
-        return Decoded::Refused(Refusal::Length);
-    }
-    if scratch.len() != scratch_length(shape) {
-        return Decoded::Refused(Refusal::Length);
-    }
-    let answer = judge(shape, word, places, scratch);
-    gtb::clear(scratch);
+    let code = test_lengths(shape, word, scratch)?;
+    let answer = judge(Checks::from(code), word, places, scratch);
+    scratch.fill(0);
     answer
 }

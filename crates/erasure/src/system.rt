@@ -3,11 +3,9 @@ ghost use Rattle.std.specs.Prelude.{◌≡◌, ◌&&◌, ℕ, ◌+◌, ◌*◌, 
 ghost use Rattle.gtb.specs.Shape.{Lawful, word_length, kept_checks};
 ghost use Rattle.gtb.specs.Square.{at};
 ghost use Rattle.gtb.specs.Kept.{kept_direction, kept_line};
-ghost use Rattle.correction.specs.Shipped.{Tabled};
 ghost use Rattle.erasure.specs.Steps.{on_kept, Numbered, Table, Flipped, Asked};
 
-use correction::shipped::{is_shipped, number_by};
-use correction::table::check_numbers;
+use correction::checks::Checks;
 use gtb::Shape;
 use gtb::size::kept_checks;
 
@@ -21,81 +19,56 @@ fn mark(rows: usize, width: usize, scratch: &mut [u32], row: usize, k: usize)
 }
 
 // The number of the check of direction t on position j, among the kept ones: direction after direction, line after line, without the
-// last line of each direction but the first. No check has the number 248.
-fn row_of(shape: Shape, table: &[u8], t: usize, j: usize) -> usize
-    requires { Lawful shape × Tabled shape table.now × (t < shape.n) × (j < word_length shape) }
-    ensures { Numbered shape t j result }
+// last line of each direction but the first.
+fn row_of(checks: Checks, t: usize, j: usize) -> Option<usize>
+    requires { (t < checks.shape.n) × (j < word_length checks.shape) }
+    ensures { Numbered checks.shape t j result }
 {
-    let q = shape.q as usize;
-    let check = number_by(shape, table, t, j);
+    let q = checks.shape.q as usize;
+    let check = checks.number(t, j);
     if t == 0 {
-        return check;
+        return Some(check);
     }
     if check + 1 == (t + 1) * q {
-        return 248;
+        return None;
     }
-    check + 1 - t
+    Some(check + 1 - t)
 }
 
 // The check of direction t on position j has column k, if it is kept.
-fn mark_check(
-    shape: Shape,
-    table: &[u8],
-    width: usize,
-    scratch: &mut [u32],
-    k: usize,
-    j: usize,
-    t: usize,
-)
-    requires { Lawful shape × Tabled shape table.now × (t < shape.n) × (j < word_length shape) × (k < 32 * width) × (kept_checks shape * width ≤ length scratch.old) }
-    ensures { Flipped width (kept_checks shape) (λ i c. eqb (kept_direction shape i) t && (eqb c k && on_kept shape i j)) scratch.old scratch.new }
+fn mark_check(checks: Checks, width: usize, scratch: &mut [u32], k: usize, j: usize, t: usize)
+    requires { (t < checks.shape.n) × (j < word_length checks.shape) × (k < 32 * width)
+        × (kept_checks checks.shape * width ≤ length scratch.old) }
+    ensures { Flipped width (kept_checks checks.shape) (λ i c. eqb (kept_direction checks.shape i) t && (eqb c k && on_kept checks.shape i j))
+        scratch.old scratch.new }
 {
-    let rows = kept_checks(shape);
-    let row = row_of(shape, table, t, j);
-    if rows <= row {
-        return;
+    let rows = kept_checks(checks.shape);
+    if let Some(row) = row_of(checks, t, j) {
+        mark(rows, width, scratch, row, k);
     }
-    mark(rows, width, scratch, row, k);
 }
 
 // The kept checks on position j have column k.
-fn mark_place(shape: Shape, table: &[u8], width: usize, scratch: &mut [u32], k: usize, j: usize)
-    requires { Lawful shape × Tabled shape table.now × (j < word_length shape) × (k < 32 * width) × (kept_checks shape * width ≤ length scratch.old) }
-    ensures { Flipped width (kept_checks shape) (λ i c. eqb c k && on_kept shape i j) scratch.old scratch.new }
+fn mark_place(checks: Checks, width: usize, scratch: &mut [u32], k: usize, j: usize)
+    requires { (j < word_length checks.shape) × (k < 32 * width) × (kept_checks checks.shape * width ≤ length scratch.old) }
+    ensures { Flipped width (kept_checks checks.shape) (λ i c. eqb c k && on_kept checks.shape i j) scratch.old scratch.new }
 {
-    let n = shape.n as usize;
+    let n = checks.shape.n as usize;
     for t in 0..n {
-        mark_check(shape, table, width, scratch, k, j, t);
+        mark_check(checks, width, scratch, k, j, t);
     }
 }
 
-// The kept checks on each place have its column, by the table where one is lent.
-fn mark_places_by(shape: Shape, table: &[u8], width: usize, scratch: &mut [u32], places: &[u32])
-    requires { Lawful shape × Tabled shape table.now × Table shape width (length places.now) scratch.old
-        × ((k : ℕ) → k < length places.now → at places.now k < word_length shape) }
-    ensures { Flipped width (kept_checks shape) (λ i c. ltb c (length places.now) && on_kept shape i (at places.now c))
+// The kept checks on each place have its column.
+pub fn mark_places(checks: Checks, width: usize, scratch: &mut [u32], places: &[u32])
+    requires { Table checks.shape width (length places.now) scratch.old
+        × ((k : ℕ) → k < length places.now → at places.now k < word_length checks.shape) }
+    ensures { Flipped width (kept_checks checks.shape) (λ i c. ltb c (length places.now) && on_kept checks.shape i (at places.now c))
         scratch.old scratch.new }
 {
-    for k in 0..places.len() {
-        let j = places[k] as usize;
-        mark_place(shape, table, width, scratch, k, j);
+    for (k, place) in places.iter().enumerate() {
+        mark_place(checks, width, scratch, k, *place as usize);
     }
-}
-
-// The same, with the table of the shipped shape.
-pub fn mark_places(shape: Shape, width: usize, scratch: &mut [u32], places: &[u32])
-    requires { Lawful shape × Table shape width (length places.now) scratch.old
-        × ((k : ℕ) → k < length places.now → at places.now k < word_length shape) }
-    ensures { Flipped width (kept_checks shape) (λ i c. ltb c (length places.now) && on_kept shape i (at places.now c))
-        scratch.old scratch.new }
-{
-    if is_shipped(shape) {
-        let table = check_numbers();
-        mark_places_by(shape, &table, width, scratch, places);
-        return;
-    }
-    let none = [0u8; 0];
-    mark_places_by(shape, &none, width, scratch, places);
 }
 
 // The number, among all checks, of kept check i.

@@ -4,10 +4,8 @@
 ghost use Rattle.std.specs.Prelude.{◌≡◌};
 ghost use Rattle.session.specs.Arrival.{the_ways, presented, session_after};
 
-use coverage::Covered;
-use energy::Billed;
-use gtb::{Refusal, Shape, Status};
-use session::{Counted, Outcome, Session};
+use gtb::{Refusal, Shape};
+use session::{Outcome, Session};
 
 // The stored words of page 1 with marks 3 and 5, of page 2 with marks 7, 7 and 0, which is the idle loop, and of page 4 with mark 255.
 const FIRST: [u32; 25] = [
@@ -34,7 +32,7 @@ fn print_line(rt: &impl Print, name: &str, first: u64, second: u64) {
 
 // What a query turns down.
 fn print_refusal(rt: &impl Print, refusal: Refusal) {
-    print_value(rt, "refused ", gtb::number::refusal(refusal) as u64);
+    print_value(rt, "refused ", u32::from(refusal) as u64);
 }
 
 // The answer of an arrival: page number and symbols changed, or the refusal's number.
@@ -42,7 +40,7 @@ fn print_outcome(rt: &impl Print, outcome: Outcome) {
     match outcome {
         Outcome::Taken(page, changed) => print_line(rt, "taken ", page as u64, changed as u64),
         Outcome::Again(page, changed) => print_line(rt, "again ", page as u64, changed as u64),
-        Outcome::Refused(e) => print_line(rt, "refused ", gtb::number::refusal(e) as u64, 0),
+        Outcome::Refused(e) => print_line(rt, "refused ", u32::from(e) as u64, 0),
     }
 }
 
@@ -86,8 +84,8 @@ fn take_sample(rt: &impl Print, session: Session) -> Session {
 // How often a function was called.
 fn print_count(rt: &impl Print, session: Session, function: u32) {
     match session.count(function) {
-        Counted::Calls(calls) => print_line(rt, "calls ", function as u64, calls as u64),
-        Counted::Refused(e) => print_refusal(rt, e),
+        Ok(calls) => print_line(rt, "calls ", function as u64, calls as u64),
+        Err(e) => print_refusal(rt, e),
     }
 }
 
@@ -95,8 +93,8 @@ fn print_count(rt: &impl Print, session: Session, function: u32) {
 fn print_bill(rt: &impl Print, session: Session) {
     let prices = [1500u32; Session::FUNCTIONS];
     match energy::bill(session, &prices) {
-        Billed::Picojoules(sum) => print_value(rt, "picojoules ", sum),
-        Billed::Refused(e) => print_refusal(rt, e),
+        Ok(sum) => print_value(rt, "picojoules ", sum),
+        Err(e) => print_refusal(rt, e),
     }
 }
 
@@ -104,9 +102,18 @@ fn print_bill(rt: &impl Print, session: Session) {
 fn print_coverage(rt: &impl Print, session: Session) {
     let mut called = [0u8; Session::FUNCTIONS];
     match coverage::cover(session, &mut called) {
-        Covered::Functions(number) => print_value(rt, "covered ", number as u64),
-        Covered::Refused(e) => print_refusal(rt, e),
+        Ok(number) => print_value(rt, "covered ", number as u64),
+        Err(e) => print_refusal(rt, e),
     }
+}
+
+// From a fresh session to the bill.
+fn show(rt: &impl Print, session: Session) {
+    let session = take_sample(rt, session);
+    print_count(rt, session, 7);
+    print_count(rt, session, 0);
+    print_bill(rt, session);
+    print_coverage(rt, session);
 }
 
 fn main(rt: HostRuntime) {
@@ -116,14 +123,8 @@ fn main(rt: HostRuntime) {
         b: 8,
         slopes: gtb::STANDARD,
     });
-    let status = fresh.status;
-    if let Status::Refused(e) = status {
-        print_refusal(&rt, e);
-        return;
+    match fresh {
+        Ok(session) => show(&rt, session),
+        Err(e) => print_refusal(&rt, e),
     }
-    let session = take_sample(&rt, fresh.session);
-    print_count(&rt, session, 7);
-    print_count(&rt, session, 0);
-    print_bill(&rt, session);
-    print_coverage(&rt, session);
 }

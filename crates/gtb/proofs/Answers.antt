@@ -10,19 +10,18 @@ use borrow.Author.Tests.{eqb-false}
 use Rattle.parity.proofs.Tests.{either}
 use Rattle.gtb.specs.declared.Shape.{Shape}
 use Rattle.gtb.specs.declared.Refusal.{Refusal}
-use Rattle.gtb.specs.declared.Status.{Status}
-use Rattle.gtb.specs.declared.Status.TheVariants.{Done, Refused}
+use Rattle.std.specs.Prelude.{Result, Ok, Err}
 use Rattle.gtb.specs.Shape.{regular, lawful, shape_refusal}
 use Rattle.gtb.specs.Answer.{refusal_number, unless, is_early, scratch_after}
 
--- a refusal names one number only, and is not Done
-pub same_refusal : (e e' : Refusal) → Refused e ≡ Refused e' → e ≡ e'
+-- a refusal names one number only, and is no answer that carries something
+pub same_refusal : {A : Type 0} (e e' : Refusal) → ◌≡◌ {A = Result A Refusal} (Err e) (Err e') → e ≡ e'
 same_refusal e e' h = cc
 
-pub never_done : (e : Refusal) → Refused e ≡ Done → ⊥
+pub never_done : {A : Type 0} {a : A} (e : Refusal) → ◌≡◌ {A = Result A Refusal} (Err e) (Ok a) → ⊥
 never_done e h = let z : ◌≡◌ {A = ℕ} 0 1 = cc in omega arith
 
-pub never_refused : (e : Refusal) → Done ≡ Refused e → ⊥
+pub never_refused : {A : Type 0} {a : A} (e : Refusal) → ◌≡◌ {A = Result A Refusal} (Ok a) (Err e) → ⊥
 never_refused e h = let z : ◌≡◌ {A = ℕ} 0 1 = cc in omega arith
 
 -- an answer that is not the refusal: the test was passed
@@ -35,8 +34,8 @@ pub unless_never : {A : Type 0} (t : Bool) (refusal next : A) {r : A} → (t ≡
 unless_never true refusal next ne last h = last h
 unless_never false refusal next ne last h = ne refl h
 
-pub unless_done : (t : Bool) (e : Refusal) (next : Status) → unless t (Refused e) next ≡ Done → (t ≡ true) × (next ≡ Done)
-unless_done t e next = unless_passed t (Refused e) next (never_done e)
+pub unless_done : (t : Bool) (e : Refusal) (next : Result (Unit {0}) Refusal) → unless t (Err e) next ≡ Ok tt → (t ≡ true) × (next ≡ Ok tt)
+unless_done t e next = unless_passed t (Err e) next (never_done e)
 
 -- no number is above 20
 pub refusal_small : (e : Refusal) → refusal_number e ≤ 20

@@ -1,8 +1,8 @@
 -- The symbols on the information positions, copied row by row.
-use mathlib.Core.Path.{◌≡◌, refl, ap, ◌∙◌}
+use mathlib.Core.Path.{◌≡◌, ap, ◌∙◌}
 use mathlib.Core.List.{List}
 use Prim.Native.Nat.{ℕ, ◌+◌, ◌-◌, ◌*◌, ◌/◌, ◌%◌, ◌<◌}
-use native.Mathlib.Nat.{add_assoc, mul_comm, zero-mul, suc-mul, not-suc-le-zero}
+use native.Mathlib.Nat.{add_assoc, mul_comm, suc-mul}
 use native.Mathlib.Numerals.{add-one}
 use native.Mathlib.Decide.{dec_lt}
 use native.Mathlib.Omega.{arith}
@@ -21,9 +21,6 @@ pub record RowsGathered (q m p i : ℕ) (w xs xs' : List ℕ) : Type 0 where
   pub entry : (k : ℕ) → k < i * p → at xs' k ≡ at w ((m + k / p) * q + (1 + k % p))
 
 module _ (q m p : ℕ) (w xs : List ℕ) where
-  pub gathered_none : RowsGathered q m p 0 w xs xs
-  gathered_none = record { size = refl; entry = λ k l. absurd (not-suc-le-zero (rw (zero-mul p) at l)) }
-
   -- place j of row i
   in_row : (i j : ℕ) → j < p → (m + i) * q + 1 + j ≡ (m + (i * p + j) / p) * q + (1 + (i * p + j) % p)
   in_row i j l = rw (digits_div i l, digits_mod i l) (add_assoc ((m + i) * q) 1 j)

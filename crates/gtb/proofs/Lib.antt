@@ -23,3 +23,4 @@ pub mod Conditions
 pub mod Stored
 pub mod Scratches
 pub mod Places
+pub mod Lists

@@ -5,10 +5,9 @@ use Rattle.paper.specs.Paper as paper
 use Rattle.paper.specs.Writing.{scratch_left}
 use Rattle.gtb.specs.declared.Shape.{Shape}
 use Rattle.gtb.specs.declared.Refusal.{Refusal}
-use Rattle.gtb.specs.Shape.{kept_checks, scratch_length}
+use Rattle.gtb.specs.Shape.{kept_checks, scratch_length, of}
 use Rattle.gtb.specs.Answer.{refusal_number, scratch_after}
 use Prim.Native.Nat.{ℕ}
-use Rattle.gtb.specs.Shape.{of}
 
 module _ (s : Shape) where
   -- ---- the scratch after every refusal

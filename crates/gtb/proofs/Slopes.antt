@@ -1,45 +1,29 @@
 -- The slopes of the directions from 1 on. Only this file opens `slope_of` and `fits_slope`.
-use mathlib.Core.Path.{◌≡◌, sym, ◌∙◌}
-use mathlib.Core.Bool.{Bool, true, false, not}
+use mathlib.Core.Path.{◌≡◌, sym}
+use mathlib.Core.Bool.{Bool, true, not}
 use mathlib.Core.List.{List}
-use Prim.Native.Nat.{ℕ, suc, ◌+◌, ◌-◌, ◌≤◌, ◌<◌}
+use Prim.Native.Nat.{ℕ, suc, ◌-◌, ◌≤◌, ◌<◌}
 use native.Mathlib.Decide.{dec_lt}
 use native.Mathlib.Omega.{arith}
 use lib.Dec.{eqb, ltb}
 use lib.ListN.{get_or}
-use borrow.Author.Tests.{ltb-true, lt-ltb, le-ltb, eq-eqb, ne_eqb, eqb-false, not-true}
+use borrow.Author.Tests.{ltb-true, lt-ltb, eqb-false, not-true}
 use Rattle.parity.specs.Cyclic.{Apart}
-use Rattle.parity.proofs.Tests.{and_left, and_right, and_both, and_no_left, and_no_right, not_of_true, not_of_false, all_elim, all_no, all_more}
+use Rattle.parity.proofs.Tests.{and_left, and_right, and_both, all_elim}
 use Rattle.parity.specs.Count.{all}
 use Rattle.parity.proofs.Modular.{opposite}
 use Rattle.gtb.specs.declared.Shape.{Shape}
 use Rattle.gtb.specs.Shape.{regular, fits_slope, sloped, lawful, Lawful, slope_of}
 use Rattle.gtb.specs.Rows.{shift_of}
 
--- ---- the test of one slope, as the code makes it
+-- ---- the test of one slope
 -- place u of the list holds another slope than place t
 abbrev pub differs : List ℕ → ℕ → ℕ → Bool
 differs slopes t u = not (eqb (get_or slopes u 0) (get_or slopes t 0))
 
-pub slope_large : {q : ℕ} (slopes : List ℕ) (t : ℕ) → q ≤ get_or slopes t 0 → false ≡ fits_slope q slopes t
-unfolding fits_slope
-slope_large {q} slopes t l = sym (and_no_left (all t (differs slopes t)) (le-ltb (get_or slopes t 0) q l))
-
-pub slope_twice : (q : ℕ) (slopes : List ℕ) (t u : ℕ) → u < t → get_or slopes u 0 ≡ get_or slopes t 0 → false ≡ fits_slope q slopes t
-unfolding fits_slope
-slope_twice q slopes t u l e =
-    sym (and_no_right (ltb (get_or slopes t 0) q) (all_no t (differs slopes t) u l (not_of_true (eq-eqb (get_or slopes u 0) (get_or slopes t 0) e))))
-
-pub slope_other : (slopes : List ℕ) (t u : ℕ) → all u (differs slopes t) ≡ true → (get_or slopes u 0 ≡ get_or slopes t 0 → ⊥) → all (u + 1) (differs slopes t) ≡ true
-slope_other slopes t u h ne = all_more u (differs slopes t) ∙ and_both h (not_of_false (ne_eqb (get_or slopes u 0) (get_or slopes t 0) ne))
-
 pub slope_fits : {q : ℕ} (slopes : List ℕ) (t : ℕ) → get_or slopes t 0 < q → all t (differs slopes t) ≡ true → true ≡ fits_slope q slopes t
 unfolding fits_slope
 slope_fits {q} slopes t l h = sym (and_both (lt-ltb (get_or slopes t 0) q l) h)
-
--- one more slope, and a slope that doesn't fit
-pub sloped_more : (q : ℕ) (slopes : List ℕ) (t : ℕ) → all t (fits_slope q slopes) ≡ true → fits_slope q slopes t ≡ true → all (t + 1) (fits_slope q slopes) ≡ true
-sloped_more q slopes t h fits = all_more t (fits_slope q slopes) ∙ and_both h fits
 
 -- ---- the slopes of a lawful shape
 -- what test 18 shows of one of them

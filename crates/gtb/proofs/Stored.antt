@@ -10,10 +10,9 @@ use Rattle.parity.proofs.XorSums as xors
 use Rattle.paper.specs.Paper as paper
 use Rattle.paper.specs.Square.{line, value}
 use Rattle.gtb.specs.declared.Shape.{Shape}
-use Rattle.gtb.specs.Shape.{word_length, slope_of}
+use Rattle.gtb.specs.Shape.{word_length, slope_of, of}
 use Rattle.gtb.specs.Square.{line_of, at, syndrome, Word, Codeword}
 use Rattle.gtb.proofs.Words.{beyond}
-use Rattle.gtb.specs.Shape.{of}
 
 module _ (s : Shape) where
   pub line_same : (t j : ℕ) → line_of s t j ≡ line (of s) t j

@@ -16,7 +16,7 @@ use Rattle.parity.proofs.Tests.{all_elim, all_intro, all_cong}
 use Rattle.parity.proofs.Lists.{length_tabulate, at_tabulate}
 use Rattle.gtb.specs.declared.Shape.{Shape}
 use Rattle.gtb.specs.declared.Refusal.{Refusal}
-use Rattle.gtb.specs.declared.Status.TheVariants.{Done}
+use Rattle.std.specs.Prelude.{Ok}
 use Rattle.gtb.specs.Shape.{word_length}
 use Rattle.gtb.specs.Square.{at, narrow, syndrome, Word, Silent, silent_test}
 use Rattle.gtb.specs.Lent.{word_status}
@@ -49,13 +49,13 @@ pub narrow_word : (s : Shape) (w : List ℕ) → length w ≡ word_length s → 
 narrow_word s w size h = record { size = size; width = narrow_at s.b w h }
 
 -- tests 2 and 3
-pub status_word : (s : Shape) (w : List ℕ) → word_status s w ≡ Done → Word s w
+pub status_word : (s : Shape) (w : List ℕ) → word_status s w ≡ Ok tt → Word s w
 unfolding word_status
 status_word s w h =
     let (size, h2) = unless_done (eqb (length w) (word_length s)) Refusal.Length _ h in
-    narrow_word s w (eqb-true (length w) (word_length s) size) (unless_done (narrow s.b w) Refusal.Width Done h2).0
+    narrow_word s w (eqb-true (length w) (word_length s) size) (unless_done (narrow s.b w) Refusal.Width (Ok tt) h2).0
 
-pub word_status_lem : (s : Shape) (w : List ℕ) → Word s w → word_status s w ≡ Done
+pub word_status_lem : (s : Shape) (w : List ℕ) → Word s w → word_status s w ≡ Ok tt
 unfolding word_status
 word_status_lem s w h = rw (eq-eqb (length w) (word_length s) h.size, word_narrow s w h)
 

@@ -1,8 +1,6 @@
--- The numbers of the refusals and of the answers that carry no value (RULES 6).
-use Rattle.std.specs.Prelude.{Bool, true, false, cond, List, ℕ, ◌+◌, ◌^◌, length, replicate}
+-- The numbers of the refusals and of the answers (RULES 6).
+use Rattle.std.specs.Prelude.{Bool, true, false, cond, List, ℕ, ◌+◌, ◌^◌, length, replicate, Result, Ok, Err}
 use Rattle.gtb.specs.declared.Refusal.{Refusal}
-use Rattle.gtb.specs.declared.Status.{Status}
-use Rattle.gtb.specs.declared.Status.TheVariants.{Done, Refused}
 
 abbrev pub refusal_number : Refusal → ℕ
 refusal_number Refusal.Shape = 1
@@ -26,10 +24,15 @@ refusal_number Refusal.Slope = 18
 refusal_number Refusal.Bill = 19
 refusal_number Refusal.Far = 20
 
--- as one number: 0, or 2^31 plus the refusal's
-abbrev pub status_number : Status → ℕ
-status_number Done = 0
-status_number (Refused e) = 2 ^ 31 + refusal_number e
+-- as one number: the number that is carried, or 2^31 plus the refusal's
+abbrev pub answer_number : Result ℕ Refusal → ℕ
+answer_number (Ok k) = k
+answer_number (Err e) = 2 ^ 31 + refusal_number e
+
+-- 0, or 2^31 plus the refusal's
+abbrev pub status_number : Result (Unit {0}) Refusal → ℕ
+status_number (Ok tt) = 0
+status_number (Err e) = 2 ^ 31 + refusal_number e
 
 -- the test decides: go on, or give this answer
 abbrev pub unless : {A : Type 0} → Bool → A → A → A

@@ -1,33 +1,14 @@
-// Refusals and answers without a value as the numbers of the rules.
+// Refusals and answers as the numbers of the rules.
 ghost use Rattle.std.specs.Prelude.{◌≡◌, ◌+◌, ◌^◌};
-ghost use Rattle.gtb.specs.Answer.{refusal_number, status_number};
+ghost use Rattle.gtb.specs.Answer.{refusal_number, answer_number, status_number};
 
-use crate::{Refusal, Status};
+use crate::Refusal;
 
-pub fn refusal(refusal: Refusal) -> u32
-    ensures { result ≡ refusal_number refusal }
-{
-    match refusal {
-        Refusal::Shape => 1,
-        Refusal::Length => 2,
-        Refusal::Width => 3,
-        Refusal::Uncorrectable => 4,
-        Refusal::Page => 5,
-        Refusal::Count => 6,
-        Refusal::Function => 7,
-        Refusal::Tail => 8,
-        Refusal::Overflow => 9,
-        Refusal::Syntax => 10,
-        Refusal::Figures => 11,
-        Refusal::Places => 12,
-        Refusal::Unfillable => 13,
-        Refusal::Ambiguous => 14,
-        Refusal::NoMajority => 15,
-        Refusal::Directions => 16,
-        Refusal::BeyondTwo => 17,
-        Refusal::Slope => 18,
-        Refusal::Bill => 19,
-        Refusal::Far => 20,
+impl From<Refusal> for u32 {
+    ghost from_gives = { λ e n. n ≡ refusal_number e };
+
+    fn from(refusal: Refusal) -> u32 {
+        refusal as u32
     }
 }
 
@@ -35,14 +16,25 @@ pub fn refusal(refusal: Refusal) -> u32
 pub fn refused(e: Refusal) -> u32
     ensures { result ≡ 2 ^ 31 + refusal_number e }
 {
-    2147483648 + refusal(e)
+    2147483648 + u32::from(e)
 }
 
-pub fn status(status: Status) -> u32
+// The number that is carried, or the refusal.
+pub fn answer(answer: Result<u32, Refusal>) -> u32
+    ensures { result ≡ answer_number answer }
+{
+    match answer {
+        Ok(k) => k,
+        Err(e) => refused(e),
+    }
+}
+
+// 0, or the refusal.
+pub fn status(status: Result<(), Refusal>) -> u32
     ensures { result ≡ status_number status }
 {
     match status {
-        Status::Done => 0,
-        Status::Refused(e) => refused(e),
+        Ok(()) => 0,
+        Err(e) => refused(e),
     }
 }

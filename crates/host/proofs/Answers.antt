@@ -1,6 +1,6 @@
 -- What the entries answer and leave, by the tests passed.
 use mathlib.Core.Path.{◌≡◌, refl, sym, ap, ◌∙◌, subst}
-use mathlib.Core.Bool.{Bool, false, not, cond}
+use mathlib.Core.Bool.{false, not, cond}
 use mathlib.Core.List.{List}
 use Prim.Native.Nat.{ℕ, ◌+◌, ◌-◌, ◌^◌, ◌<◌}
 use lib.ListN.{get_or, take, drop, get_or-map}
@@ -8,15 +8,13 @@ use lib.Seq.{get_or-drop, get_or-take}
 use borrow.Author.Tests.{eq-eqb, ne_eqb}
 use Rattle.gtb.specs.declared.Shape.{Shape}
 use Rattle.gtb.specs.declared.Refusal.{Refusal}
-use Rattle.gtb.specs.declared.Status.TheVariants.{Done}
-use Rattle.gtb.specs.declared.Status.TheVariants as status
+use Rattle.std.specs.Prelude.{Result, Ok, Err}
 use Rattle.gtb.specs.Shape.{lawful, Lawful}
 use Rattle.gtb.specs.Answer.{refusal_number, status_number}
 use Rattle.session.specs.declared.Session.{Session}
-use Rattle.session.specs.declared.Opening.{Opening}
-use Rattle.session.specs.declared.Opening.TheVariants as opening
+use Rattle.session.specs.declared.Brought.{Brought}
 use Rattle.session.specs.declared.Outcome.{Outcome}
-use Rattle.session.specs.declared.Outcome.TheVariants.{Taken, Again, Refused}
+use Rattle.session.specs.declared.Outcome.TheVariants.{Again, Refused}
 use Rattle.session.specs.declared.Arrived.{Arrived}
 use Rattle.session.specs.Session.{marked, fresh_of, fresh_status}
 use Rattle.session.specs.Arrival.{way_of, the_ways, Page, is_accepted, outcome_values, Arriving}
@@ -39,28 +37,14 @@ module _ (size : Shape → ℕ) (values : List ℕ) {s : Shape} (is : s ≡ shap
 -- ---- a fresh session
 module _ (s : Shape) (session : List ℕ) where
   -- a refusal leaves the values
-  pub fresh_refused : {e : Refusal} {r : ℕ} → fresh_status s ≡ status.Refused e → r ≡ 2 ^ 31 + refusal_number e → FreshCrossing s session session r
+  pub fresh_refused : {e : Refusal} {r : ℕ} → fresh_status s ≡ Err e → r ≡ 2 ^ 31 + refusal_number e → FreshCrossing s session session r
   fresh_refused h is = record { answer = rw h is; left = rw h }
 
-  pub fresh_done : {σ : Session} {session' : List ℕ} → fresh_status s ≡ Done → σ ≡ fresh_of s → session' ≡ values_of σ → FreshCrossing s session session' 0
+  pub fresh_done : {σ : Session} {session' : List ℕ} → fresh_status s ≡ Ok tt → σ ≡ fresh_of s → session' ≡ values_of σ → FreshCrossing s session session' 0
   fresh_done h f v = record { answer = rw h; left = rw h (v ∙ ap values_of f) }
-
--- ---- the session is written after a page was taken
-pub written : (session session' : List ℕ) (σ : Session) (o : Outcome) {p k : ℕ} → o ≡ Taken p k → session' ≡ values_of σ → session' ≡ session_in session σ o
-written session session' σ o h v = rw h v
-
--- and as it was after every other answer
-pub as_it_was : (session : List ℕ) (σ : Session) (o : Outcome) → ((p k : ℕ) → o ≡ Taken p k → ⊥) → session ≡ session_in session σ o
-as_it_was session σ (Taken p k) other = absurd (other p k refl)
-as_it_was session σ (Again p k) other = refl
-as_it_was session σ (Refused e) other = refl
 
 -- ---- an arrival's steps at lent values
 module _ {values : List ℕ} {Promise : Session → Arrived → Type 0} where
-  pub at_values : {values' : List ℕ} {σ : Session} (a : Arrived) → σ ≡ session_of values → Promise σ a → values' ≡ session_in values a.session a.outcome
-      → AtValues values Promise values' a.outcome
-  at_values a is holds left = record { after = a.session; holds = rw (← is) holds; left = left }
-
   -- turned down or again: nothing is written
   pub at_kept : {r : Outcome} → values ≡ session_in values (session_of values) r → Promise (session_of values) (record { session = session_of values; outcome = r }) → AtValues values Promise values r
   at_kept left holds = record { after = session_of values; holds = holds; left = left }
@@ -78,19 +62,19 @@ mark_lent values number l =
     ∙ ap is_yes (get_or-take 1024 (drop 12 values) number 0 l ∙ get_or-drop 12 values number 0)
 
 -- ---- both steps
-module _ (way : ℕ) (values : List ℕ) {s : Shape} (same : (session_of values).shape ≡ s) {word word' came symbols : List ℕ} {found : Opening} (keeps : Keeps (way_of way) s word word' came symbols found) where
+module _ (way : ℕ) (values : List ℕ) {s : Shape} (same : (session_of values).shape ≡ s) {word word' came symbols : List ℕ} {found : Result Brought Refusal} (keeps : Keeps (way_of way) s word word' came symbols found) where
   -- by the session's own shape
   own : Keeps (way_of way) (session_of values).shape word word' came symbols found
   own = subst (λ (x : Shape). Keeps (way_of way) x word word' came symbols found) (sym same) keeps
 
-  pub word_refused : {e : Refusal} {restored : Bool} → found ≡ opening.Refused e restored → AtValues values (λ σ a. Deciding (way_of way) σ word word' a) values (Refused e)
+  pub word_refused : {e : Refusal} → found ≡ Err e → AtValues values (λ σ a. Deciding (way_of way) σ word word' a) values (Refused e)
   word_refused h = at_kept refl (decides_refused (session_of values) own h (refl, refl))
 
-  module _ {number c k : ℕ} (h : found ≡ opening.Page number c k) where
-    pub word_again : (get_or values (12 + number) 0 ≡ 0 → ⊥) → AtValues values (λ σ a. Deciding (way_of way) σ word word' a) values (Again number k)
-    word_again marked = at_kept refl (decides_again (session_of values) own h (mark_lent values number (keeps.tells.readable number c k h).low ∙ ap not (ne_eqb _ _ marked)))
+  module _ {page : Brought} (h : found ≡ Ok page) where
+    pub word_again : (get_or values (12 + page.number) 0 ≡ 0 → ⊥) → AtValues values (λ σ a. Deciding (way_of way) σ word word' a) values (Again page.number page.corrected)
+    word_again marked = at_kept refl (decides_again (session_of values) own h (mark_lent values page.number (keeps.tells.readable _ _ _ h).low ∙ ap not (ne_eqb _ _ marked)))
 
-    pub word_new : {values' word'' : List ℕ} {r : Outcome} → AtValues values (λ σ a. Settling σ (Page number (take (2 + c - 2) (drop 2 symbols)) k) a) values' r → word'' ≡ cond (is_accepted r) word' came
+    pub word_new : {values' word'' : List ℕ} {r : Outcome} → AtValues values (λ σ a. Settling σ (Page page.number (take (2 + page.count - 2) (drop 2 symbols)) page.corrected) a) values' r → word'' ≡ cond (is_accepted r) word' came
         → AtValues values (λ σ a. Deciding (way_of way) σ word word'' a) values' r
     word_new new put =
         at_other new (λ a settles is. decides_new (session_of values) own h settles (put ∙ ap (λ (o : Outcome). cond (is_accepted o) word' came) (sym is)))

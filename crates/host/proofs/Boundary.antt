@@ -12,8 +12,7 @@ use borrow.Author.Tests.{eq-eqb, eqb-true}
 use Rattle.parity.proofs.Tests.{either, clash}
 use Rattle.gtb.specs.declared.Shape.{Shape}
 use Rattle.gtb.specs.declared.Refusal.{Refusal}
-use Rattle.gtb.specs.declared.Status.{Status}
-use Rattle.gtb.specs.declared.Status.TheVariants as status
+use Rattle.std.specs.Prelude.{Result, Ok, Err}
 use Rattle.gtb.specs.Shape.{Lawful}
 use Rattle.gtb.specs.Answer.{status_number}
 use Rattle.session.specs.declared.Session.{Session}
@@ -75,13 +74,13 @@ module _ (values : List ℕ) (size : length values ≡ 1292) where
   turned_holds {τ = τ} same left = kept_values (left ∙ rw (eq-eqb τ.pages (session_of values).pages (ap (λ (σ : Session). σ.pages) same))) refl
 
 -- the number of the answer tells whether the bundle was turned down
-whole : (t : Status) → status_number t ≡ 0 → t ≡ status.Done
-whole status.Done h = refl
-whole (status.Refused e) h = absurd (omega (arith, h))
+whole : (t : Result (Unit {0}) Refusal) → status_number t ≡ 0 → t ≡ Ok tt
+whole (Ok tt) h = refl
+whole (Err e) h = absurd (omega (arith, h))
 
-down : (t : Status) → (status_number t ≡ 0 → ⊥) → (e : Refusal) × (t ≡ status.Refused e)
-down status.Done h = absurd (h refl)
-down (status.Refused e) h = (e, refl)
+down : (t : Result (Unit {0}) Refusal) → (status_number t ≡ 0 → ⊥) → (e : Refusal) × (t ≡ Err e)
+down (Ok tt) h = absurd (h refl)
+down (Err e) h = (e, refl)
 
 -- ---- calls one after the other are one run
 pub record Ran (values : List ℕ) (arrivals : List Arrival) (given end : List ℕ) : Type 0 where
@@ -155,7 +154,7 @@ demand3_boundary shape blank start number pages arrivals given end ten fresh r f
     let kept = fresh_kept s (seven_slopes shape ten) in
     let holds : Holds start (fresh_of s) = written kept.sized (fresh.left ∙ rw done) in
     let ran = calls_run r.lawful holds.size (subst (Kept s) (sym holds.back) kept) calls in
-    let demand = demand3_ways s pages arrivals ran.answers (record { session = session_of start; status = status.Done }) (session_of end) r fits (record { session = holds.back; status = sym done }) ran.run in
+    let demand = demand3_ways s pages arrivals ran.answers (Ok (session_of start)) (session_of end) r fits (record { session = holds.back; status = sym done }) ran.run in
     record {
       made = fresh.answer ∙ rw done;
       answers = ran.answers;

@@ -12,9 +12,7 @@ use Rattle.paper.specs.Paper as paper
 use Rattle.paper.specs.Boundary as boundary
 use Rattle.gtb.specs.declared.Shape.{Shape}
 use Rattle.gtb.specs.declared.Refusal.{Refusal}
-use Rattle.gtb.specs.declared.Status.{Status}
-use Rattle.gtb.specs.declared.Status.TheVariants.{Done}
-use Rattle.gtb.specs.declared.Status.TheVariants as status
+use Rattle.std.specs.Prelude.{Result, Ok, Err}
 use Rattle.gtb.specs.Shape.{of, lawful}
 use Rattle.gtb.specs.Answer.{refusal_number, status_number, unless}
 use Rattle.gtb.proofs.Judging.{judged_map}
@@ -88,17 +86,17 @@ written σ h = record {
 
 -- ---- a fresh session
 module _ (s : Shape) (values : List ℕ) where
-  pub fresh_refused : {τ : paper.Session} {t : Status} {e : Refusal} {r : ℕ} → t ≡ status.Refused e → paper.Beginning (of s) τ (status_number t) → r ≡ 2 ^ 31 + refusal_number e → boundary.FreshValues (of s) values values r
+  pub fresh_refused : {τ : paper.Session} {t : Result (Unit {0}) Refusal} {e : Refusal} {r : ℕ} → t ≡ Err e → paper.Beginning (of s) τ (status_number t) → r ≡ 2 ^ 31 + refusal_number e → boundary.FreshValues (of s) values values r
   fresh_refused {τ} {t} {e} {r} told begun is =
-      judged_map (paper.fresh_tests (of s)) (λ k. status_number (status.Refused e) ≡ paper.refusal k) (λ k. (r ≡ paper.refusal k) × (values ≡ values))
-      ((status_number (status.Refused e) ≡ 0) × (τ ≡ paper.fresh (of s))) ((r ≡ 0) × boundary.Written (paper.fresh (of s)) values)
-      (λ k h. (is ∙ h, refl)) (λ h. absurd (let z : 2 ^ 31 + refusal_number e ≡ 0 = h.0 in omega arith)) (subst (λ (x : Status). paper.Beginning (of s) τ (status_number x)) told begun)
+      judged_map (paper.fresh_tests (of s)) (λ k. status_number (Err e) ≡ paper.refusal k) (λ k. (r ≡ paper.refusal k) × (values ≡ values))
+      ((status_number (Err e) ≡ 0) × (τ ≡ paper.fresh (of s))) ((r ≡ 0) × boundary.Written (paper.fresh (of s)) values)
+      (λ k h. (is ∙ h, refl)) (λ h. absurd (let z : 2 ^ 31 + refusal_number e ≡ 0 = h.0 in omega arith)) (subst (λ (x : Result (Unit {0}) Refusal). paper.Beginning (of s) τ (status_number x)) told begun)
 
-  pub fresh_done : {σ : Session} {t : Status} {values' : List ℕ} → Sized σ → t ≡ Done → paper.Beginning (of s) (plain σ) (status_number t) → values' ≡ values_of σ → boundary.FreshValues (of s) values values' 0
+  pub fresh_done : {σ : Session} {t : Result (Unit {0}) Refusal} {values' : List ℕ} → Sized σ → t ≡ Ok tt → paper.Beginning (of s) (plain σ) (status_number t) → values' ≡ values_of σ → boundary.FreshValues (of s) values values' 0
   fresh_done {σ} {t} {values'} sized told begun is =
       judged_map (paper.fresh_tests (of s)) (λ k. 0 ≡ paper.refusal k) (λ k. (0 ≡ paper.refusal k) × (values' ≡ values))
       ((0 ≡ 0) × (plain σ ≡ paper.fresh (of s))) ((0 ≡ 0) × boundary.Written (paper.fresh (of s)) values')
-      (λ k h. absurd (let z : 0 ≡ 2 ^ 31 + k = h in omega arith)) (λ h. (refl, subst₂ boundary.Written h.1 (sym is) (written σ sized))) (subst (λ (x : Status). paper.Beginning (of s) (plain σ) (status_number x)) told begun)
+      (λ k h. absurd (let z : 0 ≡ 2 ^ 31 + k = h in omega arith)) (λ h. (refl, subst₂ boundary.Written h.1 (sym is) (written σ sized))) (subst (λ (x : Result (Unit {0}) Refusal). paper.Beginning (of s) (plain σ) (status_number x)) told begun)
 
 -- a fresh session has its lengths where the shape was loaded from ten values
 pub fresh_sized : {s : Shape} (v : List ℕ) → length v ≡ 10 → s ≡ shape_in v → {σ : Session} → σ ≡ fresh_of s → Sized σ

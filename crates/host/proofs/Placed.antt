@@ -1,19 +1,18 @@
 -- Each text stands in the table from its start to the next one, by tests over all numbers.
 use mathlib.Core.Path.{◌≡◌, refl, ◌∙◌}
 use mathlib.Core.Bool.{true}
-use mathlib.Core.List.{List, [], ◌++◌}
-use Prim.Native.Nat.{ℕ, zero, suc, ◌+◌, ◌-◌, ◌^◌, ◌≤◌, ◌<◌}
+use mathlib.Core.List.{List, []}
+use Prim.Native.Nat.{ℕ, zero, suc, ◌+◌, ◌-◌, ◌≤◌, ◌<◌}
 use native.Mathlib.Nat.{zero-add, sub-zero, zero-sub, suc-sub-suc}
 use native.Mathlib.Omega.{arith}
 use borrow.Author.Tests.{leb-true, ltb-true}
 use lib.Dec.{leb, ltb}
-use lib.ListN.{length, get_or, take, drop, replicate, drop_of_length-le, get_or-eq_default}
+use lib.ListN.{length, get_or, take, drop, replicate, get_or-eq_default}
 use Rattle.parity.specs.Count.{all}
 use Rattle.parity.proofs.Tests.{all_elim}
 use Rattle.lines.specs.Text.{same_bytes, pasted}
 use Rattle.lines.proofs.Same.{same_equal}
-use Rattle.host.specs.Texts.{refusal_texts, refusal_text, padded, joined, starts_from, all_texts, text_starts, Texted}
-use Rattle.host.specs.Texts.{TextCrossing}
+use Rattle.host.specs.Texts.{refusal_texts, refusal_text, padded, joined, starts_from, all_texts, text_starts, Texted, TextCrossing}
 
 start : ℕ → ℕ
 start k = get_or text_starts k 0
@@ -76,19 +75,12 @@ drop_replicate n zero = rw (sub-zero n)
 drop_replicate zero (suc k) = rw (zero-sub (suc k))
 drop_replicate (suc n) (suc k) = rw (suc-sub-suc n k) (drop_replicate n k)
 
--- zeros that are copied over 96 bytes, and a text that is copied over zeros
-pub cleared : (to : List ℕ) {to' : List ℕ} → length to ≡ 96 → to' ≡ take 96 (replicate 96 0) ++ drop 96 to
-    → to' ≡ replicate 96 0
-cleared to size h = h ∙ rw (drop_of_length-le to {i = 96} (omega arith))
-
+-- a text that is copied over zeros
 pub copied : (from to : List ℕ) {to' text : List ℕ} → from ≡ text → to ≡ replicate 96 0 → to' ≡ pasted to 0 from → to' ≡ padded text
 unfolding pasted
 copied from to {to'} {text} e z h = h ∙ rw (e, z, zero-add (length text), drop_replicate 96 (length text))
 
 module _ (k r : ℕ) (text : List ℕ) where
-  pub text_turned : (length text ≡ 96 → ⊥) → r ≡ 2 ^ 31 + 2 → TextCrossing k text text r
-  text_turned other e = record { right = λ same. absurd (other same); wrong = λ _. (e, refl) }
-
   pub text_crossed : {text' : List ℕ} → length text ≡ 96 → Texted k text' r → TextCrossing k text text' r
   text_crossed size t = record { right = λ _. t; wrong = λ other. absurd (other size) }
 

@@ -1,15 +1,14 @@
 -- What a line that crosses is answered with: it spells no more values than it has bytes, and no others.
 use mathlib.Core.Path.{◌≡◌, refl, sym, ap, ◌∙◌}
+use Rattle.std.specs.Prelude.{Option, None}
 use mathlib.Core.List.{List, [], ◌∷◌, ◌++◌}
 use Prim.Native.Nat.{ℕ, ◌+◌, ◌^◌, ◌≤◌, ◌<◌, min}
 use native.Mathlib.Nat.{min_comm}
 use native.Mathlib.Omega.{arith}
-use lib.ListN.{length, take, drop, length-append, length-take, drop_of_length-le}
-use lib.Seq.{take_all, length-take-le, get_or-take, ext_get_or}
+use lib.ListN.{length, take, drop, length-append, length-take}
+use lib.Seq.{get_or-take, ext_get_or}
 use Rattle.lines.specs.Text.{spell, Spells}
 use Rattle.lines.specs.Parse.{Stored, Parsing}
-use Rattle.lines.specs.declared.Parsed.{Parsed}
-use Rattle.lines.specs.declared.Parsed.TheVariants.{Malformed}
 use Rattle.lines.proofs.Decimals.{decimal_some}
 use Rattle.lines.proofs.Contents.{content_spelled}
 use Rattle.host.specs.Line.{LineCrossing}
@@ -40,27 +39,12 @@ module _ {line stored : List ℕ} {count : ℕ} (s : Stored line stored count) w
       let b : i < 1024 = omega (arith, few) in
       get_or-take count stored i 0 a ∙ s.kept i a b ∙ sym (get_or-take 1024 xs i 0 b))
 
--- a list of 1024 that is copied whole, or in part
-module _ (stored values : List ℕ) (count : ℕ) (size : length stored ≡ 1024) where
-  pub all_kept : length values ≡ 1024 → 1024 < count
-      → stored ++ drop (length stored) values ≡ take count stored ++ drop count values
-  all_kept room many =
-      rw (
-        take_all count stored (omega arith),
-        drop_of_length-le values {i = length stored} (omega arith),
-        drop_of_length-le values {i = count} (omega arith),
-      )
-
-  pub part_kept : count ≤ 1024
-      → take count stored ++ drop (length (take count stored)) values ≡ take count stored ++ drop count values
-  part_kept few = rw (length-take-le count stored (omega arith))
-
 module _ (line values : List ℕ) (r : ℕ) where
   pub line_long : 16383 < length line → r ≡ 2 ^ 31 + 10 → LineCrossing line values values r
   line_long over e =
       record { spelled = λ xs short s. absurd (omega arith); unspelled = λ none. (e, refl); long = λ h. (e, refl) }
 
-  pub line_malformed : {stored : List ℕ} {p : Parsed} → Parsing line stored p → p ≡ Malformed → r ≡ 2 ^ 31 + 10
+  pub line_malformed : {stored : List ℕ} {p : Option ℕ} → Parsing line stored p → p ≡ None → r ≡ 2 ^ 31 + 10
       → LineCrossing line values values r
   line_malformed p m e =
       record {

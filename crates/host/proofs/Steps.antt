@@ -1,12 +1,13 @@
 -- Loading and storing, one symbol after the other.
 use mathlib.Core.Path.{◌≡◌, refl, sym, ap, ◌∙◌}
 use mathlib.Core.List.{List, [], ◌∷◌, ◌++◌, append_assoc, append-nil}
-use Prim.Native.Nat.{ℕ, suc, ◌+◌, ◌*◌, ◌/◌, ◌%◌, ◌<◌, ◌≤◌}
+use Prim.Native.Nat.{ℕ, ◌+◌, ◌-◌, ◌*◌, ◌<◌, ◌≤◌}
 use native.Mathlib.Nat.{add-zero}
 use native.Mathlib.Numerals.{add-one}
 use native.Mathlib.Omega.{arith}
 use lib.ListN.{length, get_or, take, drop, set, length-drop}
-use lib.Seq.{drop-cons, drop-drop, drop-length, get_or-drop, take-suc-set, take-length, take-paste, append_snoc, sets-eq}
+use lib.Seq.{drop-cons, drop-drop, drop-length, get_or-drop, take-suc-set, take-length, take-paste, append_snoc}
+use borrow.Rule.Slice.PartMut.{put_mid}
 use Rattle.host.specs.Bytes.{symbols_of, bytes_of, symbol_at, with_symbol}
 
 -- the first symbol of four or more bytes
@@ -34,14 +35,12 @@ pub all_loaded : (bytes now : List ℕ) (i : ℕ) → take i now ++ symbols_of (
 unfolding symbols_of
 all_loaded bytes now i e l m = sym (ap (λ k. take k now) l ∙ take-length now) ∙ sym (rw (m, drop-length, append-nil)) ∙ e
 
--- the four stores of a symbol
-pub put : (bytes : List ℕ) (at x : ℕ) → at + 4 ≤ length bytes →
-    set (set (set (set bytes at (x % 256)) (at + 1) (x / 256 % 256)) (at + 2) (x / 65536 % 256)) (at + 3) (x / 16777216 % 256) ≡ with_symbol bytes at x
-unfolding bytes_of with_symbol
-put bytes at x h =
-    let two : at + 2 ≡ suc (suc at) = omega arith in
-    let three : at + 3 ≡ suc (suc (suc at)) = omega arith in
-    rw (add-one at, two, three) (sets-eq (bytes_of (x ∷ [])) bytes at h)
+-- a symbol's bytes laid over four
+pub put : (bytes : List ℕ) (at x : ℕ) {four : List ℕ} → four ≡ bytes_of (x ∷ []) → put_mid at (at + 4 - at) bytes four ≡ with_symbol bytes at x
+unfolding with_symbol
+put bytes at x is =
+    let gap : at + 4 - at ≡ 4 = omega arith in
+    rw (is, gap, drop-drop 4 at bytes, ← append_assoc (take at bytes) (bytes_of (x ∷ [])) (drop (at + 4) bytes))
 
 -- i symbols are stored, and one more is
 pub stored : (symbols now : List ℕ) (i : ℕ) {new : List ℕ} → new ≡ with_symbol now (4 * i) (get_or symbols i 0) → take (4 * i) now ++ bytes_of (drop i symbols) ≡ bytes_of symbols →

@@ -1,8 +1,8 @@
 -- Demand 3 as a program in C meets it: the values that `shaftglimmer_fresh` leaves, then calls, each on the values that the last one left.
-use Rattle.std.specs.Prelude.{◌≡◌, true, List, [], ◌∷◌, ◌++◌, ℕ, ◌+◌, ◌*◌, ◌<◌, length, get_or, take}
+use Rattle.session.specs.declared.Session.{Session}
+use Rattle.gtb.specs.declared.Refusal.{Refusal}
+use Rattle.std.specs.Prelude.{Result, ◌≡◌, true, List, [], ◌∷◌, ◌++◌, ℕ, ◌+◌, ◌*◌, ◌<◌, length, get_or, take, Ok}
 use Rattle.gtb.specs.declared.Shape.{Shape}
-use Rattle.gtb.specs.declared.Status.TheVariants.{Done}
-use Rattle.session.specs.declared.Fresh.{Fresh}
 use Rattle.session.specs.declared.Outcome.{Outcome}
 use Rattle.session.specs.Arrival.{the_ways}
 use Rattle.session.specs.Recording.{Sheet, Recording, tally, Arrival, Fits}
@@ -27,8 +27,8 @@ pub data Calls : List ℕ → List Arrival → List ℕ → List ℕ → Type 0 
       → Calls values rest later end
 
 -- what a fresh session's values stand for
-abbrev pub begun_with : List ℕ → Fresh
-begun_with start = record { session = session_of start; status = Done }
+abbrev pub begun_with : List ℕ → Result Session Refusal
+begun_with start = Ok (session_of start)
 
 -- what such calls must show, of a list of arrivals that fits a recording
 pub record AtBoundary (s : Shape) (pages : List Sheet) (start : List ℕ) (number : ℕ) (arrivals : List Arrival) (given end : List ℕ) : Type 0 where

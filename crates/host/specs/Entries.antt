@@ -1,9 +1,7 @@
 -- What the entries answer and leave once numbers and u32 values stand for shapes, answers and sessions.
-use Rattle.std.specs.Prelude.{◌≡◌, cond, List, ℕ, eqb}
+use Rattle.std.specs.Prelude.{◌≡◌, cond, List, ℕ, eqb, Result, Ok, Err}
 use Rattle.gtb.specs.declared.Shape.{Shape}
-use Rattle.gtb.specs.declared.Status.{Status}
-use Rattle.gtb.specs.declared.Status.TheVariants.{Done}
-use Rattle.gtb.specs.declared.Status.TheVariants as status
+use Rattle.gtb.specs.declared.Refusal.{Refusal}
 use Rattle.gtb.specs.Shape.{lawful}
 use Rattle.gtb.specs.Answer.{status_number}
 use Rattle.session.specs.declared.Session.{Session}
@@ -21,9 +19,9 @@ abbrev pub length_in : (Shape → ℕ) → List ℕ → ℕ
 length_in size shape = cond (lawful (shape_in shape)) (size (shape_in shape)) 0
 
 -- a fresh session is written; a refusal leaves the values as they were
-abbrev pub fresh_in : Shape → List ℕ → Status → List ℕ
-fresh_in s session Done = values_of (fresh_of s)
-fresh_in s session (status.Refused e) = session
+abbrev pub fresh_in : Shape → List ℕ → Result (Unit {0}) Refusal → List ℕ
+fresh_in s session (Ok tt) = values_of (fresh_of s)
+fresh_in s session (Err e) = session
 
 pub record FreshCrossing (s : Shape) (session session' : List ℕ) (r : ℕ) : Type 0 where
   pub answer : r ≡ status_number (fresh_status s)
@@ -41,7 +39,7 @@ pub record Arrives (session : List ℕ) (way : ℕ) (word scratch session' word'
   pub holds : Arriving the_ways (session_of session) way word scratch word' scratch' arrived
   pub outcome_left : outcome' ≡ outcome_values arrived.outcome
   pub session_left : session' ≡ session_in session arrived.session arrived.outcome
-  pub answer : r ≡ status_number Done
+  pub answer : r ≡ status_number (Ok tt)
 
 -- a session is written where it changed, and then it has a page more
 abbrev pub bundle_in : List ℕ → Session → List ℕ

@@ -9,11 +9,11 @@ ghost use Rattle.host.specs.Steps.{AtValues, Fitting};
 
 use crate::crossing::{CALLS, LOWEST, MARKS, PAGES, SHAPE, load, load_shape, store};
 use crate::figures;
+use gtb::Shape;
 use gtb::size::info_length;
-use gtb::{Shape, Status};
+use session::Outcome;
 use session::open::open_kept;
 use session::status::word_status;
-use session::{Opening, Outcome, put_back};
 
 // The symbols of a word that can be longer than its scratch, and of its data: orders up to 13.
 const FEW: usize = 169;
@@ -49,15 +49,15 @@ fn settle_word(
     ensures { AtValues session.old (λ σ a. Deciding (way_of way) σ word.old word.new a) session.new result }
 {
     match open_kept(shape, way, word, came, symbols) {
-        Opening::Refused(e, _) => Outcome::Refused(e),
-        Opening::Page(number, count, corrected) => {
-            let at = MARKS + number as usize;
+        Err(e) => Outcome::Refused(e),
+        Ok(page) => {
+            let at = MARKS + page.number as usize;
             if session[at] != 0 {
-                return Outcome::Again(number, corrected);
+                return Outcome::Again(page.number, page.corrected);
             }
-            let end = 2 + count as usize;
-            let outcome = take_page(session, number, corrected, &symbols[2..end]);
-            put_back(outcome, came, word);
+            let end = 2 + page.count as usize;
+            let outcome = take_page(session, page.number, page.corrected, &symbols[2..end]);
+            outcome.put_back(came, word);
             outcome
         }
     }
@@ -117,10 +117,10 @@ pub fn arrive(session: &mut [u32], way: u32, word: &mut [u32], scratch: &mut [u3
 {
     let shape = load_shape(&session[..SHAPE]);
     let agree = figures::agree(&session[MARKS..CALLS], session[PAGES], session[LOWEST]);
-    if let Status::Refused(e) = word_status(shape, way, agree, word, scratch) {
+    if let Err(e) = word_status(shape, way, agree, word, scratch) {
         return Outcome::Refused(e);
     }
     let outcome = take_word(session, shape, way, word, scratch);
-    gtb::clear(scratch);
+    scratch.fill(0);
     outcome
 }

@@ -3,7 +3,6 @@ ghost use Rattle.host.specs.Entries.{Arrives, Delivers};
 
 use crate::arrival::arrive;
 use crate::crossing::{SESSION, load, store};
-use session::number::put_outcome;
 
 // One word; the answer is in the outcome.
 pub fn shaftglimmer_arrive(
@@ -15,7 +14,7 @@ pub fn shaftglimmer_arrive(
 ) -> u32
     ensures { Arrives session.old way word.old scratch.old session.new word.new scratch.new outcome.new result }
 {
-    put_outcome(arrive(session, way, word, scratch), outcome);
+    *outcome = arrive(session, way, word, scratch).values();
     0
 }
 
@@ -31,8 +30,7 @@ pub fn shaftglimmer_arrive_all(
 {
     let before = load(session);
     let delivered = batch::arrive_all(before, way, words, scratch, outcomes);
-    let status = delivered.status;
-    let answer = gtb::number::status(status);
+    let answer = gtb::number::status(delivered.status);
     let after = delivered.session;
     if after.pages == before.pages {
         return answer;

@@ -26,7 +26,7 @@ pub fn load_shape(values: &[u32]) -> Shape
     ensures { result ≡ shape_in values.now }
 {
     let mut slopes = [0u32; 7];
-    gtb::copy(&values[3..], &mut slopes);
+    slopes.copy_from_slice(&values[3..]);
     Shape {
         q: values[0],
         n: values[1],
@@ -41,8 +41,8 @@ fn load_taken(values: &[u32]) -> [bool; Session::PAGES]
     ensures { result ≡ map is_yes values.now }
 {
     let mut taken = [false; Session::PAGES];
-    for i in 0..Session::PAGES {
-        taken[i] = values[i] != 0;
+    for (i, value) in values.iter().enumerate() {
+        taken[i] = *value != 0;
     }
     taken
 }
@@ -53,7 +53,7 @@ pub fn load(values: &[u32]) -> Session
     ensures { result ≡ session_of values.now }
 {
     let mut calls = [0u32; Session::FUNCTIONS];
-    gtb::copy(&values[CALLS..], &mut calls);
+    calls.copy_from_slice(&values[CALLS..]);
     Session {
         shape: load_shape(&values[..SHAPE]),
         taken: load_taken(&values[MARKS..CALLS]),
@@ -68,8 +68,8 @@ fn store_taken(taken: [bool; Session::PAGES], values: &mut [u32])
     requires { length values.old ≡ 1024 }
     ensures { values.new ≡ map bit taken }
 {
-    for i in 0..Session::PAGES {
-        values[i] = taken[i] as u32;
+    for (i, mark) in taken.iter().enumerate() {
+        values[i] = *mark as u32;
     }
 }
 
@@ -85,9 +85,9 @@ pub fn store(session: Session, values: &mut [u32])
     values[0] = shape.q;
     values[1] = shape.n;
     values[2] = shape.b;
-    gtb::copy(&slopes, &mut values[3..SHAPE]);
+    values[3..SHAPE].copy_from_slice(&slopes);
     values[PAGES] = session.pages;
     values[LOWEST] = session.lowest;
     store_taken(taken, &mut values[MARKS..CALLS]);
-    gtb::copy(&calls, &mut values[CALLS..SESSION]);
+    values[CALLS..SESSION].copy_from_slice(&calls);
 }

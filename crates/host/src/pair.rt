@@ -5,7 +5,6 @@ ghost use Rattle.page.specs.Page.{read_number};
 ghost use Rattle.host.specs.Bytes.{symbols_of, bytes_of, symbol_at, with_symbol};
 ghost use Rattle.host.specs.Exported.{page_in, ReadingWord};
 
-use correction::Decoded;
 use gtb::size::{info_length, word_length};
 use gtb::{Refusal, Shape};
 
@@ -17,10 +16,7 @@ fn symbol_at(bytes: &[u8], at: usize) -> u32
     requires { at + 4 ≤ length bytes.now }
     ensures { result ≡ symbol_at bytes.now at }
 {
-    bytes[at] as u32
-        + 256 * bytes[at + 1] as u32
-        + 65536 * bytes[at + 2] as u32
-        + 16777216 * bytes[at + 3] as u32
+    u32::from_le_bytes([bytes[at], bytes[at + 1], bytes[at + 2], bytes[at + 3]])
 }
 
 // Puts four bytes together to each symbol.
@@ -38,10 +34,7 @@ fn put_symbol(bytes: &mut [u8], at: usize, symbol: u32)
     requires { at + 4 ≤ length bytes.old }
     ensures { bytes.new ≡ with_symbol bytes.old at symbol }
 {
-    bytes[at] = (symbol % 256) as u8;
-    bytes[at + 1] = (symbol / 256 % 256) as u8;
-    bytes[at + 2] = (symbol / 65536 % 256) as u8;
-    bytes[at + 3] = (symbol / 16777216 % 256) as u8;
+    bytes[at..at + 4].copy_from_slice(&symbol.to_le_bytes());
 }
 
 // Takes each symbol apart into four bytes.
@@ -49,8 +42,8 @@ fn store(symbols: &[u32], bytes: &mut [u8])
     requires { length bytes.old ≡ 4 * length symbols.now }
     ensures { bytes.new ≡ bytes_of symbols.now }
 {
-    for i in 0..symbols.len() {
-        put_symbol(bytes, 4 * i, symbols[i]);
+    for (i, symbol) in symbols.iter().enumerate() {
+        put_symbol(bytes, 4 * i, *symbol);
     }
 }
 
@@ -61,10 +54,10 @@ fn read_word(shape: Shape, bytes: &mut [u8], symbols: &mut [u32]) -> u32
 {
     load(bytes, symbols);
     let answer = decoder::decode(shape, symbols);
-    if let Decoded::Corrected(_) = answer {
+    if let Ok(_) = answer {
         store(symbols, bytes);
     }
-    correction::number::decoded(answer)
+    gtb::number::answer(answer)
 }
 
 // Word reading: digits changed, or 2^31 plus the number of the refusal.

@@ -5,20 +5,19 @@ ghost use Rattle.host.specs.Crossing as crossing;
 ghost use Rattle.host.specs.Entries.{FreshCrossing};
 
 use crate::crossing::{SESSION, load, load_shape, store};
-use gtb::Status;
 use session::Session;
 
 pub fn shaftglimmer_fresh(shape: &[u32; 10], session: &mut [u32; SESSION]) -> u32
     ensures made { FreshCrossing (crossing.shape_in shape.now) session.old session.new result }
     ensures paper { FreshValues (shape_in shape.now) session.old session.new result }
 {
-    let fresh = Session::fresh(load_shape(shape));
-    let status = fresh.status;
-    if let Status::Refused(e) = status {
-        return gtb::number::refused(e);
+    match Session::fresh(load_shape(shape)) {
+        Ok(fresh) => {
+            store(fresh, session);
+            0
+        }
+        Err(e) => gtb::number::refused(e),
     }
-    store(fresh.session, session);
-    0
 }
 
 pub fn shaftglimmer_count(session: &[u32; SESSION], function: u32) -> u64
@@ -36,5 +35,5 @@ pub fn shaftglimmer_bill(session: &[u32; SESSION], prices: &[u32]) -> u64
 pub fn shaftglimmer_cover(session: &[u32; SESSION], bytes: &mut [u8]) -> u32
     ensures { paper.Covering (session_in session.now) bytes.old bytes.new result }
 {
-    coverage::number::covered(coverage::cover(load(session), bytes))
+    gtb::number::answer(coverage::cover(load(session), bytes))
 }

@@ -61,7 +61,7 @@ pub fn shaftglimmer_text(refusal: u32, text: &mut [u8]) -> u32
     if text.len() != 96 {
         return gtb::number::refused(Refusal::Length);
     }
-    text.copy_from_slice(&[0u8; 96]);
+    text.fill(0);
     if refusal > 20 {
         return 0;
     }

@@ -29,25 +29,25 @@ pub fn shaftglimmer_extract(
 pub fn shaftglimmer_decode(shape: &[u32; 10], word: &mut [u32]) -> u32
     ensures { paper.Reading (shape_in shape.now) 0 word.old word.new result }
 {
-    correction::number::decoded(decoder::decode(load_shape(shape), word))
+    gtb::number::answer(decoder::decode(load_shape(shape), word))
 }
 
 pub fn shaftglimmer_decode_majority(shape: &[u32; 10], word: &mut [u32]) -> u32
     ensures { paper.Reading (shape_in shape.now) 1 word.old word.new result }
 {
-    correction::number::decoded(majority::decode_majority(load_shape(shape), word))
+    gtb::number::answer(majority::decode_majority(load_shape(shape), word))
 }
 
 pub fn shaftglimmer_decode_two(shape: &[u32; 10], word: &mut [u32]) -> u32
     ensures { paper.Reading (shape_in shape.now) 2 word.old word.new result }
 {
-    correction::number::decoded(double::decode_two(load_shape(shape), word))
+    gtb::number::answer(double::decode_two(load_shape(shape), word))
 }
 
 pub fn shaftglimmer_decode_nearest(shape: &[u32; 10], word: &mut [u32]) -> u32
     ensures { paper.Nearest (shape_in shape.now) word.old word.new result }
 {
-    correction::number::decoded(nearest::decode_nearest(load_shape(shape), word))
+    gtb::number::answer(nearest::decode_nearest(load_shape(shape), word))
 }
 
 pub fn shaftglimmer_fill(
@@ -58,7 +58,7 @@ pub fn shaftglimmer_fill(
 ) -> u32
     ensures { paper.Filling (shape_in shape.now) word.old places.now scratch.old word.new scratch.new result }
 {
-    correction::number::decoded(erasure::fill(load_shape(shape), word, places, scratch))
+    gtb::number::answer(erasure::fill(load_shape(shape), word, places, scratch))
 }
 
 pub fn shaftglimmer_restore(
@@ -69,7 +69,7 @@ pub fn shaftglimmer_restore(
 ) -> u32
     ensures { paper.Restoring (shape_in shape.now) word.old places.now scratch.old word.new scratch.new result }
 {
-    correction::number::decoded(restore::restore(load_shape(shape), word, places, scratch))
+    gtb::number::answer(restore::restore(load_shape(shape), word, places, scratch))
 }
 
 // A proposal checked; both words are only read.

@@ -1,8 +1,8 @@
 -- Reading a line value by value.
-use mathlib.Core.Path.{◌≡◌, refl, sym, ap, ◌∙◌}
+use mathlib.Core.Path.{◌≡◌, sym, ap, ◌∙◌}
+use Rattle.std.specs.Prelude.{Option, Some, None}
 use mathlib.Core.List.{List, [], ◌∷◌, ◌++◌}
 use Prim.Native.Nat.{ℕ, suc, ◌+◌, ◌≤◌, ◌<◌}
-use native.Mathlib.Nat.{not-suc-le-zero}
 use native.Mathlib.Numerals.{add-one}
 use native.Mathlib.Omega.{arith}
 use borrow.Author.Count.{below_more}
@@ -11,10 +11,7 @@ use lib.Seq.{drop-cons, get_or-set_same, get_or-set_other, get_or_at}
 use Rattle.lines.specs.Text.{space, decimal, Spells}
 use Rattle.lines.specs.Parse.{Stored, Parsing}
 use Rattle.lines.specs.Scan.{ValueAt, Scanning}
-use Rattle.lines.specs.declared.Parsed.TheVariants.{Values, Malformed}
-use Rattle.lines.specs.declared.Number.{Number}
-use Rattle.lines.specs.declared.Number.TheVariants.{Missing}
-use Rattle.lines.proofs.Spelling.{Left, left_none, left_more, left_last, left_missing, left_other}
+use Rattle.lines.proofs.Spelling.{Left, left_more, left_last, left_missing, left_other}
 
 -- before `from` stand `count` values, each with a space after it; the first 1024 are stored
 pub record Progress (line stored : List ℕ) (count from : ℕ) : Type 0 where
@@ -26,26 +23,14 @@ pub record Progress (line stored : List ℕ) (count from : ℕ) : Type 0 where
   pub low : count ≤ from
   pub high : from ≤ length line
 
-pub start : (line stored : List ℕ) → length stored ≡ 1024 → Progress line stored 0 0
-start line stored size =
-    record {
-      done = [];
-      left = left_none line;
-      counted = refl;
-      kept = λ i l. absurd (not-suc-le-zero l);
-      size = size;
-      low = omega arith;
-      high = omega arith;
-    }
-
 -- a refusal
-malformed : (line stored : List ℕ) → length stored ≡ 1024 → ((zs : List ℕ) → Spells line zs → ⊥) → Parsing line stored Malformed
+malformed : (line stored : List ℕ) → length stored ≡ 1024 → ((zs : List ℕ) → Spells line zs → ⊥) → Parsing line stored None
 malformed line stored size none =
-    record { size = size; accepted = λ n e. let z : ◌≡◌ {A = ℕ} 0 1 = cc in absurd (omega arith); refused = λ e. none }
+    record { size = size; accepted = λ n e. absurd (cc); refused = λ e. none }
 
 module _ {line stored : List ℕ} {count from : ℕ} (p : Progress line stored count from) where
   -- no value
-  pub unread : (r : Number) → Scanning line from r → r ≡ Missing → Parsing line stored Malformed
+  pub unread : (r : Option (ℕ × ℕ)) → Scanning line from r → r ≡ None → Parsing line stored None
   unread r h e = malformed line stored p.size (left_missing p.left (h.missing e))
 
   module _ {v next : ℕ} (a : ValueAt line from v next) where
@@ -62,14 +47,14 @@ module _ {line stored : List ℕ} {count from : ℕ} (p : Progress line stored c
         (λ m. get_or-set_same stored count v 0 (rw p.size m) ∙ sym (get_or_at p.done v [] 0 count p.counted))
 
     -- the line ends after the value
-    pub finished : next ≡ length line → Parsing line (set stored count v) (Values (count + 1))
+    pub finished : next ≡ length line → Parsing line (set stored count v) (Some (count + 1))
     finished e =
         let s = left_last p.left v a.small (a.text ∙ ap (λ (l : List ℕ). decimal v ++ l) (drop_of_length-le line {i = next} (omega arith))) in
         let h : Stored line (set stored count v) (count + 1) = record { values = p.done ++ (v ∷ []); spelled = s; counted = new_counted; kept = new_kept } in
         record {
           size = new_size;
           accepted = λ n q. let k : count + 1 ≡ n = cc in rw k at h;
-          refused = λ q. let z : ◌≡◌ {A = ℕ} 0 1 = cc in absurd (omega arith);
+          refused = λ q. absurd (cc);
         }
 
     cut : next < length line → drop from line ≡ decimal v ++ get_or line next 0 ∷ drop (suc next) line
@@ -89,5 +74,5 @@ module _ {line stored : List ℕ} {count from : ℕ} (p : Progress line stored c
         }
 
     -- something else after the value
-    pub unparted : next < length line → (get_or line next 0 ≡ space → ⊥) → Parsing line (set stored count v) Malformed
+    pub unparted : next < length line → (get_or line next 0 ≡ space → ⊥) → Parsing line (set stored count v) None
     unparted l ne = malformed line (set stored count v) new_size (left_other p.left v (get_or line next 0) (drop (suc next) line) (rw (drop-cons line next 0 l) at a.stops) ne (cut l))

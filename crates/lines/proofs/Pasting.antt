@@ -1,14 +1,15 @@
 -- Texts written one after another into a list.
 use mathlib.Core.Path.{◌≡◌, refl, sym, ap, ◌∙◌, subst}
 use mathlib.Core.List.{List, [], ◌∷◌, ◌++◌, append-nil, append_assoc}
-use Prim.Native.Nat.{ℕ, zero, suc, ◌+◌, ◌-◌, ◌/◌, ◌%◌, ◌≤◌, ◌<◌}
+use Prim.Native.Nat.{ℕ, suc, ◌+◌, ◌-◌, ◌/◌, ◌%◌, ◌≤◌, ◌<◌}
 use native.Mathlib.Nat.{add_assoc, add-zero}
 use native.Mathlib.Numerals.{add-one}
 use native.Mathlib.Omega.{arith}
 use borrow.Rule.Slice.PartMut.{put_mid}
 use lib.ListN.{length, take, drop, set, length-append, length-take, length-drop, length-set, take-append-drop}
 use lib.Seq.{length-take-le, set_split, append_snoc, take_at, drop_at, drop-drop}
-use Rattle.lines.specs.Text.{space, newline, ascii, digit, decimal, outcome_name, count_text, outcome_text, pasted, Put}
+use Rattle.lines.specs.declared.Kind.{Kind}
+use Rattle.lines.specs.Text.{space, newline, digit, decimal, outcome_name, count_text, outcome_text, pasted, Put}
 use Rattle.lines.proofs.Decimals.{decimal_more}
 
 -- one byte
@@ -85,13 +86,7 @@ pub put_pair : {old text₁ text₂ text₃ new : List ℕ} {at r₁ r₂ r₃ r
 unfolding count_text
 put_pair a b p q s t = rw (← append_snoc (decimal a) space (decimal b)) (put_both (put_both (put_both p q) s) t)
 
-pub name_refused : (kind : ℕ) → (kind ≡ 0 → ⊥) → (kind ≡ 1 → ⊥) → outcome_name kind ≡ ascii "refused"
-unfolding outcome_name
-name_refused zero p q = absurd (p refl)
-name_refused (suc zero) p q = absurd (q refl)
-name_refused (suc (suc k)) p q = refl
-
-pub put_named : {old text₁ text₂ new : List ℕ} {at r₁ r₂ r : ℕ} (kind number fixed : ℕ) → Put old at (outcome_name kind) text₁ r₁ → Put text₁ r₁ (space ∷ []) text₂ r₂
+pub put_named : {old text₁ text₂ new : List ℕ} {at r₁ r₂ r : ℕ} (kind : Kind) (number fixed : ℕ) → Put old at (outcome_name kind) text₁ r₁ → Put text₁ r₁ (space ∷ []) text₂ r₂
     → Put text₂ r₂ (count_text number fixed) new r → Put old at (outcome_text kind number fixed) new r
 unfolding outcome_text count_text
 put_named {old} {new = new} {at = at} {r = r} kind number fixed p q s =

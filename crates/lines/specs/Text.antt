@@ -3,6 +3,8 @@ use Rattle.std.specs.Prelude.{◌≡◌, Bool, true, false, ◌&&◌, List, [], 
 use Prim.Native.Char.{code}
 use Prim.Native.String.{String}
 use Prim.Native.String as string
+use Rattle.lines.specs.declared.Kind.{Kind}
+use Rattle.lines.specs.declared.Kind.TheVariants.{Taken, Again, Refused}
 
 -- the bytes of a quoted text
 abbrev pub ascii : String → List ℕ
@@ -60,18 +62,18 @@ names_outcome = ascii "outcome page fixed\n"
 abbrev pub names_calls : List ℕ
 names_calls = ascii "function calls\n"
 
--- the outcomes by number
-unfoldable pub outcome_name : ℕ → List ℕ
-outcome_name zero = ascii "taken"
-outcome_name (suc zero) = ascii "again"
-outcome_name (suc (suc k)) = ascii "refused"
+-- the outcomes by kind
+unfoldable pub outcome_name : Kind → List ℕ
+outcome_name Taken = ascii "taken"
+outcome_name Again = ascii "again"
+outcome_name Refused = ascii "refused"
 
 -- two values and a newline: a line of the output's second table, function and calls
 unfoldable pub count_text : ℕ → ℕ → List ℕ
 count_text function calls = decimal function ++ space ∷ decimal calls ++ newline ∷ []
 
 -- a line of the output's first table: outcome, page, digits changed
-unfoldable pub outcome_text : ℕ → ℕ → ℕ → List ℕ
+unfoldable pub outcome_text : Kind → ℕ → ℕ → List ℕ
 outcome_text kind number fixed = outcome_name kind ++ space ∷ decimal number ++ space ∷ decimal fixed ++ newline ∷ []
 
 -- the list with the text written over its elements from `at` on

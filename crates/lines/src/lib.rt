@@ -3,58 +3,40 @@
 
 ghost use Rattle.std.specs.Prelude.{◌≡◌, [], ◌∷◌, ◌+◌, ◌≤◌, length, set};
 ghost use Rattle.lines.specs.Text.{decimal, same_bytes, names_shape, names_word, names_outcome, names_calls, outcome_name, outcome_text, count_text, Put};
-ghost use Rattle.lines.specs.Parse.{Parsing, FirstNewline};
-ghost use Rattle.lines.specs.Scan.{Scanning};
+ghost use Rattle.lines.specs.Parse.{Parsing, first_newline};
+ghost use Rattle.lines.specs.Scan.{DigitAt, Scanning};
 
-// What a line holds: so many values, or no values in the house form.
+// What came of a word.
 #[derive(Clone, Copy)]
-pub enum Parsed {
-    Values(usize),
-    Malformed,
+pub enum Kind {
+    Taken,
+    Again,
+    Refused,
 }
 
-// One value and the place after it, or none.
-#[derive(Clone, Copy)]
-enum Number {
-    Value(u32, usize),
-    Missing,
+// The digit that stands at a place, if there is one.
+fn digit_at(line: &[u8], at: usize) -> Option<u32>
+    ensures { DigitAt line.now at result }
+{
+    let byte = line.get(at)?;
+    (*byte as char).to_digit(10)
 }
 
-// The value that stands at `from`, with no digit after it.
-fn number_at(line: &[u8], from: usize) -> Number
+// The value that stands at `from`, with no digit after it, and the place after it.
+fn number_at(line: &[u8], from: usize) -> Option<(u32, usize)>
     requires { from ≤ length line.now }
     ensures { Scanning line.now from result }
 {
-    if from == line.len() {
-        return Number::Missing; // the end of the line
-    }
-    let first = line[from];
-    if first < b'0' {
-        return Number::Missing;
-    }
-    if first > b'9' {
-        return Number::Missing;
-    }
-    let mut value = (first - b'0') as u64;
+    let mut value = digit_at(line, from)?;
     let mut at = from + 1;
-    while at < line.len() {
-        let b = line[at];
-        if b < b'0' {
-            return Number::Value(value as u32, at);
-        }
-        if b > b'9' {
-            return Number::Value(value as u32, at);
-        }
+    while let Some(digit) = digit_at(line, at) {
         if value == 0 {
-            return Number::Missing; // a leading zero
+            return None; // a leading zero
         }
-        value = value * 10 + (b - b'0') as u64;
-        if value > 4294967295 {
-            return Number::Missing; // too large
-        }
+        value = value.checked_mul(10)?.checked_add(digit)?; // too large
         at += 1;
     }
-    Number::Value(value as u32, at)
+    Some((value, at))
 }
 
 // Stores the value if there is a place for it.
@@ -67,24 +49,23 @@ fn store(values: &mut [u32; 1024], at: usize, value: u32)
     }
 }
 
-// Reads the values of a line, which comes without its newline. Those beyond 1024 are counted and not stored.
-pub fn parse(line: &[u8], values: &mut [u32; 1024]) -> Parsed
+// Reads the values of a line, which comes without its newline, and answers their number. Those beyond 1024 are counted and not stored.
+// A malformed line, one with no values in the house form, gives None.
+pub fn parse(line: &[u8], values: &mut [u32; 1024]) -> Option<usize>
     requires { length values.old ≡ 1024 }
     ensures { Parsing line.now values.new result }
 {
     let mut count: usize = 0;
     let mut from: usize = 0;
     loop {
-        let Number::Value(value, next) = number_at(line, from) else {
-            return Parsed::Malformed; // no value
-        };
+        let (value, next) = number_at(line, from)?;
         store(values, count, value);
         count += 1;
         if next == line.len() {
-            return Parsed::Values(count);
+            return Some(count);
         }
         if line[next] != b' ' {
-            return Parsed::Malformed; // neither the end nor a space
+            return None; // neither the end nor a space
         }
         from = next + 1;
     }
@@ -109,20 +90,15 @@ pub fn is_word_names(line: &[u8]) -> bool
     is_text(line, b"word")
 }
 
-// The first place in from..to with a newline, or `to`.
-pub fn find_newline(block: &[u8], from: usize, to: usize) -> usize
-    requires { (from ≤ to) × (to ≤ length block.now) }
-    ensures { FirstNewline block.now from to result }
+// The first place with a newline.
+pub fn find_newline(bytes: &[u8]) -> Option<usize>
+    ensures { result ≡ first_newline bytes.now }
 {
-    for i in from..to {
-        if block[i] == b'\n' {
-            return i;
-        }
-    }
-    to
+    bytes.iter().position(|b| *b == b'\n')
 }
 
 // Writes the text over `out` from `at` on, and answers the place after it.
+#[tactic(auto, using(crate::proofs::Pasting::copied))]
 pub fn put_text(out: &mut [u8], at: usize, text: &[u8]) -> usize
     requires { at + length text.now ≤ length out.old }
     ensures { Put out.old at text.now out.new result }
@@ -132,6 +108,7 @@ pub fn put_text(out: &mut [u8], at: usize, text: &[u8]) -> usize
     end
 }
 
+#[tactic(auto, using(crate::proofs::Pasting::put_one))]
 fn put_byte(out: &mut [u8], at: usize, byte: u8) -> usize
     requires { at + 1 ≤ length out.old }
     ensures { Put out.old at (byte ∷ []) out.new result }
@@ -152,6 +129,7 @@ fn put_digits(out: &mut [u8], at: usize, value: u32) -> usize
     put_byte(out, last, b'0' + (value % 10) as u8)
 }
 
+#[tactic(auto, using(crate::proofs::Decimals::at_most_ten))]
 pub fn put_number(out: &mut [u8], at: usize, value: u32) -> usize
     requires { at + 10 ≤ length out.old }
     ensures { Put out.old at (decimal value) out.new result × (result ≤ at + 10) }
@@ -171,21 +149,20 @@ pub fn put_count(out: &mut [u8], at: usize, function: u32, calls: u32) -> usize
 }
 
 // The outcome's name.
-fn put_kind(out: &mut [u8], at: usize, kind: u32) -> usize
+#[tactic(auto, unfolding(crate::specs::Text::outcome_name))]
+fn put_kind(out: &mut [u8], at: usize, kind: Kind) -> usize
     requires { at + 7 ≤ length out.old }
     ensures { Put out.old at (outcome_name kind) out.new result × (result ≤ at + 7) }
 {
-    if kind == 0 {
-        return put_text(out, at, b"taken");
+    match kind {
+        Kind::Taken => put_text(out, at, b"taken"),
+        Kind::Again => put_text(out, at, b"again"),
+        Kind::Refused => put_text(out, at, b"refused"),
     }
-    if kind == 1 {
-        return put_text(out, at, b"again");
-    }
-    put_text(out, at, b"refused")
 }
 
 // A line of the output's first table.
-pub fn put_outcome(out: &mut [u8], at: usize, kind: u32, number: u32, fixed: u32) -> usize
+pub fn put_outcome(out: &mut [u8], at: usize, kind: Kind, number: u32, fixed: u32) -> usize
     requires { at + 30 ≤ length out.old }
     ensures { Put out.old at (outcome_text kind number fixed) out.new result × (result ≤ at + 30) }
 {

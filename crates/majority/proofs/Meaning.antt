@@ -16,7 +16,7 @@ use Rattle.gtb.specs.Shape.{Lawful, word_length}
 use Rattle.gtb.specs.Square.{line_of, at, Word, Codeword}
 use Rattle.gtb.proofs.Rows.{syndrome_width}
 use Rattle.distance.specs.Distance.{Near}
-use Rattle.correction.specs.declared.Decoded.TheVariants.{Corrected}
+use Rattle.std.specs.Prelude.{Ok}
 use Rattle.correction.specs.Error.{weight, damaged, on_check}
 use Rattle.correction.specs.Answer.{decoded_word}
 use Rattle.correction.proofs.Near.{error_of, support, error_size, damaged_near, near_meant}
@@ -48,12 +48,12 @@ pub vote_meant : Meant vote (λ s. Near s (s.n / 2))
 vote_meant = near_meant vote refl (λ s f j. refl) (λ s w hw j l. vote_narrow s w hw j) (λ s law fits. vote_exact s law)
 
 -- a word with a codeword that near is accepted, with that codeword and that number
-pub near_majority : (s : Shape) → Lawful s → (w v : List ℕ) (k : ℕ) → Near s (s.n / 2) w v k → (majority_of s w ≡ Corrected k) × (voted s w ≡ v)
+pub near_majority : (s : Shape) → Lawful s → (w v : List ℕ) (k : ℕ) → Near s (s.n / 2) w v k → (majority_of s w ≡ Ok k) × (voted s w ≡ v)
 near_majority s law = means_read vote_meant s law refl
 
 -- any damage to at most n/2 symbols is undone
 pub majority_right : (s : Shape) → Lawful s → (v e : List ℕ) → Codeword s v → Word s e → weight s (at e) ≤ s.n / 2
-    → (majority_of s (damaged v e) ≡ Corrected (weight s (at e))) × (voted s (damaged v e) ≡ v)
+    → (majority_of s (damaged v e) ≡ Ok (weight s (at e))) × (voted s (damaged v e) ≡ v)
 majority_right s law v e hv he few = near_majority s law (damaged v e) v (weight s (at e)) (damaged_near s (s.n / 2) v e hv he few)
 
 -- for every shape and word: the answer by equation, and what it means

@@ -1,4 +1,5 @@
 -- What is found in the table of syndromes is what the definitions say of the word.
+use Rattle.std.specs.Prelude.{Some, None}
 use mathlib.Core.Path.{◌≡◌, refl, sym, ap, ◌∙◌}
 use mathlib.Core.Bool.{Bool, true, false, not}
 use mathlib.Core.List.{List}
@@ -65,7 +66,7 @@ whole s syn loud every j = when_nonzero (voted_in s syn j) ∙ ap (λ (b : Bool)
 
 -- ---- what `find` gives
 pub found_many : {s : Shape} {syn places errors : List ℕ} (loud : Bool) → Lawful s → too_many_changes s ≤ count (word_length s) (found_in s syn loud)
-    → Found vote s (too_many_changes s) (not loud) syn places errors (too_many_changes s)
+    → Found vote s (not loud) syn places errors None
 found_many {s} {syn} loud h many =
     found_none (λ every w hw y. not_elected s h w syn y (omega (arith, count_cong (word_length s) _ _ (λ j lj. found_in_all s syn loud every j))))
 
@@ -83,15 +84,15 @@ module _ {s : Shape} {syn places errors new : List ℕ} {k : ℕ} (loud : Bool) 
       (λ j lj. when_lt s.b (found_in s syn loud j) (voted_in s syn j) (rw (voted_in_lem s h w syn y j lj) (vote_narrow s w hw j))) (omega arith)
       (silent_by part_listed y t h ∙ e))
 
-  pub found_changes : quiet s new ≡ true → Found vote s (too_many_changes s) (not loud) syn places errors k
+  pub found_changes : quiet s new ≡ true → Found vote s (not loud) syn places errors (Some k)
   found_changes e =
-      found_few lk (within h (omega (arith, (bounds s h).n2)) l)
+      found_few (within h (omega (arith, (bounds s h).n2)) l)
       (λ w hw y.
       let g = vote_meant.gives s h refl w _ k (part_near e w hw y) in
       record { error = part s syn loud; listed = part_listed; accepted = g.accepted; changed = g.changed; word = g.word })
 
   -- it leaves a check that is not silent
-  pub found_loud : quiet s new ≡ false → Found vote s (too_many_changes s) (not loud) syn places errors (too_many_changes s)
+  pub found_loud : quiet s new ≡ false → Found vote s (not loud) syn places errors None
   unfolding restored_by
   found_loud e =
       found_none

@@ -2,16 +2,16 @@
 use mathlib.Core.Path.{◌≡◌, sym, ap, ◌∙◌}
 use mathlib.Core.Bool.{Bool, true, false, not, ◌&&◌}
 use mathlib.Core.List.{List}
+use mathlib.Core.Logic.{◌⊎◌, ⊎_elim}
 use Prim.Native.Nat.{ℕ, ◌+◌, ◌*◌, ◌/◌, ◌<◌, ◌≤◌}
 use native.Mathlib.Nat.{zero-add}
 use native.Mathlib.Omega.{arith}
 use lib.Arith.{digits_div}
-use lib.Dec.{eqb, ltb}
-use borrow.Author.Count.{below_none, below_more}
+use lib.Dec.{eqb}
 use borrow.Author.Tests.{eq-eqb, ne_eqb}
 use Rattle.parity.specs.Lists.{Begins}
 use Rattle.parity.specs.Count.{bit}
-use Rattle.parity.proofs.Tests.{and_no_left}
+use Rattle.parity.proofs.Tests.{and_both, and_no_left, and_no_right}
 use Rattle.parity.proofs.First.{first_at, first_none}
 use Rattle.gtb.specs.declared.Shape.{Shape}
 use Rattle.gtb.specs.Square.{at}
@@ -29,31 +29,14 @@ unfolding voted_in
 values_vote s syn j {values} h = majority_cong s.n (at values) (check_in s syn j) h.entry
 
 -- ---- the value that prevails
-pub no_zero : (n : ℕ) (v : ℕ → ℕ) (x : ℕ) → x ≡ 0 → false ≡ prevailing n v x
-unfolding prevailing
-no_zero n v x z = sym (and_no_left _ (ap not (eq-eqb x 0 z)))
-
-pub by_number : (n : ℕ) (v : ℕ → ℕ) (x c : ℕ) → (x ≡ 0 → ⊥) → c ≡ shows n v x → ltb n (2 * c) ≡ prevailing n v x
-unfolding prevailing
-by_number n v x c ne e = ap (λ (k : ℕ). ltb n (2 * k)) e ∙ sym (ap (λ (b : Bool). not b && ltb n (2 * shows n v x)) (ne_eqb x 0 ne))
-
--- none of the first t values prevails
-pub record Failed (n : ℕ) (v : ℕ → ℕ) (t : ℕ) : Type 0 where
-  pub fails : (u : ℕ) → u < t → prevailing n v (v u) ≡ false
-
-pub failed_none : (n : ℕ) (v : ℕ → ℕ) → Failed n v 0
-failed_none n v = record { fails = below_none (λ u. prevailing n v (v u) ≡ false) }
-
-pub failed_more : {n : ℕ} {v : ℕ → ℕ} {t : ℕ} → prevailing n v (v t) ≡ false → Failed n v t → Failed n v (t + 1)
-failed_more {n} {v} {t} f h = record { fails = below_more (λ u. prevailing n v (v u) ≡ false) t h.fails f }
-
-pub elects : {n : ℕ} {v : ℕ → ℕ} {t : ℕ} → t < n → Failed n v t → prevailing n v (v t) ≡ true → v t ≡ majority n v
+-- the first one that prevails, or none
+pub elects : {n : ℕ} (v : ℕ → ℕ) {t : ℕ} → t < n → ((u : ℕ) → u < t → prevailing n v (v u) ≡ false) → prevailing n v (v t) ≡ true → v t ≡ majority n v
 unfolding majority prevailing
-elects {n} {v} {t} l h p = sym (first_at n (λ t. prevailing n v (v t)) v t l h.fails p)
+elects {n} v {t} l fails p = sym (first_at n (λ t. prevailing n v (v t)) v t l fails p)
 
-pub elects_none : {n : ℕ} {v : ℕ → ℕ} → Failed n v n → 0 ≡ majority n v
+pub elects_none : {n : ℕ} (v : ℕ → ℕ) → ((u : ℕ) → u < n → prevailing n v (v u) ≡ false) → 0 ≡ majority n v
 unfolding majority prevailing
-elects_none {n} {v} h = sym (first_none n (λ t. prevailing n v (v t)) v h.fails)
+elects_none {n} v fails = sym (first_none n (λ t. prevailing n v (v t)) v fails)
 
 -- ---- the silent checks on a position
 -- that of the row
@@ -80,12 +63,15 @@ module _ (s : Shape) (syn : List ℕ) (loud : Bool) (row c : ℕ) (lc : c < s.q)
   row_of : passed_over loud (at syn ((row * s.q + c) / s.q)) ≡ passed_over loud (at syn row)
   row_of = ap (λ (r : ℕ). passed_over loud (at syn r)) (digits_div row lc)
 
-  -- nothing is found in a row that is passed over
-  pub nothing_found : passed_over loud (at syn row) ≡ true → found_in s syn loud (row * s.q + c) ≡ false
-  unfolding found_in
-  nothing_found h = and_no_left _ (ap not (row_of ∙ h))
+  -- nothing is found in a silent one by a search of loud rows
+  pub nothing_found : loud ≡ true → at syn row ≡ 0 → found_in s syn loud (row * s.q + c) ≡ false
+  unfolding found_in passed_over
+  nothing_found l z = and_no_left _ (ap not (row_of ∙ and_both l (eq-eqb (at syn row) 0 z)))
 
-  -- in another, all that changes
-  pub all_found : passed_over loud (at syn row) ≡ false → found_in s syn loud (row * s.q + c) ≡ changes s syn (row * s.q + c)
-  unfolding found_in
-  all_found h = ap (λ (b : Bool). not b && changes s syn (row * s.q + c)) (row_of ∙ h)
+  -- in another, or by another search, all that changes is found
+  pub all_found : (loud ≡ true × (at syn row ≡ 0 → ⊥)) ⊎ (loud ≡ false) → found_in s syn loud (row * s.q + c) ≡ changes s syn (row * s.q + c)
+  unfolding found_in passed_over
+  all_found h =
+      let looked : passed_over loud (at syn row) ≡ false =
+      ⊎_elim (λ (e : loud ≡ true × (at syn row ≡ 0 → ⊥)). and_no_right loud (ne_eqb (at syn row) 0 e.1)) (λ e. and_no_left (eqb (at syn row) 0) e) h in
+      ap (λ (b : Bool). not b && changes s syn (row * s.q + c)) (row_of ∙ looked)

@@ -1,10 +1,9 @@
 -- Reading by vote: majority decoding (RULES 3.2; request N4).
-use Rattle.std.specs.Prelude.{true, not, ◌&&◌, List, ℕ, ◌*◌, ◌/◌, eqb, ltb}
+use Rattle.std.specs.Prelude.{true, not, ◌&&◌, List, ℕ, ◌*◌, ◌/◌, eqb, ltb, Result}
 use Rattle.parity.specs.Count.{first_value}
 use Rattle.gtb.specs.declared.Shape.{Shape}
 use Rattle.gtb.specs.declared.Refusal.{Refusal}
 use Rattle.distance.specs.Distance.{Near}
-use Rattle.correction.specs.declared.Decoded.{Decoded}
 use Rattle.correction.specs.Error.{on_check, shows}
 use Rattle.correction.specs.Reading.{Reader, restored_by, read_of, Reads}
 
@@ -26,12 +25,12 @@ vote = record {
   suits = λ s. true;
 }
 
-abbrev pub majority_of : Shape → List ℕ → Decoded
+abbrev pub majority_of : Shape → List ℕ → Result ℕ Refusal
 majority_of = read_of vote
 
 abbrev pub voted : Shape → List ℕ → List ℕ
 voted = restored_by vote
 
 -- reading by vote: a codeword differs from the word that came in at most n/2 symbols
-abbrev pub Voting : Shape → List ℕ → List ℕ → Decoded → Type 0
+abbrev pub Voting : Shape → List ℕ → List ℕ → Result ℕ Refusal → Type 0
 Voting = Reads vote (λ s. Near s (s.n / 2))

@@ -2,36 +2,25 @@
 // Most positions have many silent checks, and are passed over by these alone.
 ghost use Rattle.std.specs.Prelude.{◌≡◌, true, ◌+◌, ◌*◌, ◌<◌, eqb, length};
 ghost use Rattle.parity.specs.Count.{bit};
-ghost use Rattle.gtb.specs.Shape.{Lawful, word_length};
+ghost use Rattle.gtb.specs.Shape.{word_length};
 ghost use Rattle.gtb.specs.Square.{at};
-ghost use Rattle.correction.specs.Shipped.{Tabled};
-ghost use Rattle.correction.specs.Steps.{Shifts, Listed, Scanned};
-ghost use Rattle.majority.specs.Steps.{voted_in, passed_over, found_in, Kept, too_many_changes};
+ghost use Rattle.correction.specs.Steps.{Listed, Scanned};
+ghost use Rattle.majority.specs.Steps.{voted_in, found_in, Kept, too_many_changes};
 
 use crate::vote::vote;
-use correction::row::{check_in_row, shifts_by};
-use correction::values::hit;
-use gtb::Shape;
+use correction::checks::Checks;
+use correction::row::Row;
 
 // Half of the checks on this row and column, or more, are silent: no other value has a majority. `own` is 1 if that of the row is silent.
-fn is_quiet(
-    shape: Shape,
-    table: &[u8],
-    syn: &[u32; 248],
-    own: usize,
-    shifts: &[usize; 8],
-    row: usize,
-    column: usize,
-) -> bool
-    requires { Lawful shape × Tabled shape table.now × (length table.now ≡ 0 → Shifts shape row shape.n shifts.now)
-        × (own ≡ bit (eqb (at syn.now row) 0)) × (row < shape.q) × (column < shape.q) }
-    ensures { result ≡ true → voted_in shape syn.now (row * shape.q + column) ≡ 0 }
+fn is_quiet(row: Row, syn: &[u32; 248], own: usize, column: usize) -> bool
+    requires { (own ≡ bit (eqb (at syn.now row.number) 0)) × (column < row.checks.shape.q) }
+    ensures { result ≡ true → voted_in row.entry.checks.shape syn.now (row.entry.number * row.entry.checks.shape.q + column) ≡ 0 }
 {
-    let n = shape.n as usize;
+    let n = row.checks.shape.n as usize;
     let mut silent = own;
     for t in 1..n {
-        let check = check_in_row(shape, table, shifts, t, row, column);
-        silent += hit(syn[check], 0);
+        let check = row.check(t, column);
+        silent += (syn[check] == 0) as usize;
         if n <= 2 * silent {
             return true;
         }
@@ -41,96 +30,77 @@ fn is_quiet(
 
 // The position in this row and column joins the list if it changes.
 fn keep(
-    shape: Shape,
-    table: &[u8],
+    row: Row,
     syn: &[u32; 248],
     own: usize,
-    shifts: &[usize; 8],
     places: &mut [usize; 8],
     count: usize,
-    row: usize,
     column: usize,
 ) -> usize
-    requires { Lawful shape × Tabled shape table.now × (length table.now ≡ 0 → Shifts shape row shape.n shifts.now)
-        × (own ≡ bit (eqb (at syn.now row) 0)) × (row < shape.q) × (column < shape.q) × (count < too_many_changes shape) × (length places.old ≡ 8) }
-    ensures { Kept shape syn.now (row * shape.q + column) count places.old result places.new }
+    requires { (own ≡ bit (eqb (at syn.now row.number) 0)) × (column < row.checks.shape.q)
+        × (count < too_many_changes row.checks.shape) × (length places.old ≡ 8) }
+    ensures { Kept row.entry.checks.shape syn.now (row.entry.number * row.entry.checks.shape.q + column) count places.old result places.new }
 {
-    let q = shape.q as usize;
-    if is_quiet(shape, table, syn, own, shifts, row, column) {
+    if is_quiet(row, syn, own, column) {
         return count;
     }
-    let j = row * q + column;
-    if vote(shape, table, syn, j) == 0 {
+    let q = row.checks.shape.q as usize;
+    let j = row.number * q + column;
+    if vote(row.checks, syn, j) == 0 {
         return count;
     }
     places[count] = j;
     count + 1
 }
 
-// A row whose own check shows this value is passed over.
-fn is_passed_over(loud: bool, value: u32) -> bool
-    ensures { result ≡ passed_over loud value }
-{
-    if loud {
-        return value == 0;
-    }
-    false
-}
-
-// One row.
+// One row. In a search of loud rows one whose own check is silent is passed over.
 fn scan_row(
-    shape: Shape,
-    table: &[u8],
+    checks: Checks,
     syn: &[u32; 248],
     loud: bool,
     row: usize,
     places: &mut [usize; 8],
     count: usize,
-) -> usize
-    requires { Lawful shape × Tabled shape table.now × (row < shape.q) × (count < too_many_changes shape) × Listed (found_in shape syn.now loud) (row * shape.q) count places.old }
-    ensures { Scanned (found_in shape syn.now loud) (too_many_changes shape) (row * shape.q + shape.q) result places.new }
+) -> Option<usize>
+    requires { (row < checks.shape.q) × (count < too_many_changes checks.shape)
+        × Listed (found_in checks.shape syn.now loud) (row * checks.shape.q) count places.old }
+    ensures { Scanned (found_in checks.shape syn.now loud) (too_many_changes checks.shape) (row * checks.shape.q + checks.shape.q) result places.new }
 {
-    let q = shape.q as usize;
-    let n = shape.n as usize;
-    let limit = n / 2 + 1;
-    let value = syn[row];
-    if is_passed_over(loud, value) {
-        return count;
+    let silent = syn[row] == 0;
+    if loud && silent {
+        return Some(count);
     }
-    let mut shifts = [0usize; 8];
-    shifts_by(shape, table, row, &mut shifts);
-    let own = hit(value, 0);
+    let q = checks.shape.q as usize;
+    let n = checks.shape.n as usize;
+    let limit = n / 2 + 1;
+    let mut room = [0usize; 8];
+    let in_row = Row::of(checks, row, &mut room);
+    let own = silent as usize;
     let mut k = count;
     for c in 0..q {
-        k = keep(shape, table, syn, own, &shifts, places, k, row, c);
+        k = keep(in_row, syn, own, places, k, c);
         if limit <= k {
-            return limit;
+            return None;
         }
     }
-    k
+    Some(k)
 }
 
-// The whole word, or of it the rows whose own check is not silent: the number of positions that change, or one more than n/2 if there
-// are that many.
+// The whole word, or of it the rows whose own check is not silent: the number of positions that change, or none if there are
+// more than n/2.
 pub fn locate(
-    shape: Shape,
-    table: &[u8],
+    checks: Checks,
     syn: &[u32; 248],
     loud: bool,
     places: &mut [usize; 8],
-) -> usize
-    requires { Lawful shape × Tabled shape table.now × (length places.old ≡ 8) }
-    ensures { Scanned (found_in shape syn.now loud) (too_many_changes shape) (word_length shape) result places.new }
+) -> Option<usize>
+    requires { length places.old ≡ 8 }
+    ensures { Scanned (found_in checks.shape syn.now loud) (too_many_changes checks.shape) (word_length checks.shape) result places.new }
 {
-    let q = shape.q as usize;
-    let n = shape.n as usize;
-    let limit = n / 2 + 1;
+    let q = checks.shape.q as usize;
     let mut found = 0;
     for row in 0..q {
-        found = scan_row(shape, table, syn, loud, row, places, found);
-        if limit <= found {
-            return limit;
-        }
+        found = scan_row(checks, syn, loud, row, places, found)?;
     }
-    found
+    Some(found)
 }

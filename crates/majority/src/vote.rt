@@ -1,23 +1,19 @@
 // The vote at one position: the nonzero value that more than half of its checks show.
 ghost use Rattle.std.specs.Prelude.{◌≡◌, ◌*◌, ◌<◌, ◌≤◌};
-ghost use Rattle.gtb.specs.Shape.{Lawful, word_length};
+ghost use Rattle.gtb.specs.Shape.{word_length};
 ghost use Rattle.gtb.specs.Square.{at};
-ghost use Rattle.correction.specs.Shipped.{Tabled};
 ghost use Rattle.majority.specs.Majority.{majority};
 ghost use Rattle.majority.specs.Steps.{prevailing, voted_in};
 
-use correction::values::{gather, shown};
-use gtb::Shape;
+use correction::checks::Checks;
+use correction::values::shown;
 
 // x is not 0, and more than half of the n values are x.
 fn prevails(values: &[u32; 8], n: usize, x: u32) -> bool
     requires { n ≤ 8 }
     ensures { result ≡ prevailing n (at values.now) x }
 {
-    if x == 0 {
-        return false;
-    }
-    n < 2 * shown(values, n, x)
+    x != 0 && n < 2 * shown(values, n, x)
 }
 
 // The value that prevails, or 0.
@@ -25,21 +21,17 @@ fn elect(values: &[u32; 8], n: usize) -> u32
     requires { n ≤ 8 }
     ensures { result ≡ majority n (at values.now) }
 {
-    for t in 0..n {
-        let value = values[t];
-        if prevails(values, n, value) {
-            return value;
-        }
+    match values[..n].iter().position(|x| prevails(values, n, *x)) {
+        Some(t) => values[t],
+        None => 0,
     }
-    0
 }
 
 // The change at position j.
-pub fn vote(shape: Shape, table: &[u8], syn: &[u32; 248], j: usize) -> u32
-    requires { Lawful shape × Tabled shape table.now × (j < word_length shape) }
-    ensures { result ≡ voted_in shape syn.now j }
+pub fn vote(checks: Checks, syn: &[u32; 248], j: usize) -> u32
+    requires { j < word_length checks.shape }
+    ensures { result ≡ voted_in checks.shape syn.now j }
 {
-    let n = shape.n as usize;
-    let values = gather(shape, table, syn, j);
-    elect(&values, n)
+    let n = checks.shape.n as usize;
+    elect(&checks.gather(syn, j), n)
 }

@@ -19,7 +19,7 @@ use Rattle.distance.proofs.Differences.{differs}
 use Rattle.distance.proofs.Near.{near_within}
 use Rattle.distance.proofs.Between.{Between, between}
 use Rattle.distance.proofs.Sharp.{sharp_full, sharp_shipped}
-use Rattle.correction.specs.declared.Decoded.TheVariants.{Corrected}
+use Rattle.std.specs.Prelude.{Ok}
 use Rattle.correction.specs.Reading.{Reader, restored_by, read_of, Meaning}
 use Rattle.correction.proofs.Readings.{read_accepted, Meant, read_means}
 use Rattle.decoder.specs.Decode.{decode_of, restored}
@@ -34,21 +34,21 @@ use Rattle.nearest.proofs.Meaning.{near_nearest}
 -- ---- a reader that accepts no more than n - 1 wrong symbols
 pub accepts_all : {reader : Reader} {Means : Meaning} → Meant reader Means → (s : Shape)
     → (Lawful s → reader.suits s ≡ true → (w v : List ℕ) (k : ℕ) → Means s w v k → Near s (s.n - 1) w v k)
-    → (w : List ℕ) (k : ℕ) → read_of reader s w ≡ Corrected k → (nearest_of s w ≡ Corrected k) × (nearest_word s w ≡ restored_by reader s w)
+    → (w : List ℕ) (k : ℕ) → read_of reader s w ≡ Ok k → (nearest_of s w ≡ Ok k) × (nearest_word s w ≡ restored_by reader s w)
 accepts_all {reader} m s near w k h =
     let a = read_accepted reader s w k h in
     near_nearest s a.lawful w (restored_by reader s w) k (near a.lawful a.suits w (restored_by reader s w) k (read_means m s w k h))
 
 -- clean reading
-pub accepts_clean : (s : Shape) (w : List ℕ) (k : ℕ) → decode_of s w ≡ Corrected k → (nearest_of s w ≡ Corrected k) × (nearest_word s w ≡ restored s w)
+pub accepts_clean : (s : Shape) (w : List ℕ) (k : ℕ) → decode_of s w ≡ Ok k → (nearest_of s w ≡ Ok k) × (nearest_word s w ≡ restored s w)
 accepts_clean s = accepts_all clean_meant s (λ law fits. explains_near s)
 
 -- the vote
-pub accepts_vote : (s : Shape) (w : List ℕ) (k : ℕ) → majority_of s w ≡ Corrected k → (nearest_of s w ≡ Corrected k) × (nearest_word s w ≡ voted s w)
+pub accepts_vote : (s : Shape) (w : List ℕ) (k : ℕ) → majority_of s w ≡ Ok k → (nearest_of s w ≡ Ok k) × (nearest_word s w ≡ voted s w)
 accepts_vote s = accepts_all vote_meant s (λ law fits w v k x. near_within x (omega (arith, x.few, (bounds s law).n2)))
 
 -- two wrong symbols
-pub accepts_two : (s : Shape) (w : List ℕ) (k : ℕ) → two_of s w ≡ Corrected k → (nearest_of s w ≡ Corrected k) × (nearest_word s w ≡ two_restored s w)
+pub accepts_two : (s : Shape) (w : List ℕ) (k : ℕ) → two_of s w ≡ Ok k → (nearest_of s w ≡ Ok k) × (nearest_word s w ≡ two_restored s w)
 accepts_two s = accepts_all two_meant s (λ law fits w v k x. near_within x (omega (arith, x.few, leb-true 3 s.n fits)))
 
 -- ---- the most that any reader can promise

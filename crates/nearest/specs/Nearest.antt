@@ -1,12 +1,11 @@
 -- The nearest codeword: any damage to at most n - 1 symbols, masked or not (RULES 3.5).
-use Rattle.std.specs.Prelude.{Bool, true, not, ◌&&◌, ◌||◌, List, ℕ, zero, suc, ◌-◌, eqb}
+use Rattle.std.specs.Prelude.{Bool, true, not, ◌&&◌, ◌||◌, List, ℕ, zero, suc, ◌-◌, eqb, Result}
 use Rattle.parity.specs.Count.{any, lowest_not, first_value}
 use Rattle.gtb.specs.declared.Shape.{Shape}
 use Rattle.gtb.specs.declared.Refusal.{Refusal}
 use Rattle.gtb.specs.Shape.{word_length}
 use Rattle.gtb.specs.Square.{silent_test}
 use Rattle.distance.specs.Distance.{Near}
-use Rattle.correction.specs.declared.Decoded.{Decoded}
 use Rattle.correction.specs.Error.{on_check, off}
 use Rattle.correction.specs.Reading.{Reader, restored_by, read_of, Reads}
 
@@ -33,12 +32,12 @@ nearest = record {
   suits = λ s. true;
 }
 
-abbrev pub nearest_of : Shape → List ℕ → Decoded
+abbrev pub nearest_of : Shape → List ℕ → Result ℕ Refusal
 nearest_of = read_of nearest
 
 abbrev pub nearest_word : Shape → List ℕ → List ℕ
 nearest_word = restored_by nearest
 
 -- reading the nearest codeword: one differs from the word that came in at most n - 1 symbols
-abbrev pub Restoring : Shape → List ℕ → List ℕ → Decoded → Type 0
+abbrev pub Restoring : Shape → List ℕ → List ℕ → Result ℕ Refusal → Type 0
 Restoring = Reads nearest (λ s. Near s (s.n - 1))

@@ -10,14 +10,11 @@ use lib.Seq.{length-take-le, take-append_seam, drop-append_seam, drop-drop}
 use borrow.Author.Tests.{eq-eqb, eqb-true, lt-ltb, ltb-true, le-leb, lt-leb, leb-true}
 use Rattle.gtb.specs.declared.Shape.{Shape}
 use Rattle.gtb.specs.declared.Refusal.{Refusal}
-use Rattle.gtb.specs.declared.Status.{Status}
-use Rattle.gtb.specs.declared.Status.TheVariants.{Done}
+use Rattle.std.specs.Prelude.{Result, Ok, Err}
 use Rattle.gtb.specs.Shape.{lawful, Lawful, info_length}
 use Rattle.gtb.specs.Square.{narrow}
 use Rattle.gtb.proofs.Answers.{unless_passed, unless_done, refusal_small}
 use Rattle.gtb.proofs.Sizes.{sizes}
-use Rattle.page.specs.declared.PageRead.{PageRead}
-use Rattle.page.specs.declared.PageRead.TheVariants.{Page, Refused}
 use Rattle.page.specs.Page.{functions, zeros, most, page_of, marks_in, marks_of, write_status, page_symbols, symbols_after, read_number, Writing}
 use Rattle.gtb.specs.Answer.{unless}
 use Rattle.page.specs.Steps.{Sized}
@@ -37,8 +34,8 @@ pub few_marks : (s : Shape) (c k : ℕ) → k ≡ info_length s → c ≤ k - 2 
 few_marks s c k e l = le-leb c (most s) (omega arith)
 
 -- an answer that is no refusal passed the test
-page_passed : (t : Bool) (e : Refusal) (next : PageRead) {number c : ℕ} → unless t (Refused e) next ≡ Page number c → (t ≡ true) × (next ≡ Page number c)
-page_passed t e next = unless_passed t (Refused e) next (λ h. let z : ◌≡◌ {A = ℕ} 0 1 = cc in omega arith)
+page_passed : (t : Bool) (e : Refusal) (next : Result (ℕ × ℕ) Refusal) {number c : ℕ} → unless t (Err e) next ≡ Ok (number, c) → (t ≡ true) × (next ≡ Ok (number, c))
+page_passed t e next = unless_passed t (Err e) next (λ h. let z : ◌≡◌ {A = ℕ} 0 1 = cc in omega arith)
 
 -- the page reader's tests, all passed
 pub record Passed (s : Shape) (symbols : List ℕ) : Type 0 where
@@ -50,11 +47,11 @@ pub record Passed (s : Shape) (symbols : List ℕ) : Type 0 where
   pub calls : functions (take (get_or symbols 1 0) (drop 2 symbols)) ≡ true
   pub tail : zeros (drop (2 + get_or symbols 1 0) symbols) ≡ true
 
-pub passed_read : (s : Shape) (symbols : List ℕ) → Passed s symbols → page_of s symbols ≡ Page (get_or symbols 0 0) (get_or symbols 1 0)
+pub passed_read : (s : Shape) (symbols : List ℕ) → Passed s symbols → page_of s symbols ≡ Ok (get_or symbols 0 0, get_or symbols 1 0)
 unfolding page_of
 passed_read s symbols p = rw (p.legal, p.size, p.width, p.page, p.few, p.calls, p.tail)
 
-read_passed : (s : Shape) (symbols : List ℕ) (number c : ℕ) → page_of s symbols ≡ Page number c →
+read_passed : (s : Shape) (symbols : List ℕ) (number c : ℕ) → page_of s symbols ≡ Ok (number, c) →
     Passed s symbols × (get_or symbols 0 0 ≡ number) × (get_or symbols 1 0 ≡ c)
 unfolding page_of
 read_passed s symbols number c h =
@@ -67,17 +64,18 @@ read_passed s symbols number c h =
     let (tail, e) = page_passed (zeros (drop (2 + get_or symbols 1 0) symbols)) _ _ h6 in
     let p : Passed s symbols =
     record { legal = legal; size = size; width = width; page = page; few = few; calls = calls; tail = tail } in
-    (p, cc, cc)
+    let read : ◌≡◌ {A = ℕ × ℕ} (get_or symbols 0 0, get_or symbols 1 0) (number, c) = cc in
+    (p, ap (λ x. x.0) read, ap (λ x. x.1) read)
 
 -- what the page reader's answer says of the marks
-pub marks_of_lem : (s : Shape) (symbols : List ℕ) (number c : ℕ) → page_of s symbols ≡ Page number c → marks_of s symbols ≡ take c (drop 2 symbols)
+pub marks_of_lem : (s : Shape) (symbols : List ℕ) (number c : ℕ) → page_of s symbols ≡ Ok (number, c) → marks_of s symbols ≡ take c (drop 2 symbols)
 unfolding marks_of
 marks_of_lem s symbols number c h = ap (marks_in symbols) h
 
-pub no_page : {e : Refusal} {number c : ℕ} → Refused e ≡ Page number c → ⊥
+pub no_page : {e : Refusal} {number c : ℕ} → ◌≡◌ {A = Result (ℕ × ℕ) Refusal} (Err e) (Ok (number, c)) → ⊥
 no_page h = let z : ◌≡◌ {A = ℕ} 0 1 = cc in omega arith
 
-pub no_marks : (s : Shape) (symbols : List ℕ) (e : Refusal) → page_of s symbols ≡ Refused e → marks_of s symbols ≡ []
+pub no_marks : (s : Shape) (symbols : List ℕ) (e : Refusal) → page_of s symbols ≡ Err e → marks_of s symbols ≡ []
 unfolding marks_of
 no_marks s symbols e h = ap (marks_in symbols) h
 
@@ -92,7 +90,7 @@ pub record PageFacts (s : Shape) (symbols : List ℕ) (n c : ℕ) : Type 0 where
   pub marks : (i : ℕ) → i < c → get_or (marks_of s symbols) i 0 < 256
   pub length : length (marks_of s symbols) ≡ c
 
-pub page_facts : (s : Shape) (symbols : List ℕ) (number c : ℕ) → page_of s symbols ≡ Page number c → PageFacts s symbols number c
+pub page_facts : (s : Shape) (symbols : List ℕ) (number c : ℕ) → page_of s symbols ≡ Ok (number, c) → PageFacts s symbols number c
 page_facts s symbols number c h =
     let (p, e₀, e₁) = read_passed s symbols number c h in
     let size : length symbols ≡ info_length s = eqb-true _ _ p.size in
@@ -115,21 +113,21 @@ page_facts s symbols number c h =
     }
 
 -- the marks lie within the symbols
-pub marks_within : (s : Shape) (symbols : List ℕ) (number c : ℕ) → page_of s symbols ≡ Page number c → 2 + c ≤ length symbols
+pub marks_within : (s : Shape) (symbols : List ℕ) (number c : ℕ) → page_of s symbols ≡ Ok (number, c) → 2 + c ≤ length symbols
 marks_within s symbols number c h =
     let f = page_facts s symbols number c h in
     let two = (sizes s f.lawful).least in
     omega arith
 
 -- they are few
-marks_fit : (s : Shape) (symbols : List ℕ) (r : PageRead) → page_of s symbols ≡ r → (length (marks_in symbols r) ≤ length symbols) × (length (marks_in symbols r) ≤ 898)
-marks_fit s symbols (Page number c) h =
+marks_fit : (s : Shape) (symbols : List ℕ) (r : Result (ℕ × ℕ) Refusal) → page_of s symbols ≡ r → (length (marks_in symbols r) ≤ length symbols) × (length (marks_in symbols r) ≤ 898)
+marks_fit s symbols (Ok (number, c)) h =
     let f = page_facts s symbols number c h in
     let size : length (take c (drop 2 symbols)) ≡ c = ap length (sym (marks_of_lem s symbols number c h)) ∙ f.length in
     let within = marks_within s symbols number c h in
     let most = (sizes s f.lawful).info in
     (omega (arith, f.size), omega (arith, f.size))
-marks_fit s symbols (Refused e) h = (omega arith, omega arith)
+marks_fit s symbols (Err e) h = (omega arith, omega arith)
 
 pub marks_few : (s : Shape) (symbols : List ℕ) → (length (marks_of s symbols) ≤ length symbols) × (length (marks_of s symbols) ≤ 898)
 unfolding marks_of
@@ -148,7 +146,7 @@ pub record Writable (s : Shape) (number : ℕ) (marks : List ℕ) : Type 0 where
   pub calls : functions marks ≡ true
   pub width : narrow s.b (number ∷ length marks ∷ marks) ≡ true
 
-pub writable : (s : Shape) (number : ℕ) (marks symbols : List ℕ) → write_status s number marks symbols ≡ Done → Writable s number marks
+pub writable : (s : Shape) (number : ℕ) (marks symbols : List ℕ) → write_status s number marks symbols ≡ Ok tt → Writable s number marks
 unfolding write_status
 writable s number marks symbols h =
     let (legal, h1) = unless_done (lawful s) _ _ h in
@@ -176,11 +174,11 @@ written_passed s number marks w =
           ∙ zeros_replicate k;
     }
 
-pub write_read : (s : Shape) (number : ℕ) (marks symbols : List ℕ) → write_status s number marks symbols ≡ Done →
-    (page_of s (page_symbols s number marks) ≡ Page number (length marks)) × (marks_of s (page_symbols s number marks) ≡ marks)
+pub write_read : (s : Shape) (number : ℕ) (marks symbols : List ℕ) → write_status s number marks symbols ≡ Ok tt →
+    (page_of s (page_symbols s number marks) ≡ Ok (number, length marks)) × (marks_of s (page_symbols s number marks) ≡ marks)
 unfolding page_symbols
 write_read s number marks symbols h =
-    let e : page_of s (page_symbols s number marks) ≡ Page number (length marks) =
+    let e : page_of s (page_symbols s number marks) ≡ Ok (number, length marks) =
     passed_read s (page_symbols s number marks) (written_passed s number marks (writable s number marks symbols h)) in
     (e, marks_of_lem s (page_symbols s number marks) number (length marks) e ∙ take-append_seam marks (replicate (most s - length marks) 0))
 
@@ -191,7 +189,7 @@ two_first (x ∷ []) h = absurd (omega arith)
 two_first (x ∷ y ∷ xs) h = refl
 
 -- a page that is read holds its number, its marks and nothing else
-page_whole : (s : Shape) (symbols : List ℕ) (number c : ℕ) → page_of s symbols ≡ Page number c → page_symbols s number (marks_of s symbols) ≡ symbols
+page_whole : (s : Shape) (symbols : List ℕ) (number c : ℕ) → page_of s symbols ≡ Ok (number, c) → page_symbols s number (marks_of s symbols) ≡ symbols
 unfolding page_symbols
 page_whole s symbols number c h =
     let f = page_facts s symbols number c h in
@@ -204,8 +202,8 @@ page_whole s symbols number c h =
     rw (rest, marks_of_lem s symbols number c h) (take-append-drop c (drop 2 symbols)) in
     rw (f.length, body, ← f.number, ← f.count) (two_first symbols (omega arith))
 
-pub read_write : (s : Shape) (symbols : List ℕ) (number c : ℕ) → page_of s symbols ≡ Page number c →
-    (write_status s number (marks_of s symbols) symbols ≡ Done) × (page_symbols s number (marks_of s symbols) ≡ symbols)
+pub read_write : (s : Shape) (symbols : List ℕ) (number c : ℕ) → page_of s symbols ≡ Ok (number, c) →
+    (write_status s number (marks_of s symbols) symbols ≡ Ok tt) × (page_symbols s number (marks_of s symbols) ≡ symbols)
 unfolding write_status page_symbols
 read_write s symbols number c h =
     let f = page_facts s symbols number c h in
@@ -219,16 +217,16 @@ read_write s symbols number c h =
     (rw (p.legal, p.size, lt-ltb _ _ f.page, few, calls, width), whole)
 
 -- the writer's contract from its two equations
-pub writing : {s : Shape} {page : ℕ} {marks symbols symbols' : List ℕ} {r : Status} → r ≡ write_status s page marks symbols
+pub writing : {s : Shape} {page : ℕ} {marks symbols symbols' : List ℕ} {r : Result (Unit {0}) Refusal} → r ≡ write_status s page marks symbols
     → symbols' ≡ symbols_after s page marks symbols r → Writing s page marks symbols symbols' r
 writing answer written = record { answer = answer; written = written }
 
 -- ---- the answer's number fits 32 bits
-read_small : (s : Shape) (symbols : List ℕ) (r : PageRead) → page_of s symbols ≡ r → read_number r < 2 ^ 32
-read_small s symbols (Page number c) h =
+read_small : (s : Shape) (symbols : List ℕ) (r : Result (ℕ × ℕ) Refusal) → page_of s symbols ≡ r → read_number r < 2 ^ 32
+read_small s symbols (Ok (number, c)) h =
     let f = page_facts s symbols number c h in
     omega (arith, f.page, f.few, (sizes s f.lawful).info)
-read_small s symbols (Refused e) h = omega (arith, refusal_small e)
+read_small s symbols (Err e) h = omega (arith, refusal_small e)
 
 -- what the page reader answers: page number and number of marks are small
 pub read_fits : (s : Shape) (symbols : List ℕ) → read_number (page_of s symbols) < 2 ^ 32

@@ -4,12 +4,9 @@ use mathlib.Core.List.{List, [], ◌∷◌, ◌++◌, append-nil}
 use Prim.Native.Nat.{ℕ, ◌+◌, ◌-◌, ◌≤◌}
 use native.Mathlib.Nat.{le_of_eq}
 use native.Mathlib.Omega.{arith}
-use lib.ListN.{length, take, drop, set, replicate, length-drop, length-set, drop_of_length-le}
+use lib.ListN.{length, take, drop, set, replicate, length-append, length-drop, drop_of_length-le}
 use lib.Seq.{take_all, take_at}
-use borrow.Rule.Slice.PartMut.{mid_of, put_mid, same_len_mid}
-use Rattle.gtb.specs.declared.Shape.{Shape}
-use Rattle.gtb.specs.Shape.{info_length}
-use Rattle.page.specs.Page.{most, page_symbols}
+use borrow.Rule.Slice.PartMut.{mid_of, put_mid}
 
 -- the part from a to the end
 pub rest_part : (a : ℕ) (xs : List ℕ) → take (length xs - a) (drop a xs) ≡ drop a xs
@@ -24,32 +21,28 @@ pub put_rest : (a : ℕ) (xs ys : List ℕ) → put_mid a (length xs - a) xs ys 
 put_rest a xs ys = ap (λ (zs : List ℕ). take a xs ++ (ys ++ zs)) (drop_of_length-le (drop a xs) (le_of_eq (length-drop a xs)))
     ∙ ap (λ (zs : List ℕ). take a xs ++ zs) (append-nil ys)
 
--- page number, number of marks and marks are written
+-- page number, number of marks and marks are written, and the rest is cleared
 abbrev headed : ℕ → List ℕ → List ℕ → List ℕ
 headed number marks old = set (set old 0 number) 1 (length marks)
 
-pub begun : (number : ℕ) (marks old : List ℕ) {part : List ℕ} → 2 ≤ length old →
-    part ≡ marks ++ drop (length marks) (mid_of 2 (length (headed number marks old) - 2) (headed number marks old)) →
-    put_mid 2 (length (headed number marks old) - 2) (headed number marks old) part ≡ number ∷ length marks ∷ (marks ++ drop (length marks) (drop 2 old))
-begun number marks [] two e = absurd (omega arith)
-begun number marks (x ∷ []) two e = absurd (omega arith)
-begun number marks (x ∷ y ∷ old) two e =
-    put_rest 2 (number ∷ length marks ∷ old) _ ∙ ap (λ (zs : List ℕ). number ∷ length marks ∷ zs) (e ∙ rw (rest_part 2 (number ∷ length marks ∷ old)))
+abbrev begun : ℕ → List ℕ → List ℕ → List ℕ → List ℕ
+begun number marks old part = put_mid 2 (2 + length marks - 2) (headed number marks old) part
 
-pub begun_length : (number : ℕ) (marks old part : List ℕ) →
-    length part ≡ length (mid_of 2 (length (headed number marks old) - 2) (headed number marks old)) →
-    length (put_mid 2 (length (headed number marks old) - 2) (headed number marks old) part) ≡ length old
-begun_length number marks old part e =
-    same_len_mid 2 (length (headed number marks old) - 2) (headed number marks old) part e ∙ simp length-set
+cleared : (a : ℕ) (xs rest : List ℕ) {now tail : List ℕ} → length xs ≡ a → now ≡ xs ++ rest → tail ≡ replicate (length (mid_of a (length now - a) now)) 0
+    → put_mid a (length now - a) now tail ≡ xs ++ replicate (length rest) 0
+cleared a xs rest {now} {tail} same e t =
+    let head : take a now ≡ xs = rw e (take_at xs rest a same) in
+    let left : length (mid_of a (length now - a) now) ≡ length rest = rw (rest_part a now, length-drop, e, length-append) (omega arith) in
+    put_rest a now tail ∙ rw (head, t, left)
 
--- the rest is cleared
-pub finished : (s : Shape) (number : ℕ) (marks rest : List ℕ) {now tail : List ℕ} → now ≡ number ∷ length marks ∷ (marks ++ rest) →
-    length now ≡ info_length s → tail ≡ replicate (length (mid_of (2 + length marks) (length now - (2 + length marks)) now)) 0 →
-    put_mid (2 + length marks) (length now - (2 + length marks)) now tail ≡ page_symbols s number marks
-unfolding page_symbols
-finished s number marks rest {now} {tail} e size t =
-    let head : take (2 + length marks) now ≡ number ∷ length marks ∷ marks =
-    rw e (take_at (number ∷ length marks ∷ marks) rest (2 + length marks) (omega arith)) in
-    let left : length (mid_of (2 + length marks) (length now - (2 + length marks)) now) ≡ most s - length marks =
-    rw (rest_part (2 + length marks) now, length-drop) (omega arith) in
-    put_rest (2 + length marks) now tail ∙ rw (head, t, left)
+pub filled : (number : ℕ) (marks old : List ℕ) {part tail : List ℕ} → 2 + length marks ≤ length old → part ≡ marks →
+    tail ≡ replicate (length (mid_of (2 + length marks) (length (begun number marks old part) - (2 + length marks)) (begun number marks old part))) 0 →
+    put_mid (2 + length marks) (length (begun number marks old part) - (2 + length marks)) (begun number marks old part) tail
+    ≡ number ∷ length marks ∷ (marks ++ replicate (length old - 2 - length marks) 0)
+filled number marks [] fits same t = absurd (omega arith)
+filled number marks (x ∷ []) fits same t = absurd (omega arith)
+filled number marks (x ∷ y ∷ old) {part} fits same t =
+    let c : 2 + length marks - 2 ≡ length marks = omega arith in
+    let now : begun number marks (x ∷ y ∷ old) part ≡ number ∷ length marks ∷ (marks ++ drop (length marks) old) = rw (same, c) in
+    let left : length (drop (length marks) old) ≡ length (x ∷ y ∷ old) - 2 - length marks = rw length-drop (omega arith) in
+    cleared (2 + length marks) (number ∷ length marks ∷ marks) (drop (length marks) old) (omega arith) now t ∙ rw left

@@ -12,15 +12,14 @@ use Rattle.gtb.specs.Shape.{lawful, shape_refusal, info_length}
 use Rattle.gtb.specs.Square.{narrow}
 use Rattle.gtb.specs.Answer.{unless}
 use Rattle.gtb.proofs.Answers.{unless_never, Foreign}
-use Rattle.page.specs.declared.PageRead.{PageRead}
-use Rattle.page.specs.declared.PageRead.TheVariants.{Refused}
+use Rattle.std.specs.Prelude.{Result, Err}
 use Rattle.page.specs.Page.{functions, zeros, most, page_of}
 
-next : (t : Bool) (e e' : Refusal) (r : PageRead) → (t ≡ false → e ≡ e' → ⊥) → (r ≡ Refused e' → ⊥) → unless t (Refused e) r ≡ Refused e' → ⊥
-next t e e' r ne = unless_never t (Refused e) r (λ f h. ne f (cc))
+next : (t : Bool) (e e' : Refusal) (r : Result (ℕ × ℕ) Refusal) → (t ≡ false → e ≡ e' → ⊥) → (r ≡ Err e' → ⊥) → unless t (Err e) r ≡ Err e' → ⊥
+next t e e' r ne = unless_never t (Err e) r (λ f h. ne f (cc))
 
 -- it has no other
-pub page_never : (s : Shape) (symbols : List ℕ) (e : Refusal) → Foreign s e → page_of s symbols ≡ Refused e → ⊥
+pub page_never : (s : Shape) (symbols : List ℕ) (e : Refusal) → Foreign s e → page_of s symbols ≡ Err e → ⊥
 unfolding page_of
 page_never s symbols e f =
     next (lawful s) (shape_refusal s) e _ f.shape

@@ -3,25 +3,19 @@
 
 pub mod number;
 
-ghost use Rattle.std.specs.Prelude.{true, List, ◌∷◌, ◌≡◌, ℕ, ◌≤◌, length};
+ghost use Rattle.std.specs.Prelude.{true, List, ◌∷◌, ◌≡◌, ◌++◌, ℕ, ◌+◌, ◌-◌, ◌≤◌, length, replicate};
 ghost use Rattle.paper.specs.Page.{PageReading, Marks, PageWriting};
 ghost use Rattle.gtb.specs.Answer.{status_number};
-ghost use Rattle.gtb.specs.Shape.{of, Lawful, info_length};
+ghost use Rattle.gtb.specs.Shape.{of, info_length};
 ghost use Rattle.gtb.specs.Square.{narrow};
-ghost use Rattle.page.specs.Page.{functions, zeros, read_number, page_of, MarksPart, write_status, page_symbols, most, Writing};
+ghost use Rattle.page.specs.Page.{functions, zeros, read_number, page_of, MarksPart, write_status, Writing};
 ghost use Rattle.page.specs.Steps.{Sized};
 
-use gtb::size::info_length;
-use gtb::{Refusal, Shape, Status};
-
-// The answer of the page reader: page number and number of marks, or a refusal.
-#[derive(Clone, Copy)]
-pub enum PageRead {
-    Page(u32, u32),
-    Refused(Refusal),
-}
+use gtb::code::Code;
+use gtb::{Refusal, Shape};
 
 // Every mark is a function number.
+#[tactic(auto, using(crate::proofs::Entries::narrow_functions))]
 fn are_functions(marks: &[u32]) -> bool
     ensures { result ≡ functions marks.now }
 {
@@ -29,6 +23,7 @@ fn are_functions(marks: &[u32]) -> bool
 }
 
 // Only the number 0 has no bit.
+#[tactic(auto, using(crate::proofs::Entries::narrow_zeros))]
 fn are_zeros(symbols: &[u32]) -> bool
     ensures { result ≡ zeros symbols.now }
 {
@@ -36,7 +31,7 @@ fn are_zeros(symbols: &[u32]) -> bool
 }
 
 // The page reader's tests 5 to 8, past the others.
-pub fn read_narrow(shape: Shape, symbols: &[u32]) -> PageRead
+pub fn read_narrow(shape: Shape, symbols: &[u32]) -> Result<(u32, u32), Refusal>
     requires { (Sized shape symbols.now) × (narrow shape.b symbols.now ≡ true) }
     ensures { result ≡ page_of shape symbols.now }
 {
@@ -44,36 +39,34 @@ pub fn read_narrow(shape: Shape, symbols: &[u32]) -> PageRead
     let count = symbols[1];
     let c = count as usize;
     if 1024 <= number {
-        return PageRead::Refused(Refusal::Page);
+        return Err(Refusal::Page);
     }
     if symbols.len() - 2 < c {
-        return PageRead::Refused(Refusal::Count);
+        return Err(Refusal::Count);
     }
     let end = 2 + c;
     if !are_functions(&symbols[2..end]) {
-        return PageRead::Refused(Refusal::Function);
+        return Err(Refusal::Function);
     }
     if !are_zeros(&symbols[end..]) {
-        return PageRead::Refused(Refusal::Tail);
+        return Err(Refusal::Tail);
     }
-    PageRead::Page(number, count)
+    Ok((number, count))
 }
 
 // Page number and number of marks.
-pub fn read_page(shape: Shape, symbols: &[u32]) -> PageRead
+pub fn read_page(shape: Shape, symbols: &[u32]) -> Result<(u32, u32), Refusal>
     ensures read { result ≡ page_of shape symbols.now }
     ensures paper { PageReading (of shape) symbols.now (read_number result) }
 {
-    if !gtb::is_lawful(shape) {
-        return PageRead::Refused(gtb::shape_refusal(shape));
+    let code = Code::of(shape)?;
+    if symbols.len() != code.info_length() {
+        return Err(Refusal::Length);
     }
-    if symbols.len() != info_length(shape) {
-        return PageRead::Refused(Refusal::Length);
+    if !gtb::is_narrow(symbols, code.shape.b) {
+        return Err(Refusal::Width);
     }
-    if !gtb::is_narrow(symbols, shape.b) {
-        return PageRead::Refused(Refusal::Width);
-    }
-    read_narrow(shape, symbols)
+    read_narrow(code.shape, symbols)
 }
 
 // The marks, as a part of the symbols; empty where the page reader refuses.
@@ -82,11 +75,11 @@ pub fn marks(shape: Shape, symbols: &[u32]) -> &[u32]
     ensures paper { Marks (of shape) symbols.now result.now }
 {
     match read_page(shape, symbols) {
-        PageRead::Page(_, count) => {
+        Ok((_, count)) => {
             let end = 2 + count as usize;
             &symbols[2..end]
         }
-        PageRead::Refused(_) => &symbols[..0],
+        Err(_) => &symbols[..0],
     }
 }
 
@@ -96,66 +89,56 @@ fn is_narrow_page(b: u32, number: u32, marks: &[u32]) -> bool
     ensures { result ≡ narrow b (number ∷ length marks.now ∷ marks.now) }
 {
     let bound = 1u64 << b;
-    if bound <= number as u64 {
-        return false;
-    }
-    if bound <= marks.len() as u64 {
-        return false;
-    }
-    gtb::is_narrow(marks, b)
+    (number as u64) < bound && (marks.len() as u64) < bound && gtb::is_narrow(marks, b)
 }
 
 // The page writer's tests 5, 6, 7, 3.
-fn status(shape: Shape, number: u32, marks: &[u32]) -> Status
-    requires { Lawful shape }
-    ensures { (symbols : List ℕ) → length symbols ≡ info_length shape → result ≡ write_status shape number marks.now symbols }
+fn status(code: Code, number: u32, marks: &[u32]) -> Result<(), Refusal>
+    ensures { (symbols : List ℕ) → length symbols ≡ info_length code.shape → result ≡ write_status code.shape number marks.now symbols }
 {
-    let paged = number < 1024;
-    let narrow = is_narrow_page(shape.b, number, marks);
-    if !paged {
-        return Status::Refused(Refusal::Page);
+    if 1024 <= number {
+        return Err(Refusal::Page);
     }
-    if info_length(shape) - 2 < marks.len() {
-        return Status::Refused(Refusal::Count);
+    if code.info_length() - 2 < marks.len() {
+        return Err(Refusal::Count);
     }
     if !are_functions(marks) {
-        return Status::Refused(Refusal::Function);
+        return Err(Refusal::Function);
     }
-    if !narrow {
-        return Status::Refused(Refusal::Width);
+    if !is_narrow_page(code.shape.b, number, marks) {
+        return Err(Refusal::Width);
     }
-    Status::Done
+    Ok(())
 }
 
 // Writes a page.
-fn fill(shape: Shape, number: u32, marks: &[u32], symbols: &mut [u32])
-    requires { (Sized shape symbols.old) × (length marks.now ≤ most shape) }
-    ensures { symbols.new ≡ page_symbols shape number marks.now }
+fn fill(number: u32, marks: &[u32], symbols: &mut [u32])
+    requires { (2 + length marks.now ≤ length symbols.old) × (length symbols.old ≤ 900) }
+    ensures { symbols.new ≡ number ∷ length marks.now ∷ (marks.now ++ replicate (length symbols.old - 2 - length marks.now) 0) }
 {
     let c = marks.len();
     symbols[0] = number;
     symbols[1] = c as u32;
-    gtb::copy(marks, &mut symbols[2..]);
+    symbols[2..2 + c].copy_from_slice(marks);
     let rest = 2 + c;
-    gtb::clear(&mut symbols[rest..]);
+    symbols[rest..].fill(0);
 }
 
 // Fills the lent symbols with the page, or refuses and leaves them.
-pub fn write_page(shape: Shape, number: u32, marks: &[u32], symbols: &mut [u32]) -> Status
+pub fn write_page(
+    shape: Shape,
+    number: u32,
+    marks: &[u32],
+    symbols: &mut [u32],
+) -> Result<(), Refusal>
     ensures written { Writing shape number marks.now symbols.old symbols.new result }
     ensures paper { PageWriting (of shape) number marks.now symbols.old symbols.new (status_number result) }
 {
-    if !gtb::is_lawful(shape) {
-        return Status::Refused(gtb::shape_refusal(shape));
+    let code = Code::of(shape)?;
+    if symbols.len() != code.info_length() {
+        return Err(Refusal::Length);
     }
-    if symbols.len() != info_length(shape) {
-        return Status::Refused(Refusal::Length);
-    }
-    match status(shape, number, marks) {
-        Status::Done => {
-            fill(shape, number, marks, symbols);
-            Status::Done
-        }
-        Status::Refused(e) => Status::Refused(e),
-    }
+    status(code, number, marks)?;
+    fill(number, marks, symbols);
+    Ok(())
 }

@@ -2,14 +2,14 @@
 ghost use Rattle.std.specs.Prelude.{◌≡◌, ◌^◌, ◌<◌};
 ghost use Rattle.page.specs.Page.{read_number};
 
-use crate::PageRead;
+use gtb::Refusal;
 
-pub fn read(answer: PageRead) -> u32
+pub fn read(answer: Result<(u32, u32), Refusal>) -> u32
     requires { read_number answer < 2 ^ 32 }
     ensures { result ≡ read_number answer }
 {
     match answer {
-        PageRead::Page(number, count) => 1024 * number + count,
-        PageRead::Refused(e) => gtb::number::refused(e),
+        Ok((number, count)) => 1024 * number + count,
+        Err(e) => gtb::number::refused(e),
     }
 }

@@ -4,7 +4,7 @@ use mathlib.Core.Bool.{Bool, true, false, cond, not}
 use mathlib.Core.Logic.{⊎_elim}
 use Prim.Native.Nat.{ℕ, zero, suc, ◌+◌, ◌≤◌, ◌<◌}
 use native.Mathlib.Omega.{arith}
-use borrow.Author.Tests.{ltb-true, eqb-true, eqb-false, not-true, not-false, lt-ltb}
+use borrow.Author.Tests.{eqb-true, eqb-false, not-true, not-false, lt-ltb}
 use lib.Dec.{eqb, ltb}
 use Rattle.parity.proofs.Tests.{either, clash}
 use Rattle.capture.specs.declared.Fault.{Fault}
@@ -14,15 +14,12 @@ use Rattle.program.specs.declared.Action.{Action}
 use Rattle.program.specs.declared.Action.TheVariants.{Read, Take, Write, Look, Draw, Close, Say}
 use Rattle.program.specs.declared.State.{State}
 use Rattle.program.specs.Moves.{begun, toward_of, received_of, is_more, taken_of, closed_of, written_of, looked_of}
-use Rattle.program.specs.Steps.{rank, goes_on, measure_of, most, Going, Sound, Went, Stepped}
+use Rattle.program.specs.Steps.{rank, measure_of, most, Going, Sound, Went, Stepped}
 
 -- by either value of a test
 pub pick : {A : Type 0} (P : A → Type 0) (b : Bool) {x y : A} → (b ≡ true → P x) → (b ≡ false → P y) → P (cond b x y)
 pick P true t f = t refl
 pick P false t f = f refl
-
-pub goes_rank : (a : Action) → goes_on a ≡ true → 0 < rank a
-goes_rank a e = ltb-true 0 (rank a) e
 
 pub most_all : (a : Action) → most a ≤ 500000
 most_all a =

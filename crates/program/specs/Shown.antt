@@ -1,13 +1,7 @@
 -- What the program says besides the tally (RULES 7.5).
-use Rattle.std.specs.Prelude.{◌≡◌, cond, List, [], ◌∷◌, ◌++◌, ℕ, ◌/◌, ◌≤◌, ltb, length, take}
+use Rattle.std.specs.Prelude.{cond, List, [], ◌∷◌, ◌++◌, ℕ, ◌/◌, ltb}
 use Rattle.lines.specs.Text.{ascii, decimal}
 use Rattle.capture.specs.declared.Counts.{Counts}
-use Rattle.program.specs.declared.Text.{Text}
-
--- a text holds these bytes
-pub record Held (t : Text) (text : List ℕ) : Type 0 where
-  pub within : t.size ≤ length t.bytes
-  pub holds : take t.size t.bytes ≡ text
 
 abbrev pub usage_text : List ℕ
 usage_text =

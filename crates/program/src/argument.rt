@@ -15,28 +15,23 @@ pub enum Choice {
 }
 
 // One argument.
+// Kept as it is: of the cases of a `match` on byte strings the proof is told lengths and no bytes.
 fn meaning(argument: &[u8]) -> Choice
     ensures { result ≡ meaning_of argument.now }
 {
     if lines::is_text(argument, b"-") {
-        return Choice::Standard;
+        Choice::Standard
+    } else if lines::is_text(argument, b"--help") {
+        Choice::Help
+    } else if lines::is_text(argument, b"-h") {
+        Choice::Help
+    } else if lines::is_text(argument, b"--version") {
+        Choice::Version
+    } else if argument.starts_with(b"-") {
+        Choice::Unknown
+    } else {
+        Choice::File
     }
-    if lines::is_text(argument, b"--help") {
-        return Choice::Help;
-    }
-    if lines::is_text(argument, b"-h") {
-        return Choice::Help;
-    }
-    if lines::is_text(argument, b"--version") {
-        return Choice::Version;
-    }
-    if argument.len() == 0 {
-        return Choice::File;
-    }
-    if argument[0] == b'-' {
-        return Choice::Unknown;
-    }
-    Choice::File
 }
 
 // `count` arguments, the program's own name among them; `first` is the one after it.
@@ -44,12 +39,12 @@ pub fn choose(count: usize, first: &[u8]) -> Choice
     ensures { result ≡ choice_of count first.now }
 {
     if count < 2 {
-        return Choice::Standard;
+        Choice::Standard
+    } else if count > 2 {
+        Choice::TooMany
+    } else {
+        meaning(first)
     }
-    if count > 2 {
-        return Choice::TooMany;
-    }
-    meaning(first)
 }
 
 // How the program is used.

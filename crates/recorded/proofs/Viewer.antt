@@ -6,25 +6,22 @@ use lib.Dec.{eqb}
 use lib.ListN.{length}
 use Rattle.gtb.specs.declared.Shape.{Shape}
 use Rattle.gtb.specs.declared.Refusal.{Refusal}
-use Rattle.gtb.specs.declared.Status.{Status}
+use Rattle.std.specs.Prelude.{Result, Ok, Err}
 use Rattle.gtb.specs.Answer.{unless}
 use Rattle.gtb.specs.Alike.{Alike}
 use Rattle.session.specs.declared.Session.{Session}
-use Rattle.session.specs.declared.Fresh.{Fresh}
 use Rattle.session.specs.declared.Outcome.{Outcome}
-use Rattle.session.specs.Session.{Beginning, past}
+use Rattle.session.specs.Session.{begun_session, Beginning, past}
 use Rattle.session.specs.Arrival.{the_ways}
 use Rattle.session.specs.Recording.{Sheet, Recording, Arrival, Fits}
 use Rattle.session.specs.Claim.{Run}
 use Rattle.session.proofs.Demand.{demand3_ways}
 use Rattle.session.proofs.Alikes.{resloped, session_status_alike}
-use Rattle.coverage.specs.declared.Covered.{Covered}
-use Rattle.coverage.specs.declared.Covered.TheVariants.{Functions, Refused}
 use Rattle.coverage.specs.Coverage.{cover_count, cover_of, bytes_after, Covering, Viewed}
 use Rattle.coverage.proofs.Recording.{claimed_cover}
 
-pub fitting_cover : {s : Shape} {pages : List Sheet} {begin : Fresh} {arrivals : List Arrival} {answers : List Outcome} {end : Session} {bytes bytes' : List ℕ} {r : Covered}
-    → Recording s pages → Fits the_ways s pages arrivals → Beginning s begin → Run the_ways begin.session arrivals answers end
+pub fitting_cover : {s : Shape} {pages : List Sheet} {begin : Result Session Refusal} {arrivals : List Arrival} {answers : List Outcome} {end : Session} {bytes bytes' : List ℕ} {r : Result ℕ Refusal}
+    → Recording s pages → Fits the_ways s pages arrivals → Beginning s begin → Run the_ways (begun_session s begin) arrivals answers end
     → length bytes ≡ 256 → Covering end bytes bytes' r → Viewed pages bytes' r
 fitting_cover {s} = claimed_cover (demand3_ways s)
 
@@ -32,13 +29,13 @@ module _ (σ : Session) (slopes : List ℕ) (alike : Alike σ.shape slopes) wher
   same_answer : (bytes : List ℕ) → cover_of (resloped σ slopes) bytes ≡ cover_of σ bytes
   unfolding cover_of
   same_answer bytes =
-      ap (λ (t : Status). past t Refused (unless (eqb (length bytes) 256) (Refused Refusal.Length) (Functions (cover_count σ.calls)))) (session_status_alike σ slopes alike)
+      ap (λ (t : Result (Unit {0}) Refusal). past t Err (unless (eqb (length bytes) 256) (Err Refusal.Length) (Ok (cover_count σ.calls)))) (session_status_alike σ slopes alike)
 
-  same_bytes : (bytes : List ℕ) (r : Covered) → bytes_after σ bytes r ≡ bytes_after (resloped σ slopes) bytes r
-  same_bytes bytes (Functions k) = refl
-  same_bytes bytes (Refused e) = refl
+  same_bytes : (bytes : List ℕ) (r : Result ℕ Refusal) → bytes_after σ bytes r ≡ bytes_after (resloped σ slopes) bytes r
+  same_bytes bytes (Ok k) = refl
+  same_bytes bytes (Err e) = refl
 
-  pub cover_alike : {bytes bytes' : List ℕ} {r : Covered} → Covering σ bytes bytes' r → Covering (resloped σ slopes) bytes bytes' r
+  pub cover_alike : {bytes bytes' : List ℕ} {r : Result ℕ Refusal} → Covering σ bytes bytes' r → Covering (resloped σ slopes) bytes bytes' r
   cover_alike {bytes} {r = r} c = record {
     answer = c.answer ∙ sym (same_answer bytes);
     left = c.left ∙ same_bytes bytes r;

@@ -1,4 +1,6 @@
 -- Demand 3 of arrivals whose words were restored first, by the nearest codeword or with a list of dead cells.
+use Rattle.gtb.specs.declared.Refusal.{Refusal}
+use Rattle.std.specs.Prelude.{Result, Ok}
 use mathlib.Core.Path.{◌≡◌, refl, ◌∙◌}
 use mathlib.Core.Bool.{true}
 use mathlib.Core.List.{List}
@@ -12,7 +14,6 @@ use Rattle.gtb.specs.Square.{at, Word, Codeword}
 use Rattle.gtb.specs.Positions.{Encodes}
 use Rattle.gtb.proofs.Bounds.{bounds}
 use Rattle.distance.specs.Distance.{differences, minimum_distance, Near}
-use Rattle.correction.specs.declared.Decoded.TheVariants.{Corrected}
 use Rattle.correction.specs.Error.{weight, damaged}
 use Rattle.correction.specs.Answer.{decoded_word}
 use Rattle.correction.proofs.Errors.{damaged_word}
@@ -25,9 +26,8 @@ use Rattle.nearest.proofs.Alikes.{nearest_alike}
 use Rattle.restore.specs.Restore.{reach, weight_beside}
 use Rattle.restore.proofs.Recovering.{recovering_there, restore_right, damage_reaches}
 use Rattle.session.specs.declared.Session.{Session}
-use Rattle.session.specs.declared.Fresh.{Fresh}
 use Rattle.session.specs.declared.Outcome.{Outcome}
-use Rattle.session.specs.Session.{Beginning}
+use Rattle.session.specs.Session.{begun_session, Beginning}
 use Rattle.session.specs.Arrival.{way_by, is_way, way_of, the_ways}
 use Rattle.session.specs.Recording.{Sheet, symbols_of, Recording, Arrival, Brings, Fits}
 use Rattle.session.specs.Claim.{Run, Demand3}
@@ -83,8 +83,8 @@ repaired_fits law f = record {
 }
 
 -- demand 3
-pub repaired_demand3 : (s : Shape) (pages : List Sheet) (arrivals : List Arrival) (answers : List Outcome) (begin : Fresh) (end : Session)
-    → Recording s pages → RepairedFits s pages arrivals → Beginning s begin → Run the_ways begin.session arrivals answers end
+pub repaired_demand3 : (s : Shape) (pages : List Sheet) (arrivals : List Arrival) (answers : List Outcome) (begin : Result Session Refusal) (end : Session)
+    → Recording s pages → RepairedFits s pages arrivals → Beginning s begin → Run the_ways (begun_session s begin) arrivals answers end
     → Demand3 the_ways s pages begin arrivals answers end
 repaired_demand3 s pages arrivals answers begin end r f = demand3_ways s pages arrivals answers begin end r (repaired_fits r.lawful f)
 
@@ -128,7 +128,7 @@ repaired_listed s law p stored error places encodes damage rises choice few =
               lent = lent;
               size = size;
               lent_after = replicate (length lent) 0;
-              answer = Corrected (differences s stored (damaged stored error));
+              answer = Ok (differences s stored (damaged stored error));
               recovering =
                   recovering_there (tests_pass s (damaged stored error) places lent law (damaged_word s stored error encodes.codeword.word damage) size rises) (omega (arith, (bounds s law).n2))
                   (damage_reaches s stored error places encodes.codeword damage few);

@@ -8,13 +8,12 @@ use native.Mathlib.Omega.{arith}
 use lib.ListN.{length, replicate, length-replicate}
 use Rattle.parity.specs.Count.{all}
 use Rattle.gtb.specs.declared.Shape.{Shape}
-use Rattle.gtb.specs.declared.Status.TheVariants as status
+use Rattle.std.specs.Prelude.{Result, Ok}
+use Rattle.gtb.specs.declared.Refusal.{Refusal}
 use Rattle.gtb.specs.Shape.{Lawful, scratch_length}
 use Rattle.gtb.specs.Square.{at, Word, Codeword}
 use Rattle.gtb.proofs.Bounds.{bounds}
 use Rattle.distance.specs.Distance.{differences, minimum_distance}
-use Rattle.correction.specs.declared.Decoded.{Decoded}
-use Rattle.correction.specs.declared.Decoded.TheVariants.{Corrected}
 use Rattle.correction.specs.Answer.{decoded_word}
 use Rattle.correction.specs.Error.{damaged}
 use Rattle.correction.proofs.Near.{damaged_near}
@@ -28,7 +27,7 @@ use Rattle.repair.specs.Repair.{ByNearest, ByRestore}
 
 -- ---- restoring with no places reads the nearest codeword
 module _ (s : Shape) (word : List ℕ) (law : Lawful s) where
-  empty_judgement : {word' : List ℕ} {r : Decoded} → Word s word → Judgement s word [] word' r → (r ≡ nearest_of s word) × (word' ≡ decoded_word word (nearest_word s word) r)
+  empty_judgement : {word' : List ℕ} {r : Result ℕ Refusal} → Word s word → Judgement s word [] word' r → (r ≡ nearest_of s word) × (word' ≡ decoded_word word (nearest_word s word) r)
   empty_judgement {word'} hw (inl a) =
       let (answer, found) = near_nearest s law word word' _ (reaches_near s word law hw a.reaches) in
       (a.answer ∙ sym answer, rw a.answer (sym found))
@@ -39,7 +38,7 @@ module _ (s : Shape) (word : List ℕ) (law : Lawful s) where
       (sym (near_nearest s law word a.one _ (reaches_near s word law hw a.reaches)).1
       ∙ (near_nearest s law word a.another _ (reaches_near s word law hw a.reaches_too)).1))
 
-pub empty_nearest : {s : Shape} {word scratch word' scratch' : List ℕ} {r : Decoded} → fill_status s word [] scratch ≡ status.Done → Recovering s word [] scratch word' scratch' r
+pub empty_nearest : {s : Shape} {word scratch word' scratch' : List ℕ} {r : Result ℕ Refusal} → fill_status s word [] scratch ≡ Ok tt → Recovering s word [] scratch word' scratch' r
     → (r ≡ nearest_of s word) × (word' ≡ decoded_word word (nearest_word s word) r)
 empty_nearest {s} {word} {scratch} tests f = let p = passed s word [] scratch tests in empty_judgement s word p.law p.came (f.decided tests).0
 
@@ -64,8 +63,8 @@ nearest_restore {s} {stored} {error} {left} law code damage x =
       lent = lent;
       size = size;
       lent_after = replicate (length lent) 0;
-      answer = Corrected (differences s stored came);
+      answer = Ok (differences s stored came);
       recovering =
-          subst (λ (w : List ℕ). Recovering s came [] lent w (replicate (length lent) 0) (Corrected (differences s stored came))) (sym same)
+          subst (λ (w : List ℕ). Recovering s came [] lent w (replicate (length lent) 0) (Ok (differences s stored came))) (sym same)
           (recovering_there (tests_pass s came [] lent law near.word size (rising_none _)) (omega (arith, (bounds s law).n2)) (near_reaches s came law near));
     }

@@ -1,11 +1,10 @@
 -- Arrivals of words that were restored first: any damage to at most n - 1 digits (RULES 3.5), or any at listed places and to few digits beside (RULES 3.6).
-use Rattle.std.specs.Prelude.{◌≡◌, true, ◌⊎◌, List, ℕ, ◌-◌, ◌*◌, ◌<◌, ◌≤◌, length}
+use Rattle.std.specs.Prelude.{◌≡◌, true, ◌⊎◌, List, ℕ, ◌-◌, ◌*◌, ◌<◌, ◌≤◌, length, Result}
 use Rattle.gtb.specs.declared.Shape.{Shape}
 use Rattle.gtb.specs.declared.Refusal.{Refusal}
 use Rattle.gtb.specs.Shape.{word_length, scratch_length}
 use Rattle.gtb.specs.Square.{at, Word}
 use Rattle.gtb.specs.Positions.{Encodes}
-use Rattle.correction.specs.declared.Decoded.{Decoded}
 use Rattle.correction.specs.Error.{weight, damaged}
 use Rattle.erasure.specs.Fill.{rising}
 use Rattle.nearest.specs.Nearest.{Restoring}
@@ -16,7 +15,7 @@ use Rattle.session.specs.Recording.{Sheet, sheet_at, symbols_of, Arrival, arriva
 -- the error is on at most n - 1 digits, clean or not; decode_nearest was called on the word that came, whatever it answered, and left this one
 pub record ByNearest (s : Shape) (stored error left : List ℕ) : Type 0 where
   pub few : weight s (at error) ≤ s.n - 1
-  pub answer : Decoded
+  pub answer : Result ℕ Refusal
   pub restoring : Restoring s (damaged stored error) left answer
 
 -- the error is on the places of a list that leaves no choice, and on no more digits beside than are in reach; restore was called on the word that came with
@@ -29,7 +28,7 @@ pub record ByRestore (s : Shape) (stored error left : List ℕ) : Type 0 where
   pub lent : List ℕ
   pub size : length lent ≡ scratch_length s
   pub lent_after : List ℕ
-  pub answer : Decoded
+  pub answer : Result ℕ Refusal
   pub recovering : Recovering s (damaged stored error) places lent left lent_after answer
 
 -- the stored word of a page came damaged; one of the two restored it; and the word that this left is handed in the clean way, number 0, with a scratch of

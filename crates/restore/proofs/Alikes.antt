@@ -6,7 +6,8 @@ use Rattle.gtb.specs.declared.Shape.{Shape}
 use Rattle.gtb.specs.Alike.{reslope, Alike}
 use Rattle.gtb.proofs.Alikes.{codeword_alike, alike_back}
 use Rattle.distance.specs.Distance.{differences}
-use Rattle.correction.specs.declared.Decoded.{Decoded}
+use Rattle.std.specs.Prelude.{Result}
+use Rattle.gtb.specs.declared.Refusal.{Refusal}
 use Rattle.erasure.proofs.Alikes.{tested_alike}
 use Rattle.restore.specs.Restore.{reach, strays, Reaches, Judgement, Recovering}
 
@@ -18,7 +19,7 @@ module _ (s : Shape) (slopes : List ℕ) (alike : Alike s slopes) (word places :
   back : {v : List ℕ} → Reaches (reslope s slopes) word places v → Reaches s word places v
   back = reaches_alike (reslope s slopes) s.slopes (alike_back s slopes alike)
 
-  module _ {word' : List ℕ} {r : Decoded} where
+  module _ {word' : List ℕ} {r : Result ℕ Refusal} where
     judgement_alike : Judgement s word places word' r → Judgement (reslope s slopes) word places word' r
     unfolding differences
     judgement_alike (inl f) =

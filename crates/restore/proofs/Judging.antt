@@ -14,9 +14,9 @@ use Rattle.gtb.specs.Shape.{Lawful, word_length}
 use Rattle.gtb.proofs.Answers.{other_refusal}
 use Rattle.distance.specs.Distance.{minimum_distance}
 use Rattle.distance.proofs.Distance.{few_unambiguous}
-use Rattle.correction.specs.declared.Decoded.{Decoded}
-use Rattle.correction.specs.declared.Decoded.TheVariants.{Corrected, Refused}
-use Rattle.correction.specs.Answer.{decoded_number}
+use Rattle.std.specs.Prelude.{Option, Some, None, Result, Ok, Err}
+use Rattle.std.specs.Option.{ok_or}
+use Rattle.gtb.specs.Answer.{answer_number}
 use Rattle.erasure.specs.Fill.{is_listed, Agrees, Decision}
 use Rattle.erasure.specs.Steps.{Places}
 use Rattle.erasure.proofs.Lists.{listed_count}
@@ -58,39 +58,31 @@ close_unique s law {k} {word} {places} {v} {u} h few a b =
     marked : ℕ → Bool
     marked j = is_listed places j || (wrong word places v j || wrong word places u j)
 
-pub sought_judged : {s : Shape} {word places word' : List ℕ} (r : Decoded) → Lawful s → Places (word_length s) places → length places < 2 * s.n
-    → Sought s (reach s (length places)) word places word' r (λ v. ⊥) → Judgement s word places word' r
-sought_judged {s} {places = places} (Corrected c) law list few h =
+pub sought_judged : {s : Shape} {word places word' : List ℕ} (r : Option ℕ) → Lawful s → Places (word_length s) places → length places < 2 * s.n
+    → Sought s (reach s (length places)) word places word' r (λ v. ⊥) → Judgement s word places word' (ok_or r Refusal.Far)
+sought_judged {s} {places = places} (Some c) law list few h =
     inl
     (record {
       reaches = h.close c refl;
       only = λ v a. close_unique s law list (reach_half s (length places) few) a (h.close c refl);
-      answer = ap Corrected (h.number c refl);
+      answer = ap Ok (h.number c refl);
       number = h.number c refl;
     })
-sought_judged (Refused e) law list few h =
-    inr
-    (inl
-    (record {
-      none = h.like e refl;
-      answer = ap Refused (h.far e refl);
-      number = ap (λ (x : Refusal). decoded_number (Refused x)) (h.far e refl);
-      left = h.left e refl;
-    }))
+sought_judged None law list few h = inr (inl (record { none = h.like refl; answer = refl; number = refl; left = h.left refl }))
 
 -- ---- many places
 module _ {s : Shape} {word places : List ℕ} (many : 2 * s.n ≤ length places) where
   pub reaches_agrees : {v : List ℕ} → Reaches s word places v → Agrees s word places v
   reaches_agrees {v} a = close_agrees (subst (λ (k : ℕ). Close s k word places v) (reach_none s (length places) many) a)
 
-  module _ {word' : List ℕ} {r : Decoded} where
-    pub judged_one : {c : ℕ} → Decision s word places word' r → r ≡ Corrected c → Judgement s word places word' (Corrected c)
+  module _ {word' : List ℕ} {r : Result ℕ Refusal} where
+    pub judged_one : {c : ℕ} → Decision s word places word' r → r ≡ Ok c → Judgement s word places word' (Ok c)
     judged_one (inl a) h =
-        inl (record { reaches = agrees_close _ a.agrees; only = λ v b. a.only v (reaches_agrees b); answer = sym h ∙ a.answer; number = ap decoded_number (sym h ∙ a.answer) })
+        inl (record { reaches = agrees_close _ a.agrees; only = λ v b. a.only v (reaches_agrees b); answer = sym h ∙ a.answer; number = ap answer_number (sym h ∙ a.answer) })
     judged_one (inr (inl a)) h = absurd (never_both _ _ r h a.answer)
     judged_one (inr (inr a)) h = absurd (never_both _ _ r h a.answer)
 
-    pub judged_several : Decision s word places word' r → r ≡ Refused Refusal.Ambiguous → Judgement s word places word' (Refused Refusal.Ambiguous)
+    pub judged_several : Decision s word places word' r → r ≡ Err Refusal.Ambiguous → Judgement s word places word' (Err Refusal.Ambiguous)
     judged_several (inl a) h = absurd (never_both _ _ r a.answer h)
     judged_several (inr (inl a)) h = absurd (other_refusal Refusal.Unfillable Refusal.Ambiguous refl (refused_same _ _ r a.answer h))
     judged_several (inr (inr a)) h =
@@ -107,7 +99,7 @@ module _ {s : Shape} {word places : List ℕ} (many : 2 * s.n ≤ length places)
           left = a.left;
         }))
 
-    pub judged_none : {e : Refusal} → Decision s word places word' r → r ≡ Refused e → (e ≡ Refusal.Ambiguous → ⊥) → Judgement s word places word' (Refused Refusal.Far)
+    pub judged_none : {e : Refusal} → Decision s word places word' r → r ≡ Err e → (e ≡ Refusal.Ambiguous → ⊥) → Judgement s word places word' (Err Refusal.Far)
     judged_none (inl a) h other = absurd (never_both _ _ r a.answer h)
     judged_none (inr (inl a)) h other = inr (inl (record { none = λ v b. a.none v (reaches_agrees b); answer = refl; number = refl; left = a.left }))
     judged_none (inr (inr a)) h other = absurd (other (refused_same _ _ r h a.answer))

@@ -1,14 +1,18 @@
 -- Lists of places, with one place more at the end.
-use mathlib.Core.Path.{◌≡◌, sym, ap, ap₂, ◌∙◌}
+use mathlib.Core.Path.{◌≡◌, refl, sym, ap, ap₂, subst, ◌∙◌}
 use mathlib.Core.Bool.{Bool, false, ◌||◌}
 use mathlib.Core.List.{List, [], ◌∷◌, ◌++◌}
-use Prim.Native.Nat.{ℕ, ◌+◌, ◌<◌, ◌≤◌}
-use native.Mathlib.Decide.{dec_le, dec_lt}
+use Prim.Native.Nat.{ℕ, zero, suc, ◌+◌, ◌<◌, ◌≤◌}
+use native.Mathlib.Nat.{le_refl}
+use native.Mathlib.Decide.{dec_lt}
 use native.Mathlib.Numerals.{add-one}
 use native.Mathlib.Omega.{arith}
 use lib.Dec.{eqb}
-use lib.ListN.{length, take, drop, set, replicate, length-append, length-drop, length-replicate, get_or-append}
-use lib.Seq.{get_or-append_seam, take_all, take-append_seam, take-suc-set}
+use Rattle.std.specs.Prelude.{take}
+use Rattle.std.specs.List.{list_any}
+use Rattle.std.proofs.lemmas.List.Folds.{list_any_more}
+use lib.ListN.{length, length-append, get_or-append}
+use lib.Seq.{get_or-append_seam, take_all}
 use borrow.Author.Tests.{eq-eqb}
 use Rattle.parity.specs.Count.{any}
 use Rattle.parity.proofs.Tests.{clash, any_more, any_intro, any_cong}
@@ -16,24 +20,21 @@ use Rattle.gtb.specs.Square.{at}
 use Rattle.erasure.specs.Fill.{is_listed}
 use Rattle.erasure.specs.Steps.{Places}
 
--- in the first entries of a longer list
-pub appended : {full : List ℕ} (places : List ℕ) (j : ℕ) → full ≡ places ++ drop (length places) (replicate 16 0) → length places < 16
-    → take (length places + 1) (set full (length places) j) ≡ places ++ (j ∷ [])
-appended {full} places j e l =
-    let inside : length places < length full = rw (e, length-append, length-drop, length-replicate) (omega arith) in
-    rw (add-one (length places), take-suc-set full (length places) j inside)
-    (ap (λ (xs : List ℕ). take (length places) xs ++ (j ∷ [])) e ∙ ap (λ (xs : List ℕ). xs ++ (j ∷ [])) (take-append_seam places (drop (length places) (replicate 16 0))))
+any_first : (p : ℕ → Bool) (xs : List ℕ) (n : ℕ) → n ≤ length xs → list_any p (take n xs) ≡ any n (λ i. p (at xs i))
+unfolding any
+any_first p xs zero l = refl
+any_first p xs (suc n) l =
+    subst (λ (k : ℕ). list_any p (take k xs) ≡ any k (λ i. p (at xs i))) (add-one n)
+    (list_any_more p xs n 0 (omega (arith, l)) ∙ ap (λ (b : Bool). b || p (at xs n)) (any_first p xs n (omega (arith, l))) ∙ sym (any_more n (λ i. p (at xs i))))
+
+-- a test of each item finds a listed position
+pub listed_any : (places : List ℕ) (j : ℕ) → list_any (λ x. eqb x j) places ≡ is_listed places j
+unfolding is_listed
+listed_any places j = sym (ap (list_any (λ x. eqb x j)) (take_all (length places) places (le_refl _))) ∙ any_first (λ x. eqb x j) places (length places) (le_refl _)
 
 module _ (places : List ℕ) (j : ℕ) where
   pub longer : length (places ++ (j ∷ [])) ≡ length places + 1
   longer = length-append places (j ∷ [])
-
-  pub appended_fits : (full : List ℕ) → take (length places + 1) full ≡ places ++ (j ∷ []) → length places + 1 ≤ length full
-  appended_fits full e =
-      elim (dec_le (length places + 1) (length full)) [
-        | yes l ↦ l
-        | no g ↦ absurd (omega (arith, longer, ap length (sym (take_all (length places + 1) full (omega arith)) ∙ e)))
-      ]
 
   pub earlier : (i : ℕ) → i < length places → at (places ++ (j ∷ [])) i ≡ at places i
   earlier i l = get_or-append places (j ∷ []) 0 i l

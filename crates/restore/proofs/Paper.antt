@@ -7,14 +7,12 @@ use Rattle.paper.specs.Paper as paper
 use Rattle.paper.specs.Writing.{scratch_left}
 use Rattle.gtb.specs.declared.Shape.{Shape}
 use Rattle.gtb.specs.declared.Refusal.{Refusal}
-use Rattle.gtb.specs.declared.Status.TheVariants as status
+use Rattle.std.specs.Prelude.{Result, Err}
 use Rattle.gtb.specs.Shape.{of}
-use Rattle.gtb.specs.Answer.{refusal_number}
+use Rattle.gtb.specs.Answer.{refusal_number, answer_number}
 use Rattle.gtb.proofs.Stored.{codeword_stored, stored_codeword}
 use Rattle.gtb.proofs.Scratches.{scratch_same}
 use Rattle.distance.proofs.Within.{changed_same}
-use Rattle.correction.specs.declared.Decoded.{Decoded}
-use Rattle.correction.specs.Answer.{decoded_number}
 use Rattle.erasure.specs.Fill.{is_listed, fill_status}
 use Rattle.erasure.proofs.Paper.{place_tests}
 use Rattle.restore.specs.Restore.{reach, strays, Reaches, Recovering}
@@ -28,15 +26,15 @@ module _ (s : Shape) {word places : List ℕ} where
   unfolding reach strays is_listed
   reaches x = record { codeword = stored_codeword s x.stored; few = x.few }
 
-  module _ {scratch word' scratch' : List ℕ} {r : Decoded} (f : Recovering s word places scratch word' scratch' r) where
-    turned : (e : Refusal) → fill_status s word places scratch ≡ status.Refused e
-        → (decoded_number r ≡ 2 ^ 31 + refusal_number e) × (word' ≡ word) × (scratch' ≡ scratch_left (refusal_number e) scratch)
+  module _ {scratch word' scratch' : List ℕ} {r : Result ℕ Refusal} (f : Recovering s word places scratch word' scratch' r) where
+    turned : (e : Refusal) → fill_status s word places scratch ≡ Err e
+        → (answer_number r ≡ 2 ^ 31 + refusal_number e) × (word' ≡ word) × (scratch' ≡ scratch_left (refusal_number e) scratch)
     turned e h = let (answer, number, left, used) = f.tested e h in (number, left, used ∙ scratch_same s e scratch)
 
-    pub restoring : paper.Restoring (of s) word places scratch word' scratch' (decoded_number r)
+    pub restoring : paper.Restoring (of s) word places scratch word' scratch' (answer_number r)
     unfolding scratch_left
     restoring =
-        place_tests s word places scratch (λ k. (decoded_number r ≡ paper.refusal k) × (word' ≡ word) × (scratch' ≡ scratch_left k scratch)) _ turned
+        place_tests s word places scratch (λ k. (answer_number r ≡ paper.refusal k) × (word' ≡ word) × (scratch' ≡ scratch_left k scratch)) _ turned
         (λ h.
         let (decision, used) = f.decided h in
         ⊎_elim
@@ -52,5 +50,5 @@ module _ (s : Shape) {word places : List ℕ} where
         )))
         decision)
 
-    pub restoring_asked : Recovering s word places scratch word' scratch' r × paper.Restoring (of s) word places scratch word' scratch' (decoded_number r)
+    pub restoring_asked : Recovering s word places scratch word' scratch' r × paper.Restoring (of s) word places scratch word' scratch' (answer_number r)
     restoring_asked = (f, restoring)

@@ -30,6 +30,7 @@ use Rattle.correction.proofs.Near.{error_of}
 use Rattle.correction.proofs.Guessing.{enough, line_right, lines_few}
 use Rattle.erasure.specs.Fill.{is_listed}
 use Rattle.restore.specs.Restore.{strays, Close}
+use Rattle.restore.specs.declared.marks.Marks.{Marks}
 use Rattle.restore.specs.Steps.{Hidden}
 use Rattle.restore.proofs.Straying.{wrong, wrong_unlisted, wrong_differs, wrong_not}
 
@@ -86,31 +87,31 @@ module _ (s : Shape) (word places v : List ℕ) where
   pub patched_wrong : (j : ℕ) → j < word_length s → wrong word places v j ≡ true → error_of patched v j ≡ 0 → ⊥
   patched_wrong j l h z = wrong_differs word places v j h (sym (eq_of_zero (at patched j) (at v j) z) ∙ off_list j l (wrong_unlisted word places v j h))
 
-  module _ {k : ℕ} {seen touched : List ℕ} (law : Lawful s) (hw : Word s word) (h : Hidden s word places seen touched) (c : Close s k word places v) where
+  module _ {k : ℕ} {marks : Marks} (law : Lawful s) (hw : Word s word) (h : Hidden s word places marks) (c : Close s k word places v) where
     near : Near s k patched v (strays s word places v)
     near = patched_near hw c
 
     -- the tables show this word's checks
     masked : (t L : ℕ) → t < s.n → L < s.q
-        → ((at seen (t * s.q + L) ≡ 0) × (at touched (t * s.q + L) ≡ 1)) ⊎ (at seen (t * s.q + L) ≡ syndrome s (at patched) t L)
+        → ((at marks.seen (t * s.q + L) ≡ 0) × (at marks.touched (t * s.q + L) ≡ 1)) ⊎ (at marks.seen (t * s.q + L) ≡ syndrome s (at patched) t L)
     masked t L lt lL =
         ⊎_elim (λ both. inl both) (λ free. inr (free.0 ∙ on_line s (at word) (at patched) t L (λ j l e. sym (off_list j l (free.1 j e))))) (h.entry t L lt lL)
 
     -- a check that is not silent has a wrong position
-    pub loud_wrong : {check : ℕ} → check < s.n * s.q → (at seen check ≡ 0 → ⊥)
+    pub loud_wrong : {check : ℕ} → check < s.n * s.q → (at marks.seen check ≡ 0 → ⊥)
         → ((p : ℕ) → p < word_length s → line_of s (check / s.q) p ≡ check % s.q → wrong word places v p ≡ false) → ⊥
     loud_wrong {check} lc loud right =
         let t : ℕ = check / s.q in
         let L : ℕ = check % s.q in
         let lt : t < s.n = (div-lt_iff_lt-mul (positive s law)).1 lc in
         let lL : L < s.q = mod-lt check (positive s law) in
-        let here : at seen check ≡ at seen (t * s.q + L) = ap (at seen) (sym (div-add-mod' check s.q)) in
+        let here : at marks.seen check ≡ at marks.seen (t * s.q + L) = ap (at marks.seen) (sym (div-add-mod' check s.q)) in
         ⊎_elim (λ both. loud (here ∙ both.0))
         (λ shows. loud (here ∙ shows ∙ line_right law near t L lt lL (λ p lp e. patched_right p lp (right p lp e))))
         (masked t L lt lL)
 
     -- in each direction no more checks are not silent than positions are wrong
-    pub few_not_silent : ManyNotSilent s seen k → ⊥
+    pub few_not_silent : ManyNotSilent s marks.seen k → ⊥
     unfolding shows
     few_not_silent many =
         let t : ℕ = many.direction in
@@ -118,29 +119,29 @@ module _ (s : Shape) (word places v : List ℕ) where
           arith,
           many.many,
           lines_few law near t many.below,
-          count_not s.q (λ L. eqb (at seen (t * s.q + L)) 0),
-          count_le s.q (λ L. not (eqb (at seen (t * s.q + L)) 0)) (λ L. not (eqb (syndrome s (at patched) t L) 0))
+          count_not s.q (λ L. eqb (at marks.seen (t * s.q + L)) 0),
+          count_le s.q (λ L. not (eqb (at marks.seen (t * s.q + L)) 0)) (λ L. not (eqb (syndrome s (at patched) t L) 0))
               (λ L lL loud.
-              ⊎_elim (λ both. absurd (clash (eq-eqb (at seen (t * s.q + L)) 0 both.0) (not-true _ loud)))
+              ⊎_elim (λ both. absurd (clash (eq-eqb (at marks.seen (t * s.q + L)) 0 both.0) (not-true _ loud)))
               (λ shows. ap (λ (x : ℕ). not (eqb x 0)) (sym shows) ∙ loud)
               (masked t L many.below lL)),
         )
 
     -- of a wrong position's checks at most k - 1 are not touched and do not show what is wrong there
     pub votes : (j : ℕ) → j < word_length s → wrong word places v j ≡ true
-        → s.n + 1 ≤ shows s.n (check_in s seen j) (error_of patched v j) + shows s.n (check_in s touched j) 1 + k
+        → s.n + 1 ≤ shows s.n (check_in s marks.seen j) (error_of patched v j) + shows s.n (check_in s marks.touched j) 1 + k
     unfolding shows
     votes j lj wr =
         let x : ℕ = error_of patched v j in
         omega (
           arith,
           enough law near j lj (patched_wrong j lj wr),
-          count_le s.n (λ t. eqb (on_check s (at patched) j t) x) (λ t. eqb (check_in s seen j t) x || eqb (check_in s touched j t) 1)
+          count_le s.n (λ t. eqb (on_check s (at patched) j t) x) (λ t. eqb (check_in s marks.seen j t) x || eqb (check_in s marks.touched j t) 1)
               (λ t lt e.
-              ⊎_elim (λ both. or_right (eqb (check_in s seen j t) x) (eq-eqb (check_in s touched j t) 1 both.1))
-              (λ shows. or_left (eqb (check_in s touched j t) 1) (ap (λ (y : ℕ). eqb y x) shows ∙ e))
+              ⊎_elim (λ both. or_right (eqb (check_in s marks.seen j t) x) (eq-eqb (check_in s marks.touched j t) 1 both.1))
+              (λ shows. or_left (eqb (check_in s marks.touched j t) 1) (ap (λ (y : ℕ). eqb y x) shows ∙ e))
               (masked t (line_of s t j) lt (line_lt s law t j lt lj))),
-          count_or s.n (λ t. eqb (check_in s seen j t) x) (λ t. eqb (check_in s touched j t) 1),
+          count_or s.n (λ t. eqb (check_in s marks.seen j t) x) (λ t. eqb (check_in s marks.touched j t) 1),
         )
       where
         or_left : {a : Bool} (b : Bool) → a ≡ true → (a || b) ≡ true

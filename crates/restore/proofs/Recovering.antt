@@ -14,16 +14,14 @@ use Rattle.parity.proofs.Xors.{comm}
 use Rattle.parity.proofs.Sums.{count_cong}
 use Rattle.gtb.specs.declared.Shape.{Shape}
 use Rattle.gtb.specs.declared.Refusal.{Refusal}
-use Rattle.gtb.specs.declared.Status.TheVariants as status
+use Rattle.std.specs.Prelude.{Result, Ok, Err}
 use Rattle.gtb.specs.Shape.{Lawful, word_length}
 use Rattle.gtb.specs.Square.{at, Word, Codeword}
 use Rattle.gtb.proofs.Answers.{never_refused, other_refusal}
 use Rattle.gtb.proofs.Bounds.{bounds}
 use Rattle.gtb.proofs.Crossing.{eqb_xor}
 use Rattle.distance.specs.Distance.{differences, minimum_distance, Near}
-use Rattle.correction.specs.declared.Decoded.{Decoded}
-use Rattle.correction.specs.declared.Decoded.TheVariants.{Corrected, Refused}
-use Rattle.correction.specs.Answer.{decoded_number}
+use Rattle.gtb.specs.Answer.{answer_number}
 use Rattle.correction.specs.Error.{weight, damaged}
 use Rattle.correction.proofs.Near.{damaged_error}
 use Rattle.erasure.specs.Fill.{is_listed, fill_status, Decision, Filling}
@@ -36,16 +34,16 @@ use Rattle.restore.proofs.Straying.{agrees_close}
 use Rattle.restore.proofs.Judging.{reach_half, reaches_agrees, close_unique}
 
 -- ---- one answer and one word
-module _ {s : Shape} {word places w₁ w₂ : List ℕ} {r₁ r₂ : Decoded} where
+module _ {s : Shape} {word places w₁ w₂ : List ℕ} {r₁ r₂ : Result ℕ Refusal} where
   one_one : Restored s word places w₁ r₁ → Restored s word places w₂ r₂ → (r₁ ≡ r₂) × (w₁ ≡ w₂)
   one_one a b =
       let e : w₁ ≡ w₂ = b.only w₁ a.reaches in
-      (a.answer ∙ ap (λ (v : List ℕ). Corrected (differences s v word)) e ∙ sym b.answer, e)
+      (a.answer ∙ ap (λ (v : List ℕ). Ok (differences s v word)) e ∙ sym b.answer, e)
 
   one_several : Restored s word places w₁ r₁ → SeveralReach s word places w₂ r₂ → ⊥
   one_several a b = b.different (a.only b.one b.reaches ∙ sym (a.only b.another b.reaches_too))
 
-judgement_unique : {s : Shape} {word places w₁ w₂ : List ℕ} {r₁ r₂ : Decoded} → Judgement s word places w₁ r₁ → Judgement s word places w₂ r₂
+judgement_unique : {s : Shape} {word places w₁ w₂ : List ℕ} {r₁ r₂ : Result ℕ Refusal} → Judgement s word places w₁ r₁ → Judgement s word places w₂ r₂
     → (r₁ ≡ r₂) × (w₁ ≡ w₂)
 judgement_unique (inl a) (inl b) = one_one a b
 judgement_unique {w₁ = w₁} (inl a) (inr (inl b)) = absurd (b.none w₁ a.reaches)
@@ -57,7 +55,7 @@ judgement_unique (inr (inr a)) (inl b) = absurd (one_several b a)
 judgement_unique (inr (inr a)) (inr (inl b)) = absurd (b.none a.one a.reaches)
 judgement_unique (inr (inr a)) (inr (inr b)) = (a.answer ∙ sym b.answer, a.left ∙ sym b.left)
 
-pub recovering_unique : {s : Shape} {word places scratch w₁ w₂ x₁ x₂ : List ℕ} {r₁ r₂ : Decoded} → Recovering s word places scratch w₁ x₁ r₁
+pub recovering_unique : {s : Shape} {word places scratch w₁ w₂ x₁ x₂ : List ℕ} {r₁ r₂ : Result ℕ Refusal} → Recovering s word places scratch w₁ x₁ r₁
     → Recovering s word places scratch w₂ x₂ r₂ → (r₁ ≡ r₂) × (w₁ ≡ w₂) × (x₁ ≡ x₂)
 recovering_unique = tested_unique judgement_unique
 
@@ -67,33 +65,33 @@ module _ {s : Shape} {word places : List ℕ} (law : Lawful s) (few : length pla
   unfolding minimum_distance
   reaches_unique = close_unique s law h (reach_half s (length places) few)
 
-  no_choice : {word' : List ℕ} {r : Decoded} → Judgement s word places word' r → r ≡ Refused Refusal.Ambiguous → ⊥
+  no_choice : {word' : List ℕ} {r : Result ℕ Refusal} → Judgement s word places word' r → r ≡ Err Refusal.Ambiguous → ⊥
   no_choice {r = r} (inl a) e = never_both _ _ r a.answer e
   no_choice {r = r} (inr (inl a)) e = other_refusal Refusal.Far Refusal.Ambiguous refl (refused_same _ _ r a.answer e)
   no_choice (inr (inr a)) e = a.different (reaches_unique a.reaches a.reaches_too)
 
-  judgement_right : {word' v : List ℕ} {r : Decoded} → Reaches s word places v → Judgement s word places word' r
-      → (r ≡ Corrected (differences s v word)) × (word' ≡ v) × (decoded_number r ≡ differences s v word)
+  judgement_right : {word' v : List ℕ} {r : Result ℕ Refusal} → Reaches s word places v → Judgement s word places word' r
+      → (r ≡ Ok (differences s v word)) × (word' ≡ v) × (answer_number r ≡ differences s v word)
   judgement_right {v = v} stored (inl a) = rw (a.only v stored) (a.answer, refl, a.number)
   judgement_right {v = v} stored (inr (inl a)) = absurd (a.none v stored)
   judgement_right stored (inr (inr a)) = absurd (no_choice (inr (inr a)) a.answer)
 
 -- with fewer places than codewords are apart the answer is never 14: up to 2 n - 1 places
-pub never_several : {s : Shape} {word places scratch word' scratch' : List ℕ} {r : Decoded} → Lawful s → length places < minimum_distance s.n
-    → Recovering s word places scratch word' scratch' r → r ≡ Refused Refusal.Ambiguous → ⊥
+pub never_several : {s : Shape} {word places scratch word' scratch' : List ℕ} {r : Result ℕ Refusal} → Lawful s → length places < minimum_distance s.n
+    → Recovering s word places scratch word' scratch' r → r ≡ Err Refusal.Ambiguous → ⊥
 never_several law few = never_ambiguous (λ p. no_choice law few (rising_places p.rises))
 
 -- ---- the codeword that was stored comes back
-pub restore_right : {s : Shape} {word places scratch word' scratch' v : List ℕ} {r : Decoded} → fill_status s word places scratch ≡ status.Done
+pub restore_right : {s : Shape} {word places scratch word' scratch' v : List ℕ} {r : Result ℕ Refusal} → fill_status s word places scratch ≡ Ok tt
     → length places < minimum_distance s.n → Reaches s word places v → Recovering s word places scratch word' scratch' r
-    → (r ≡ Corrected (differences s v word)) × (word' ≡ v) × (decoded_number r ≡ differences s v word)
+    → (r ≡ Ok (differences s v word)) × (word' ≡ v) × (answer_number r ≡ differences s v word)
 restore_right {s} {word} {places} {scratch} tests few stored f =
     let p = passed s word places scratch tests in
     judgement_right p.law few (rising_places p.rises) stored (f.decided tests).0
 
 -- and that is an answer that the contract allows
-pub recovering_there : {s : Shape} {word places scratch v : List ℕ} → fill_status s word places scratch ≡ status.Done → length places < minimum_distance s.n
-    → Reaches s word places v → Recovering s word places scratch v (replicate (length scratch) 0) (Corrected (differences s v word))
+pub recovering_there : {s : Shape} {word places scratch v : List ℕ} → fill_status s word places scratch ≡ Ok tt → length places < minimum_distance s.n
+    → Reaches s word places v → Recovering s word places scratch v (replicate (length scratch) 0) (Ok (differences s v word))
 recovering_there {s} {word} {places} {scratch} {v} tests few stored =
     let p = passed s word places scratch tests in
     record {
@@ -121,12 +119,12 @@ damage_reaches s v e places hv he few = record {
 }
 
 -- ---- what filling in accepts
-module _ {s : Shape} {word places w₁ w₂ : List ℕ} {r₁ r₂ : Decoded} (law : Lawful s) (list : Places (word_length s) places) where
-  decisions_agree : {c : ℕ} → Decision s word places w₁ r₁ → r₁ ≡ Corrected c → Judgement s word places w₂ r₂ → (r₂ ≡ Corrected c) × (w₂ ≡ w₁)
+module _ {s : Shape} {word places w₁ w₂ : List ℕ} {r₁ r₂ : Result ℕ Refusal} (law : Lawful s) (list : Places (word_length s) places) where
+  decisions_agree : {c : ℕ} → Decision s word places w₁ r₁ → r₁ ≡ Ok c → Judgement s word places w₂ r₂ → (r₂ ≡ Ok c) × (w₂ ≡ w₁)
   unfolding minimum_distance
   decisions_agree (inl a) h (inl b) =
       let e : w₁ ≡ w₂ = b.only w₁ (agrees_close _ a.agrees) in
-      (b.answer ∙ ap (λ (v : List ℕ). Corrected (differences s v word)) (sym e) ∙ sym a.answer ∙ h, sym e)
+      (b.answer ∙ ap (λ (v : List ℕ). Ok (differences s v word)) (sym e) ∙ sym a.answer ∙ h, sym e)
   decisions_agree (inl a) h (inr (inl b)) = absurd (b.none w₁ (agrees_close _ a.agrees))
   decisions_agree (inl a) h (inr (inr b)) =
       elim (dec_lt (length places) (2 * s.n)) [
@@ -139,12 +137,12 @@ module _ {s : Shape} {word places w₁ w₂ : List ℕ} {r₁ r₂ : Decoded} (l
   decisions_agree (inr (inr a)) h b = absurd (never_both _ _ r₁ h a.answer)
 
 -- is answered with the same number and the same word
-pub accepts_filled : {s : Shape} {word places scratch w₁ w₂ x₁ x₂ : List ℕ} {r₁ r₂ : Decoded} {c : ℕ} → Filling s word places scratch w₁ x₁ r₁ → r₁ ≡ Corrected c
-    → Recovering s word places scratch w₂ x₂ r₂ → (r₂ ≡ Corrected c) × (w₂ ≡ w₁)
+pub accepts_filled : {s : Shape} {word places scratch w₁ w₂ x₁ x₂ : List ℕ} {r₁ r₂ : Result ℕ Refusal} {c : ℕ} → Filling s word places scratch w₁ x₁ r₁ → r₁ ≡ Ok c
+    → Recovering s word places scratch w₂ x₂ r₂ → (r₂ ≡ Ok c) × (w₂ ≡ w₁)
 accepts_filled {s} {word} {places} {scratch} {r₁ = r₁} f e g =
     ⊎_elim
-    (λ (h : (e : Refusal) × (fill_status s word places scratch ≡ status.Refused e)). absurd (never_both _ _ r₁ e (f.tested h.0 h.1).0))
-    (λ (h : fill_status s word places scratch ≡ status.Done).
+    (λ (h : (e : Refusal) × (fill_status s word places scratch ≡ Err e)). absurd (never_both _ _ r₁ e (f.tested h.0 h.1).0))
+    (λ (h : fill_status s word places scratch ≡ Ok tt).
     let p = passed s word places scratch h in
     decisions_agree p.law (rising_places p.rises) (f.decided h).0 e (g.decided h).0)
     (status_cases (fill_status s word places scratch))

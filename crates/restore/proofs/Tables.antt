@@ -5,12 +5,11 @@ use mathlib.Core.List.{List, []}
 use mathlib.Core.Logic.{inl, inr, ⊎_elim}
 use Prim.Native.Nat.{ℕ, ◌+◌, ◌*◌, ◌/◌, ◌%◌, ◌<◌}
 use native.Mathlib.Decide.{ℕ_discrete}
-use native.Mathlib.Numerals.{add-one}
 use native.Mathlib.Omega.{arith}
 use lib.Arith.{digits_div, digits_mod}
-use lib.ListN.{length, take, set, length-set}
-use lib.Seq.{get_or-set_same, get_or-set_other, take-suc}
-use borrow.Author.Count.{below_none, below_more}
+use lib.ListN.{length, set, length-set}
+use lib.Seq.{get_or-set_same, get_or-set_other}
+use borrow.Author.Count.{below_more}
 use borrow.Author.Tests.{ne_eqb}
 use Rattle.parity.specs.Count.{any}
 use Rattle.gtb.specs.declared.Shape.{Shape}
@@ -19,11 +18,9 @@ use Rattle.gtb.specs.Square.{line_of, at, Syndromes}
 use Rattle.gtb.proofs.Lines.{line_lt}
 use Rattle.correction.specs.Error.{check_of}
 use Rattle.erasure.specs.Fill.{is_listed}
-use Rattle.restore.specs.Steps.{Put, Hidden, Hides, HidesAll}
+use Rattle.restore.specs.declared.marks.Marks.{Marks}
+use Rattle.restore.specs.Steps.{Put, Hidden, Hides}
 use Rattle.restore.proofs.Lists.{listed_more}
-
-pub put_none : (s : Shape) (j x : ℕ) (old : List ℕ) → Put s j x 0 old old
-put_none s j x old = record { size = refl; on = below_none _; off = λ e free. refl }
 
 pub put_more : {s : Shape} {j x m : ℕ} {old new : List ℕ} (check : ℕ) → Put s j x m old new → check ≡ check_of s j m → check < length new → Put s j x (m + 1) old (set new check x)
 put_more {s} {j} {x} {m} {old} {new} check h is inside = record {
@@ -40,8 +37,8 @@ put_more {s} {j} {x} {m} {old} {new} check h is inside = record {
         ]
 
 -- ---- the tables of a list with one place more
-module _ {s : Shape} {j : ℕ} {seen touched seen' touched' : List ℕ} (law : Lawful s) (lj : j < word_length s)
-    (a : Put s j 0 s.n seen seen') (b : Put s j 1 s.n touched touched') where
+module _ {s : Shape} {j : ℕ} {old new : Marks} (law : Lawful s) (lj : j < word_length s)
+    (a : Put s j 0 s.n old.seen new.seen) (b : Put s j 1 s.n old.touched new.touched) where
   -- a check that is not on j
   elsewhere : (t L : ℕ) → t < s.n → L < s.q → (line_of s t j ≡ L → ⊥) → (u : ℕ) → u < s.n → check_of s j u ≡ t * s.q + L → ⊥
   elsewhere t L lt lL ne u lu e =
@@ -49,39 +46,20 @@ module _ {s : Shape} {j : ℕ} {seen touched seen' touched' : List ℕ} (law : L
       let same : u ≡ t = sym (digits_div u ll) ∙ ap (λ (x : ℕ). x / s.q) e ∙ digits_div t lL in
       ne (ap (λ (x : ℕ). line_of s x j) (sym same) ∙ sym (digits_mod u ll) ∙ ap (λ (x : ℕ). x % s.q) e ∙ digits_mod t lL)
 
-  pub hides : Hides s j seen touched seen' touched'
-  hides = record {
-    size = a.size;
-    size_too = b.size;
-    next = λ word places h. record {
-      size = a.size ∙ h.size;
-      size_too = b.size ∙ h.size_too;
-      entry = λ t L lt lL.
-          elim (ℕ_discrete (line_of s t j) L) [
-            | yes e ↦ inl (ap (λ (l : ℕ). at seen' (t * s.q + l)) (sym e) ∙ a.on t lt, ap (λ (l : ℕ). at touched' (t * s.q + l)) (sym e) ∙ b.on t lt)
-            | no ne ↦
-                let same = a.off (t * s.q + L) (elsewhere t L lt lL ne) in
-                ⊎_elim (λ both. inl (same ∙ both.0, b.off (t * s.q + L) (elsewhere t L lt lL ne) ∙ both.1))
-                (λ free. inr (same ∙ free.0, λ p e. listed_more places j p ∙ ap₂ (λ (x y : Bool). x || y) (free.1 p e) (ne_eqb j p (λ d. ne (ap (line_of s t) d ∙ e)))))
-                (h.entry t L lt lL)
-          ];
-    };
+  pub hides : Hides s j old new
+  hides word places h = record {
+    entry = λ t L lt lL.
+        elim (ℕ_discrete (line_of s t j) L) [
+          | yes e ↦ inl (ap (λ (l : ℕ). at new.seen (t * s.q + l)) (sym e) ∙ a.on t lt, ap (λ (l : ℕ). at new.touched (t * s.q + l)) (sym e) ∙ b.on t lt)
+          | no ne ↦
+              let same = a.off (t * s.q + L) (elsewhere t L lt lL ne) in
+              ⊎_elim (λ both. inl (same ∙ both.0, b.off (t * s.q + L) (elsewhere t L lt lL ne) ∙ both.1))
+              (λ free. inr (same ∙ free.0, λ p e. listed_more places j p ∙ ap₂ (λ (x y : Bool). x || y) (free.1 p e) (ne_eqb j p (λ d. ne (ap (line_of s t) d ∙ e)))))
+              (h.entry t L lt lL)
+        ];
   }
 
 -- none is listed
-pub hidden_none : {s : Shape} {word seen : List ℕ} (touched : List ℕ) → Syndromes s word seen → length touched ≡ 248 → Hidden s word [] seen touched
+pub hidden_none : {s : Shape} {word : List ℕ} {marks : Marks} → Syndromes s word marks.seen → Hidden s word [] marks
 unfolding is_listed any
-hidden_none touched y size = record { size = y.size; size_too = size; entry = λ t L lt lL. inr (y.entry t L lt lL, λ j e. refl) }
-
--- the first places of a list
-pub hides_none : (s : Shape) (seen touched : List ℕ) → HidesAll s [] seen touched seen touched
-hides_none s seen touched = record { size = refl; size_too = refl; all = λ word h. h }
-
-pub hides_more : {s : Shape} {seen₀ touched₀ seen touched seen' touched' : List ℕ} (places : List ℕ) (k : ℕ) → k < length places
-    → HidesAll s (take k places) seen₀ touched₀ seen touched → Hides s (at places k) seen touched seen' touched'
-    → HidesAll s (take (k + 1) places) seen₀ touched₀ seen' touched'
-hides_more places k l a b = record {
-  size = b.size ∙ a.size;
-  size_too = b.size_too ∙ a.size_too;
-  all = λ word h. rw (add-one k, take-suc places k 0 l) (b.next word (take k places) (a.all word h));
-}
+hidden_none y = record { entry = λ t L lt lL. inr (y.entry t L lt lL, λ j e. refl) }

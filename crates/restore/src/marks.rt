@@ -1,48 +1,39 @@
 // The two tables of the checks: what the checks without a listed place show, and which the others are.
-ghost use Rattle.std.specs.Prelude.{◌≡◌, ℕ, ◌<◌, length};
-ghost use Rattle.gtb.specs.Shape.{Lawful, word_length};
+ghost use Rattle.std.specs.Prelude.{ℕ, ◌<◌, length};
+ghost use Rattle.gtb.specs.Shape.{word_length};
 ghost use Rattle.gtb.specs.Square.{at};
-ghost use Rattle.correction.specs.Shipped.{Tabled};
-ghost use Rattle.restore.specs.Steps.{Put, Hides, HidesAll};
+ghost use Rattle.restore.specs.Steps.{Hides, HidesAll};
 
-use correction::shipped::number_by;
-use gtb::Shape;
+use correction::checks::Checks;
 
-// The n checks on position j get the value x.
-fn put(shape: Shape, table: &[u8], values: &mut [u32; 248], j: usize, x: u32)
-    requires { Lawful shape × Tabled shape table.now × (length values.old ≡ 248) × (j < word_length shape) }
-    ensures { Put shape j x shape.n values.old values.new }
-{
-    let n = shape.n as usize;
-    for t in 0..n {
-        let check = number_by(shape, table, t, j);
-        values[check] = x;
+// A check that a listed place is on shows nothing, and is touched (1).
+#[derive(Clone, Copy)]
+pub struct Marks {
+    pub seen: [u32; 248],
+    pub touched: [u32; 248],
+}
+
+impl Marks {
+    // Position j is listed from now on.
+    pub fn hide(&mut self, checks: Checks, j: usize)
+        requires { j < word_length checks.shape }
+        ensures { Hides checks.shape j self.old self.new }
+    {
+        let n = checks.shape.n as usize;
+        for t in 0..n {
+            let check = checks.number(t, j);
+            self.seen[check] = 0;
+            self.touched[check] = 1;
+        }
     }
-}
 
-// Position j is listed from now on: its checks show nothing, and are marked.
-pub fn hide(shape: Shape, table: &[u8], seen: &mut [u32; 248], touched: &mut [u32; 248], j: usize)
-    requires { Lawful shape × Tabled shape table.now × (length seen.old ≡ 248) × (length touched.old ≡ 248) × (j < word_length shape) }
-    ensures { Hides shape j seen.old touched.old seen.new touched.new }
-{
-    put(shape, table, seen, j, 0);
-    put(shape, table, touched, j, 1);
-}
-
-// All places of a list.
-pub fn hide_all(
-    shape: Shape,
-    table: &[u8],
-    seen: &mut [u32; 248],
-    touched: &mut [u32; 248],
-    places: &[u32],
-)
-    requires { Lawful shape × Tabled shape table.now × (length seen.old ≡ 248) × (length touched.old ≡ 248)
-        × ((k : ℕ) → k < length places.now → at places.now k < word_length shape) }
-    ensures { HidesAll shape places.now seen.old touched.old seen.new touched.new }
-{
-    for k in 0..places.len() {
-        let j = places[k] as usize;
-        hide(shape, table, seen, touched, j);
+    // All places of a list.
+    pub fn hide_all(&mut self, checks: Checks, places: &[u32])
+        requires { (k : ℕ) → k < length places.now → at places.now k < word_length checks.shape }
+        ensures { HidesAll checks.shape places.now self.old self.new }
+    {
+        for place in places {
+            self.hide(checks, *place as usize);
+        }
     }
 }

@@ -7,23 +7,18 @@ use lib.Dec.{eqb, ltb}
 use lib.ListN.{length, get_or}
 use Rattle.gtb.specs.declared.Shape.{Shape}
 use Rattle.gtb.specs.declared.Refusal.{Refusal}
-use Rattle.gtb.specs.declared.Status.TheVariants as status
+use Rattle.std.specs.Prelude.{Result, Ok, Err}
 use Rattle.gtb.specs.Shape.{word_length, kept_checks, scratch_length}
 use Rattle.gtb.specs.Positions.{extract_of}
 use Rattle.gtb.specs.Answer.{unless}
 use Rattle.gtb.specs.Alike.{reslope, Alike}
 use Rattle.gtb.proofs.Alikes.{lawful_alike, refusal_alike, extract_alike}
-use Rattle.correction.specs.declared.Decoded.{Decoded}
-use Rattle.correction.specs.declared.Decoded.TheVariants as decoded
-use Rattle.page.specs.declared.PageRead.{PageRead}
-use Rattle.page.specs.declared.PageRead.TheVariants as page
 use Rattle.page.specs.Page.{page_of}
 use Rattle.page.proofs.Alikes.{page_alike, marks_alike}
 use Rattle.session.specs.declared.Session.{Session}
 use Rattle.session.specs.declared.Outcome.{Outcome}
 use Rattle.session.specs.declared.Outcome.TheVariants.{Taken, Again, Refused}
 use Rattle.session.specs.declared.Arrived.{Arrived}
-use Rattle.session.specs.declared.Counted.TheVariants as counted
 use Rattle.session.specs.Session.{consistent, fresh_of, fresh_status, session_status, past, counted_of, recorded}
 use Rattle.session.specs.Arrival.{is_way, way_of, the_ways, Opened, Page, Bad, open_page, open_word, opened, arrival_status, presented, outcome_of, session_by, session_after, word_after, Arriving}
 use Rattle.session.specs.Recording.{Sheet, Recording, Arrival, arrival_at, Fits}
@@ -37,16 +32,16 @@ abbrev pub resloped : Session → List ℕ → Session
 resloped σ slopes = record { shape = reslope σ.shape slopes; taken = σ.taken; calls = σ.calls; pages = σ.pages; lowest = σ.lowest }
 
 module _ (s : Shape) (slopes : List ℕ) (alike : Alike s slopes) where
-  page_opens : (symbols : List ℕ) (k : ℕ) (r : PageRead) → open_page (reslope s slopes) symbols k r ≡ open_page s symbols k r
-  page_opens symbols k (page.Page number c) = ap (λ (marks : List ℕ). Page number marks k) (marks_alike s slopes alike symbols)
-  page_opens symbols k (page.Refused e) = refl
+  page_opens : (symbols : List ℕ) (k : ℕ) (r : Result (ℕ × ℕ) Refusal) → open_page (reslope s slopes) symbols k r ≡ open_page s symbols k r
+  page_opens symbols k (Ok (number, c)) = ap (λ (marks : List ℕ). Page number marks k) (marks_alike s slopes alike symbols)
+  page_opens symbols k (Err e) = refl
 
-  word_opens : (v : List ℕ) (r : Decoded) → open_word (reslope s slopes) v r ≡ open_word s v r
-  word_opens v (decoded.Corrected k) =
+  word_opens : (v : List ℕ) (r : Result ℕ Refusal) → open_word (reslope s slopes) v r ≡ open_word s v r
+  word_opens v (Ok k) =
       ap (λ (symbols : List ℕ). open_page (reslope s slopes) symbols k (page_of (reslope s slopes) symbols)) (extract_alike s slopes alike v)
       ∙ page_opens (extract_of s v) k (page_of (reslope s slopes) (extract_of s v))
       ∙ ap (open_page s (extract_of s v) k) (page_alike s slopes alike (extract_of s v))
-  word_opens v (decoded.Refused e) = refl
+  word_opens v (Err e) = refl
 
   -- the same is opened
   pub opened_alike : (way : ℕ) (word scratch : List ℕ) → opened the_ways (reslope s slopes) way word scratch ≡ opened the_ways s way word scratch
@@ -71,16 +66,16 @@ figures_alike σ slopes = refl
 pub session_status_alike : (σ : Session) (slopes : List ℕ) → Alike σ.shape slopes → session_status (resloped σ slopes) ≡ session_status σ
 unfolding session_status
 session_status_alike σ slopes alike = λ i.
-    unless (lawful_alike σ.shape slopes alike i) (status.Refused (refusal_alike σ.shape slopes alike i))
-    (unless (figures_alike σ slopes i) (status.Refused Refusal.Figures) status.Done)
+    unless (lawful_alike σ.shape slopes alike i) (Err (refusal_alike σ.shape slopes alike i))
+    (unless (figures_alike σ slopes i) (Err Refusal.Figures) (Ok tt))
 
 pub arrival_status_alike : (σ : Session) (slopes : List ℕ) → Alike σ.shape slopes → (way : ℕ)
     → arrival_status the_ways (resloped σ slopes) way ≡ arrival_status the_ways σ way
 unfolding arrival_status
 arrival_status_alike σ slopes alike way = λ i.
-    unless (is_way way) (status.Refused Refusal.Shape)
-    (past (session_status_alike σ slopes alike i) status.Refused
-    (unless ((all_read way).same_suits σ.shape slopes alike i) (status.Refused Refusal.Directions) status.Done))
+    unless (is_way way) (Err Refusal.Shape)
+    (past (session_status_alike σ slopes alike i) Err
+    (unless ((all_read way).same_suits σ.shape slopes alike i) (Err Refusal.Directions) (Ok tt)))
 
 presented_alike : (σ : Session) (slopes : List ℕ) → Alike σ.shape slopes → (way : ℕ) (word scratch : List ℕ)
     → presented the_ways (resloped σ slopes) way word scratch ≡ presented the_ways σ way word scratch
@@ -141,13 +136,13 @@ fresh_alike s slopes = refl
 
 pub status_alike : (s : Shape) (slopes : List ℕ) → Alike s slopes → fresh_status (reslope s slopes) ≡ fresh_status s
 unfolding fresh_status
-status_alike s slopes alike = λ i. unless (lawful_alike s slopes alike i) (status.Refused (refusal_alike s slopes alike i)) status.Done
+status_alike s slopes alike = λ i. unless (lawful_alike s slopes alike i) (Err (refusal_alike s slopes alike i)) (Ok tt)
 
 pub count_alike : (σ : Session) (slopes : List ℕ) → Alike σ.shape slopes → (f : ℕ) → counted_of (resloped σ slopes) f ≡ counted_of σ f
 unfolding counted_of
 count_alike σ slopes alike f = λ i.
-    past (session_status_alike σ slopes alike i) counted.Refused
-    (unless (ltb f 256) (counted.Refused Refusal.Function) (counted.Calls (get_or σ.calls f 0)))
+    past (session_status_alike σ slopes alike i) Err
+    (unless (ltb f 256) (Err Refusal.Function) (Ok (get_or σ.calls f 0)))
 
 -- the list fits no other recording, not even of a shape with other such slopes
 pub only_alike : (s : Shape) (slopes : List ℕ) → Alike s slopes → (arrivals : List Arrival) (pages others : List Sheet)

@@ -1,27 +1,21 @@
 -- An arrival, answer by answer.
 use mathlib.Core.Path.{◌≡◌, refl, sym, ap, ◌∙◌, subst}
 use mathlib.Core.Bool.{Bool, true, false, cond, ◌&&◌}
-use mathlib.Core.List.{List, ◌++◌, append-nil}
+use mathlib.Core.List.{List}
 use Prim.Native.Nat.{ℕ}
-use native.Mathlib.Omega.{arith}
 use lib.Dec.{eqb}
-use lib.ListN.{length, get_or, drop, replicate, drop_of_length-le}
+use lib.ListN.{length, get_or, replicate}
 use borrow.Author.Tests.{eq-eqb, eqb-true}
 use Rattle.parity.proofs.Tests.{and_left, and_right}
 use Rattle.parity.proofs.Lists.{length_tabulate}
 use Rattle.gtb.specs.declared.Shape.{Shape}
 use Rattle.gtb.specs.declared.Refusal.{Refusal}
-use Rattle.gtb.specs.declared.Status.{Status}
-use Rattle.gtb.specs.declared.Status.TheVariants as status
+use Rattle.std.specs.Prelude.{Result, Ok, Err}
 use Rattle.gtb.specs.Shape.{lawful, Lawful, word_length, info_length, scratch_length}
 use Rattle.gtb.specs.Square.{at}
 use Rattle.gtb.specs.Positions.{info_position, extract_of}
 use Rattle.gtb.specs.Answer as answer
 use Rattle.gtb.proofs.Answers.{shape_scratch, unless_done, never_done, never_refused}
-use Rattle.correction.specs.declared.Decoded.{Decoded}
-use Rattle.correction.specs.declared.Decoded.TheVariants as decoded
-use Rattle.page.specs.declared.PageRead.{PageRead}
-use Rattle.page.specs.declared.PageRead.TheVariants as page
 use Rattle.page.specs.Page.{page_of, marks_of}
 use Rattle.session.specs.declared.Session.{Session}
 use Rattle.session.specs.declared.Outcome.TheVariants.{Taken, Again, Refused}
@@ -31,10 +25,6 @@ use Rattle.session.specs.Arrival.{Ways, is_way, way_of, the_ways, Opened, Bad, o
 use Rattle.session.specs.Steps.{session_tests, arrival_tests, word_tests, Admitted, Openable, opened_by, Deciding}
 use Rattle.session.proofs.Late.{late_zeros, page_zeros}
 use Rattle.session.proofs.Ways.{all_read}
-
--- a copy of the whole
-pub whole_copy : (from to : List ℕ) → length from ≡ length to → from ++ drop (length from) to ≡ from
-whole_copy from to size = rw (drop_of_length-le to {i = length from} (omega arith)) (append-nil from)
 
 -- ---- refusals that come before the scratch is touched leave it as it was
 pub length_scratch : {x : List ℕ} → x ≡ answer.scratch_after Refusal.Length x
@@ -54,18 +44,18 @@ unfolding answer.scratch_after
 figures_scratch = refl
 
 -- ---- the tests of a session that is handed in
-pub status_passed : (σ : Session) → session_status σ ≡ status.Done → Lawful σ.shape × Consistent σ
+pub status_passed : (σ : Session) → session_status σ ≡ Ok tt → Lawful σ.shape × Consistent σ
 unfolding session_status
 status_passed σ h =
     let (law, h₁) = unless_done (lawful σ.shape) _ _ h in
     (law, (unless_done (consistent σ) _ _ h₁).0)
 
 -- tests that are passed
-pub past_done : (t next : Status) → past t status.Refused next ≡ status.Done → (t ≡ status.Done) × (next ≡ status.Done)
-past_done status.Done next h = (refl, h)
-past_done (status.Refused e) next h = absurd (never_done e h)
+pub past_done : (t next : Result (Unit {0}) Refusal) → past t Err next ≡ Ok tt → (t ≡ Ok tt) × (next ≡ Ok tt)
+past_done (Ok tt) next h = (refl, h)
+past_done (Err e) next h = absurd (never_done e h)
 
-pub admitted : (σ : Session) (way : ℕ) → arrival_status the_ways σ way ≡ status.Done → Admitted σ way
+pub admitted : (σ : Session) (way : ℕ) → arrival_status the_ways σ way ≡ Ok tt → Admitted σ way
 unfolding arrival_status
 admitted σ way h =
     let (known, h₁) = unless_done (is_way way) _ _ h in
@@ -74,24 +64,24 @@ admitted σ way h =
     record { known = known; lawful = law; consistent = right; suits = (unless_done ((way_of way).suits σ.shape) _ _ h₂).0 }
 
 -- past them the shape is lawful
-pub tests_lawful : (s : Shape) (way : ℕ) (agree : Bool) → arrival_tests s way agree ≡ status.Done → Lawful s
+pub tests_lawful : (s : Shape) (way : ℕ) (agree : Bool) → arrival_tests s way agree ≡ Ok tt → Lawful s
 tests_lawful s way agree h =
     let (session, rest) = past_done (session_tests s agree) _ (unless_done (is_way way) _ _ h).1 in
     (unless_done (lawful s) _ _ session).0
 
 -- a refusal by these tests comes before the scratch is touched
-abbrev Keeps : List ℕ → Status → Type 0
-Keeps x status.Done = Unit {0}
-Keeps x (status.Refused e) = x ≡ answer.scratch_after e x
+abbrev Keeps : List ℕ → Result (Unit {0}) Refusal → Type 0
+Keeps x (Ok tt) = Unit {0}
+Keeps x (Err e) = x ≡ answer.scratch_after e x
 
 module _ (x : List ℕ) where
-  keeps_unless : (t : Bool) (e : Refusal) (next : Status) → x ≡ answer.scratch_after e x → Keeps x next → Keeps x (answer.unless t (status.Refused e) next)
+  keeps_unless : (t : Bool) (e : Refusal) (next : Result (Unit {0}) Refusal) → x ≡ answer.scratch_after e x → Keeps x next → Keeps x (answer.unless t (Err e) next)
   keeps_unless true e next early h = h
   keeps_unless false e next early h = early
 
-  keeps_past : (t next : Status) → Keeps x t → Keeps x next → Keeps x (past t status.Refused next)
-  keeps_past status.Done next early h = h
-  keeps_past (status.Refused e) next early h = early
+  keeps_past : (t next : Result (Unit {0}) Refusal) → Keeps x t → Keeps x next → Keeps x (past t Err next)
+  keeps_past (Ok tt) next early h = h
+  keeps_past (Err e) next early h = early
 
   status_keeps : (ways : Ways) (σ : Session) (way : ℕ) → Keeps x (arrival_status ways σ way)
   unfolding arrival_status session_status
@@ -103,7 +93,7 @@ module _ (x : List ℕ) where
 -- ---- what is presented: test 11 comes before what is opened
 -- the other tests are made twice
 tests_twice : (known law suits : Bool) (e : Refusal) (next : Opened)
-    → past (answer.unless known (status.Refused Refusal.Shape) (past (answer.unless law (status.Refused e) status.Done) status.Refused (answer.unless suits (status.Refused Refusal.Directions) status.Done))) Bad
+    → past (answer.unless known (Err Refusal.Shape) (past (answer.unless law (Err e) (Ok tt)) Err (answer.unless suits (Err Refusal.Directions) (Ok tt)))) Bad
     (answer.unless known (Bad Refusal.Shape) (answer.unless law (Bad e) (answer.unless suits (Bad Refusal.Directions) next)))
     ≡ answer.unless known (Bad Refusal.Shape) (answer.unless law (Bad e) (answer.unless suits (Bad Refusal.Directions) next))
 tests_twice true true true e next = refl
@@ -121,7 +111,7 @@ module _ (ways : Ways) (σ : Session) (way : ℕ) (word scratch : List ℕ) wher
   unfolding presented arrival_status session_status
   presented_figures known law h = rw (known, law, h)
 
-  presented_refused : {e : Refusal} → arrival_status ways σ way ≡ status.Refused e → presented ways σ way word scratch ≡ Bad e
+  presented_refused : {e : Refusal} → arrival_status ways σ way ≡ Err e → presented ways σ way word scratch ≡ Bad e
   unfolding presented
   presented_refused h = rw h
 
@@ -163,37 +153,37 @@ module _ (σ : Session) {s : Shape} {agree : Bool} (same : σ.shape ≡ s) (agre
   fits = eqb (length word) (word_length σ.shape) && eqb (length scratch) (scratch_length σ.shape)
 
   -- those of the definition, then test 2
-  in_order : {r : Status} → word_tests s way agree word scratch ≡ r → past (arrival_status the_ways σ way) status.Refused (answer.unless fits (status.Refused Refusal.Length) status.Done) ≡ r
+  in_order : {r : Result (Unit {0}) Refusal} → word_tests s way agree word scratch ≡ r → past (arrival_status the_ways σ way) Err (answer.unless fits (Err Refusal.Length) (Ok tt)) ≡ r
   unfolding arrival_status session_status fits
   in_order {r} h =
       subst (λ (x : Shape). word_tests x way (consistent σ) word scratch ≡ r) (sym same) (subst (λ (b : Bool). word_tests s way b word scratch ≡ r) agrees h)
 
   -- past them both slices have their lengths
-  passed : arrival_status the_ways σ way ≡ status.Done → fits ≡ true → Consistent σ × Openable σ.shape way word × (length scratch ≡ scratch_length σ.shape)
+  passed : arrival_status the_ways σ way ≡ Ok tt → fits ≡ true → Consistent σ × Openable σ.shape way word × (length scratch ≡ scratch_length σ.shape)
   unfolding fits
   passed h both =
       let a = admitted σ way h in
       (a.consistent, record { known = a.known; lawful = a.lawful; suits = a.suits; size = eqb-true _ _ (and_left (eqb (length word) (word_length σ.shape)) _ both) }, eqb-true _ _ (and_right (eqb (length word) (word_length σ.shape)) _ both))
 
-  pub tests_passed : word_tests s way agree word scratch ≡ status.Done → Consistent σ × Openable σ.shape way word × (length scratch ≡ scratch_length σ.shape)
+  pub tests_passed : word_tests s way agree word scratch ≡ Ok tt → Consistent σ × Openable σ.shape way word × (length scratch ≡ scratch_length σ.shape)
   tests_passed h =
       let (first, last) = past_done (arrival_status the_ways σ way) _ (in_order h) in
       passed first (unless_done fits _ _ last).0
 
   -- turned down
-  turned : {e : Refusal} (t : Status) → arrival_status the_ways σ way ≡ t → (b : Bool) → fits ≡ b → past t status.Refused (answer.unless b (status.Refused Refusal.Length) status.Done) ≡ status.Refused e
+  turned : {e : Refusal} (t : Result (Unit {0}) Refusal) → arrival_status the_ways σ way ≡ t → (b : Bool) → fits ≡ b → past t Err (answer.unless {A = Result (Unit {0}) Refusal} b (Err Refusal.Length) (Ok tt)) ≡ Err e
       → (presented the_ways σ way word scratch ≡ Bad e) × (scratch ≡ answer.scratch_after e scratch)
   unfolding fits opened
-  turned {e} (status.Refused e') is b f h =
+  turned {e} (Err e') is b f h =
       let first = is ∙ h in
       (presented_refused the_ways σ way word scratch first, rw first at (status_keeps scratch the_ways σ way))
-  turned {e} status.Done is true f h = absurd (never_refused e h)
-  turned {e} status.Done is false f h =
+  turned {e} (Ok tt) is true f h = absurd (never_refused e h)
+  turned {e} (Ok tt) is false f h =
       let a = admitted σ way is in
       let length : Refusal.Length ≡ e = cc in
       (presented_opened the_ways σ way word scratch a.consistent ∙ rw (a.known, a.lawful, a.suits, f) (ap Bad length), rw (← length) length_scratch)
 
-  pub tests_refused : {e : Refusal} {r : Arrived} → word_tests s way agree word scratch ≡ status.Refused e → (r.session ≡ σ) × (r.outcome ≡ Refused e)
+  pub tests_refused : {e : Refusal} {r : Arrived} → word_tests s way agree word scratch ≡ Err e → (r.session ≡ σ) × (r.outcome ≡ Refused e)
       → Arriving the_ways σ way word scratch word scratch r
   tests_refused h = let (bad, kept) = turned (arrival_status the_ways σ way) refl fits refl (in_order h) in arriving_bad bad kept
 
@@ -213,18 +203,18 @@ module _ (σ : Session) {way : ℕ} {word : List ℕ} (scratch : List ℕ) (righ
   page_scratch number k false true = refl
   page_scratch number k false false = refl
 
-  page_cleared : (symbols : List ℕ) → length symbols ≡ info_length σ.shape → (k : ℕ) (found : PageRead) → page_of σ.shape symbols ≡ found
+  page_cleared : (symbols : List ℕ) → length symbols ≡ info_length σ.shape → (k : ℕ) (found : Result (ℕ × ℕ) Refusal) → page_of σ.shape symbols ≡ found
       → outcome_scratch scratch (outcome_of σ (open_page σ.shape symbols k found)) ≡ replicate (length scratch) 0
   unfolding outcome_of
-  page_cleared symbols len k (page.Page number c) h = page_scratch number k (get_or σ.taken number _) (overflows σ.calls (marks_of σ.shape symbols))
-  page_cleared symbols len k (page.Refused e) h = page_zeros σ.shape symbols a.lawful len e h scratch
+  page_cleared symbols len k (Ok (number, c)) h = page_scratch number k (get_or σ.taken number _) (overflows σ.calls (marks_of σ.shape symbols))
+  page_cleared symbols len k (Err e) h = page_zeros σ.shape symbols a.lawful len e h scratch
 
-  read_cleared : (v : List ℕ) (found : Decoded) → (way_of way).answer σ.shape word ≡ found
+  read_cleared : (v : List ℕ) (found : Result ℕ Refusal) → (way_of way).answer σ.shape word ≡ found
       → outcome_scratch scratch (outcome_of σ (open_word σ.shape v found)) ≡ replicate (length scratch) 0
   unfolding outcome_of extract_of
-  read_cleared v (decoded.Corrected k) h =
+  read_cleared v (Ok k) h =
       page_cleared (extract_of σ.shape v) (length_tabulate (info_length σ.shape) (λ j. at v (info_position σ.shape j))) k (page_of σ.shape (extract_of σ.shape v)) refl
-  read_cleared v (decoded.Refused e) h = late_zeros e ((all_read way).late σ.shape word a.lawful a.suits a.size e h) scratch
+  read_cleared v (Err e) h = late_zeros e ((all_read way).late σ.shape word a.lawful a.suits a.size e h) scratch
 
   pub word_cleared : outcome_scratch scratch (outcome_of σ (opened the_ways σ.shape way word scratch)) ≡ replicate (length scratch) 0
   word_cleared = rw settled_read (read_cleared ((way_of way).word σ.shape word) ((way_of way).answer σ.shape word) refl)

@@ -14,7 +14,7 @@ use Rattle.paper.specs.Paper as paper
 use Rattle.paper.specs.Writing.{scratch_left}
 use Rattle.gtb.specs.declared.Shape.{Shape}
 use Rattle.gtb.specs.declared.Refusal.{Refusal}
-use Rattle.gtb.specs.declared.Status.TheVariants as status
+use Rattle.std.specs.Prelude.{Result, Ok, Err}
 use Rattle.gtb.specs.Shape.{of, lawful, shape_refusal, Lawful, word_length, info_length, scratch_length, kept_checks}
 use Rattle.gtb.specs.Square.{at, narrow, Word}
 use Rattle.gtb.specs.Positions.{info_position, extract_of}
@@ -26,8 +26,6 @@ use Rattle.gtb.proofs.Stored.{digits_word}
 use Rattle.gtb.proofs.Places.{extracted}
 use Rattle.gtb.proofs.Scratches.{scratch_same}
 use Rattle.distance.proofs.Within.{changed_same}
-use Rattle.correction.specs.declared.Decoded.{Decoded}
-use Rattle.correction.specs.declared.Decoded.TheVariants as decoded
 use Rattle.correction.specs.Reading.{Reader, Meaning, changes_by, restored_by, accepted_by, read_of}
 use Rattle.correction.proofs.Readings.{Meant}
 use Rattle.correction.proofs.Paper.{Named}
@@ -40,8 +38,6 @@ use Rattle.majority.proofs.Paper.{vote_named}
 use Rattle.double.specs.Double as double
 use Rattle.double.proofs.Meaning.{two_meant}
 use Rattle.double.proofs.Paper.{two_named}
-use Rattle.page.specs.declared.PageRead.{PageRead}
-use Rattle.page.specs.declared.PageRead.TheVariants as page
 use Rattle.page.specs.Page.{functions, zeros, most, page_of, marks_of}
 use Rattle.page.proofs.Pages.{passed_read, marks_of_lem}
 use Rattle.page.proofs.Paper.{decides_functions, decides_tail}
@@ -55,16 +51,16 @@ use Rattle.session.proofs.Paper.{decides_figures}
 use Rattle.session.proofs.Taken.{recorded_paper, decides_worn}
 
 -- ---- what is opened, test by test
-open_read : (s : Shape) (v : List ℕ) (t : Bool) (e : Refusal) (next : Decoded) → open_word s v (unless t (decoded.Refused e) next) ≡ unless t (Bad e) (open_word s v next)
+open_read : (s : Shape) (v : List ℕ) (t : Bool) (e : Refusal) (next : Result ℕ Refusal) → open_word s v (unless t (Err e) next) ≡ unless t (Bad e) (open_word s v next)
 open_read s v true e next = refl
 open_read s v false e next = refl
 
-open_page_lem : (s : Shape) (d : List ℕ) (k : ℕ) (t : Bool) (e : Refusal) (next : PageRead) → open_page s d k (unless t (page.Refused e) next) ≡ unless t (Bad e) (open_page s d k next)
+open_page_lem : (s : Shape) (d : List ℕ) (k : ℕ) (t : Bool) (e : Refusal) (next : Result (ℕ × ℕ) Refusal) → open_page s d k (unless t (Err e) next) ≡ unless t (Bad e) (open_page s d k next)
 open_page_lem s d k true e next = refl
 open_page_lem s d k false e next = refl
 
 present : (a c d z : Bool) (e : Refusal) (o : Opened)
-    → past (past (unless a (status.Refused e) (unless c (status.Refused Refusal.Figures) status.Done)) status.Refused (unless d (status.Refused Refusal.Directions) status.Done)) Bad
+    → past (past (unless a (Err e) (unless c (Err Refusal.Figures) (Ok tt))) Err (unless d (Err Refusal.Directions) (Ok tt))) Bad
     (unless a (Bad e) (unless d (Bad Refusal.Directions) (unless z (Bad Refusal.Length) o)))
     ≡ unless a (Bad e) (unless c (Bad Refusal.Figures) (unless d (Bad Refusal.Directions) (unless z (Bad Refusal.Length) o)))
 present false c d z e o = refl
@@ -191,10 +187,10 @@ module _ (σ : Session) (size : length σ.taken ≡ 1024) {way : ℕ} {reader : 
       slim = extracted_narrow sh v (digits_word sh (read_stored sh way word v (named.read meant)).digits)
 
       page_is : page_of sh d
-          ≡ unless (ltb (at d 0) 1024) (page.Refused Refusal.Page)
-          (unless (leb (at d 1) (most sh)) (page.Refused Refusal.Count)
-          (unless (functions (take (at d 1) (drop 2 d))) (page.Refused Refusal.Function)
-          (unless (zeros (drop (2 + at d 1) d)) (page.Refused Refusal.Tail) (page.Page (at d 0) (at d 1)))))
+          ≡ unless (ltb (at d 0) 1024) (Err Refusal.Page)
+          (unless (leb (at d 1) (most sh)) (Err Refusal.Count)
+          (unless (functions (take (at d 1) (drop 2 d))) (Err Refusal.Function)
+          (unless (zeros (drop (2 + at d 1) d)) (Err Refusal.Tail) (Ok (at d 0, at d 1)))))
       unfolding page_of
       page_is = rw (law, eq-eqb _ _ (extracted_size sh v), slim)
 
@@ -228,7 +224,7 @@ module _ (σ : Session) (size : length σ.taken ≡ 1024) {way : ℕ} {reader : 
     }
 
     read_is : Lawful sh → reader.suits sh ≡ true → length word ≡ word_length sh → read_of reader sh word
-        ≡ unless (narrow sh.b word) (decoded.Refused Refusal.Width) (unless (accepted_by reader sh word) (decoded.Refused reader.refusal) (decoded.Corrected (changes_by reader sh word)))
+        ≡ unless (narrow sh.b word) (Err Refusal.Width) (unless (accepted_by reader sh word) (Err reader.refusal) (Ok (changes_by reader sh word)))
     unfolding read_of
     read_is law fits long = rw (law, fits, eq-eqb _ _ long)
 
@@ -259,7 +255,7 @@ module _ (σ : Session) (size : length σ.taken ≡ 1024) {way : ℕ} {reader : 
 
 -- ---- the three ways, and every other number
 by_tests : (σ : Session) (reader : Reader) (word scratch : List ℕ)
-    → past (past (session_status σ) status.Refused (unless (reader.suits σ.shape) (status.Refused Refusal.Directions) status.Done)) Bad
+    → past (past (session_status σ) Err (unless (reader.suits σ.shape) (Err Refusal.Directions) (Ok tt))) Bad
     (unless (lawful σ.shape) (Bad (shape_refusal σ.shape)) (unless (reader.suits σ.shape) (Bad Refusal.Directions)
     (unless (eqb (length word) (word_length σ.shape) && eqb (length scratch) (scratch_length σ.shape)) (Bad Refusal.Length)
     (open_word σ.shape (restored_by reader σ.shape word) (read_of reader σ.shape word)))))

@@ -10,7 +10,7 @@ use Rattle.gtb.specs.declared.Refusal.{Refusal}
 use Rattle.gtb.specs.Shape.{Lawful, word_length}
 use Rattle.gtb.specs.Square.{at, Word, Codeword}
 use Rattle.gtb.specs.Alike.{reslope, Alike}
-use Rattle.correction.specs.declared.Decoded.TheVariants.{Corrected, Refused}
+use Rattle.std.specs.Prelude.{Ok, Err}
 use Rattle.correction.specs.Error.{weight, damaged}
 use Rattle.correction.specs.Reading.{Reader, restored_by, Meaning}
 use Rattle.correction.proofs.Readings.{read_accepted, read_never, read_late, restored_size, Meant, means_read, read_means}
@@ -32,9 +32,9 @@ pub record Asked (way : Way) : Type 0 where
   -- no damage is allowed with a shape that it can be used with
   pub none : (s : Shape) → way.suits s ≡ true → way.Allowed s (at (no_damage s))
   -- what it accepts is a codeword with allowed damage
-  pub reached : (s : Shape) (w : List ℕ) (k : ℕ) → way.answer s w ≡ Corrected k → Reached way s w (way.word s w) k
+  pub reached : (s : Shape) (w : List ℕ) (k : ℕ) → way.answer s w ≡ Ok k → Reached way s w (way.word s w) k
   -- past tests 1, 18, 16 and 2 it refuses by later ones
-  pub late : (s : Shape) (word : List ℕ) → Lawful s → way.suits s ≡ true → length word ≡ word_length s → (e : Refusal) → way.answer s word ≡ Refused e → Late e
+  pub late : (s : Shape) (word : List ℕ) → Lawful s → way.suits s ≡ true → length word ≡ word_length s → (e : Refusal) → way.answer s word ≡ Err e → Late e
   -- the word that it gives is one of the shape
   pub size : (s : Shape) (word : List ℕ) → length (way.word s word) ≡ word_length s
   -- it looks at the first n - 1 slopes alone

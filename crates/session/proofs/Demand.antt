@@ -1,4 +1,6 @@
 -- Demand 3: what comes of a whole list of arrivals that fits a recording.
+use Rattle.gtb.proofs.Answers.{never_done}
+use Rattle.std.specs.Prelude.{Result, Err, Ok}
 use mathlib.Core.Path.{◌≡◌, refl, sym, ap, ◌∙◌, subst}
 use mathlib.Core.Logic.{⊎_elim}
 use mathlib.Core.Bool.{Bool, true, false, cond}
@@ -13,11 +15,8 @@ use Rattle.parity.proofs.Tests.{clash, any_intro, any_elim}
 use Rattle.parity.proofs.Sums.{sum_cong, sum_none, sum_const}
 use Rattle.gtb.specs.declared.Shape.{Shape}
 use Rattle.gtb.specs.declared.Refusal.{Refusal}
-use Rattle.gtb.specs.declared.Status.TheVariants.{Done}
 use Rattle.gtb.specs.Shape.{lawful, Lawful}
 use Rattle.session.specs.declared.Session.{Session}
-use Rattle.session.specs.declared.Fresh.{Fresh}
-use Rattle.session.specs.declared.Counted.TheVariants.{Calls}
 use Rattle.session.specs.declared.Outcome.{Outcome}
 use Rattle.session.specs.declared.Arrived.{Arrived}
 use Rattle.session.specs.Session.{fresh_of, fresh_status, Beginning, session_status, count_of, counted_of}
@@ -180,18 +179,17 @@ module _ (ways : Ways) (s : Shape) (sound : AllSound ways s) (pages : List Sheet
       ∙ total_end (λ p. 1) ∙ sum_const (length pages) 1 ∙ mul-one (length pages)
 
 -- what `Session::fresh` gives of a lawful shape
-abbrev pub made : Shape → Fresh
-made s = record { session = fresh_of s; status = Done }
+abbrev pub made : Shape → Result Session Refusal
+made s = Ok (fresh_of s)
 
 pub made_begins : (s : Shape) → Lawful s → Beginning s (made s)
 unfolding fresh_status
 made_begins s legal = record { session = refl; status = rw legal refl }
 
-begins_made : {s : Shape} {begin : Fresh} → Lawful s → Beginning s begin → begin ≡ made s
+begins_made : {s : Shape} {begin : Result Session Refusal} → Lawful s → Beginning s begin → begin ≡ made s
 unfolding fresh_status
-begins_made {begin = begin} legal b =
-    let status : begin.status ≡ Done = rw legal at b.status in
-    λ i. record { session = b.session i; status = status i }
+begins_made {begin = Ok σ} legal b = ap Ok b.session
+begins_made {begin = Err e} legal b = let status : ◌≡◌ {A = Result (Unit {0}) Refusal} (Err e) (Ok tt) = rw legal at b.status in absurd (never_done e status)
 
 from_made : (ways : Ways) (s : Shape) → AllSound ways s → (pages : List Sheet) (arrivals : List Arrival) (answers : List Outcome) (end : Session)
     → Recording s pages → Fits ways s pages arrivals → Run ways (fresh_of s) arrivals answers end → Demand3 ways s pages (made s) arrivals answers end
@@ -211,7 +209,7 @@ from_made ways s sound pages arrivals answers end r fits run =
         λ b. brought_comes ways s sound pages r arrivals fits m i li b.0 b.1 b.2 b.3,
       );
       whole = whole;
-      counted = λ f l. rw (ap lawful every.shape ∙ r.lawful, every.consistent, lt-ltb f 256 l) (ap Calls (whole f l));
+      counted = λ f l. rw (ap lawful every.shape ∙ r.lawful, every.consistent, lt-ltb f 256 l) (ap Ok (whole f l));
       answer = λ j l i li k b.
           run_reply ways s sound run j l ∙ ap (reply (held ways s arrivals j)) (sheet_opened ways s sound arrivals pages r j i li k b)
           ∙ ap (λ (known : Bool). answer_to known (sheet_at pages i).number k) (held_pages ways s arrivals j (le_of_lt l) (sheet_at pages i).number);

@@ -9,11 +9,10 @@ use Rattle.parity.specs.Xor.{◌⊕◌}
 use Rattle.parity.proofs.Lists.{length_tabulate}
 use Rattle.gtb.specs.declared.Shape.{Shape}
 use Rattle.gtb.specs.declared.Refusal.{Refusal}
-use Rattle.gtb.specs.declared.Status.TheVariants.{Done}
+use Rattle.std.specs.Prelude.{Ok}
 use Rattle.gtb.specs.Shape.{Lawful, word_length, scratch_length}
 use Rattle.gtb.specs.Square.{at}
 use Rattle.gtb.specs.Positions.{extract_of}
-use Rattle.correction.specs.declared.Decoded.TheVariants as decoded
 use Rattle.correction.specs.Error.{weight, damaged}
 use Rattle.page.specs.Page.{write_status}
 use Rattle.page.proofs.Pages.{write_read}
@@ -26,14 +25,14 @@ unfolding damaged
 length_damaged v e = length_tabulate (length v) (λ j. at v j ⊕ at e j)
 
 -- a page that the page writer accepts, read from its stored word
-page_opened : (s : Shape) (p : Sheet) (v : List ℕ) (k : ℕ) → write_status s p.number p.marks (symbols_of s p) ≡ Done
-    → extract_of s v ≡ symbols_of s p → open_word s v (decoded.Corrected k) ≡ Page p.number p.marks k
+page_opened : (s : Shape) (p : Sheet) (v : List ℕ) (k : ℕ) → write_status s p.number p.marks (symbols_of s p) ≡ Ok tt
+    → extract_of s v ≡ symbols_of s p → open_word s v (Ok k) ≡ Page p.number p.marks k
 page_opened s p v k accepted info =
     let (number, marks) = write_read s p.number p.marks (symbols_of s p) accepted in
     rw (info, number) (ap (λ (x : List ℕ). Page p.number x k) marks)
 
 pub brings_opened : (ways : Ways) (s : Shape) → Lawful s → AllSound ways s → (a : Arrival) (p : Sheet) (k : ℕ)
-    → write_status s p.number p.marks (symbols_of s p) ≡ Done → Brings ways s a p k
+    → write_status s p.number p.marks (symbols_of s p) ≡ Ok tt → Brings ways s a p k
     → opened ways s a.way a.word a.scratch ≡ Page p.number p.marks k
 unfolding opened
 brings_opened ways s legal sound a p k accepted b =

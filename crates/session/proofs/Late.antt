@@ -14,8 +14,7 @@ use Rattle.gtb.specs.Square.{at, narrow}
 use Rattle.gtb.specs.Answer.{is_early, unless}
 use Rattle.gtb.specs.Answer as answer
 use Rattle.gtb.proofs.Answers.{late_next}
-use Rattle.page.specs.declared.PageRead.{PageRead}
-use Rattle.page.specs.declared.PageRead.TheVariants as page
+use Rattle.std.specs.Prelude.{Result, Err}
 use Rattle.page.specs.Page.{page_of}
 use Rattle.page.specs.Page as read
 
@@ -27,11 +26,11 @@ unfolding answer.scratch_after
 late_zeros e l x = rw l
 
 -- a test of the page reader that refuses late, and what follows it
-page_late : (t : Bool) (e : Refusal) (next : PageRead) → Late e → ((e' : Refusal) → next ≡ page.Refused e' → Late e')
-    → (e' : Refusal) → unless t (page.Refused e) next ≡ page.Refused e' → Late e'
-page_late = late_next page.Refused (λ e e' h. cc)
+page_late : (t : Bool) (e : Refusal) (next : Result (ℕ × ℕ) Refusal) → Late e → ((e' : Refusal) → next ≡ Err e' → Late e')
+    → (e' : Refusal) → unless t (Err e) next ≡ Err e' → Late e'
+page_late = late_next Err (λ e e' h. cc)
 
-fault_late : (s : Shape) (symbols : List ℕ) → Lawful s → length symbols ≡ info_length s → (e : Refusal) → page_of s symbols ≡ page.Refused e → Late e
+fault_late : (s : Shape) (symbols : List ℕ) → Lawful s → length symbols ≡ info_length s → (e : Refusal) → page_of s symbols ≡ Err e → Late e
 unfolding page_of
 fault_late s symbols law size e h =
     page_late (narrow s.b symbols) Refusal.Width _ refl
@@ -42,6 +41,6 @@ fault_late s symbols law size e h =
     (λ e' r. let z : ◌≡◌ {A = ℕ} 0 1 = cc in absurd (omega arith))))))
     e (rw (law, eq-eqb (length symbols) (info_length s) size) at h)
 
-pub page_zeros : (s : Shape) (symbols : List ℕ) → Lawful s → length symbols ≡ info_length s → (e : Refusal) → page_of s symbols ≡ page.Refused e
+pub page_zeros : (s : Shape) (symbols : List ℕ) → Lawful s → length symbols ≡ info_length s → (e : Refusal) → page_of s symbols ≡ Err e
     → (x : List ℕ) → answer.scratch_after e x ≡ replicate (length x) 0
 page_zeros s symbols law size e h = late_zeros e (fault_late s symbols law size e h)

@@ -11,16 +11,11 @@ use borrow.Author.Tests.{eqb-true}
 use Rattle.parity.proofs.Tests.{and_right}
 use Rattle.gtb.specs.declared.Shape.{Shape}
 use Rattle.gtb.specs.declared.Refusal.{Refusal}
-use Rattle.gtb.specs.declared.Status.{Status}
-use Rattle.gtb.specs.declared.Status.TheVariants as status
+use Rattle.std.specs.Prelude.{Result, Ok, Err}
 use Rattle.gtb.specs.Shape.{lawful, Lawful, shape_refusal, word_length, scratch_length}
 use Rattle.gtb.specs.Positions.{extract_of}
 use Rattle.gtb.specs.Answer.{unless}
 use Rattle.distance.specs.Distance.{Near}
-use Rattle.correction.specs.declared.Decoded.{Decoded}
-use Rattle.correction.specs.declared.Decoded.TheVariants as decoded
-use Rattle.page.specs.declared.PageRead.{PageRead}
-use Rattle.page.specs.declared.PageRead.TheVariants as page
 use Rattle.page.specs.Page.{page_of, marks_of}
 use Rattle.page.proofs.Pages.{read_write}
 use Rattle.session.specs.declared.Session.{Session}
@@ -41,9 +36,9 @@ record ReadPage (number k : ℕ) (marks : List ℕ) (s : Shape) (way : ℕ) (wor
   pub known : is_way way ≡ true
   pub lawful : Lawful s
   pub room : length scratch ≡ scratch_length s
-  pub answer : (way_of way).answer s word ≡ decoded.Corrected k
+  pub answer : (way_of way).answer s word ≡ Ok k
   pub count : ℕ
-  pub page : page_of s (extract_of s ((way_of way).word s word)) ≡ page.Page number count
+  pub page : page_of s (extract_of s ((way_of way).word s word)) ≡ Ok (number, count)
   pub listed : marks_of s (extract_of s ((way_of way).word s word)) ≡ marks
 
 module _ {number k : ℕ} {marks : List ℕ} where
@@ -51,21 +46,21 @@ module _ {number k : ℕ} {marks : List ℕ} where
   unless_page true e h = (refl, h)
   unless_page false e h = let z : ◌≡◌ {A = ℕ} 0 1 = cc in absurd (omega arith)
 
-  past_page : (t : Status) {next : Opened} → past t Bad next ≡ Page number marks k → next ≡ Page number marks k
-  past_page status.Done h = h
-  past_page (status.Refused e) h = let z : ◌≡◌ {A = ℕ} 0 1 = cc in absurd (omega arith)
+  past_page : (t : Result (Unit {0}) Refusal) {next : Opened} → past t Bad next ≡ Page number marks k → next ≡ Page number marks k
+  past_page (Ok tt) h = h
+  past_page (Err e) h = let z : ◌≡◌ {A = ℕ} 0 1 = cc in absurd (omega arith)
 
-  symbols_page : (s : Shape) (symbols : List ℕ) (c : ℕ) (r : PageRead) → open_page s symbols c r ≡ Page number marks k
-      → (c ≡ k) × (m : ℕ) × (r ≡ page.Page number m) × (marks_of s symbols ≡ marks)
-  symbols_page s symbols c (page.Page p m) h = (cc, m, cc, cc)
-  symbols_page s symbols c (page.Refused e) h = let z : ◌≡◌ {A = ℕ} 0 1 = cc in absurd (omega arith)
+  symbols_page : (s : Shape) (symbols : List ℕ) (c : ℕ) (r : Result (ℕ × ℕ) Refusal) → open_page s symbols c r ≡ Page number marks k
+      → (c ≡ k) × (m : ℕ) × (r ≡ Ok (number, m)) × (marks_of s symbols ≡ marks)
+  symbols_page s symbols c (Ok (p, m)) h = (cc, m, cc, cc)
+  symbols_page s symbols c (Err e) h = let z : ◌≡◌ {A = ℕ} 0 1 = cc in absurd (omega arith)
 
-  word_page : (s : Shape) (v : List ℕ) (r : Decoded) → open_word s v r ≡ Page number marks k
-      → (r ≡ decoded.Corrected k) × (m : ℕ) × (page_of s (extract_of s v) ≡ page.Page number m) × (marks_of s (extract_of s v) ≡ marks)
-  word_page s v (decoded.Corrected c) h =
+  word_page : (s : Shape) (v : List ℕ) (r : Result ℕ Refusal) → open_word s v r ≡ Page number marks k
+      → (r ≡ Ok k) × (m : ℕ) × (page_of s (extract_of s v) ≡ Ok (number, m)) × (marks_of s (extract_of s v) ≡ marks)
+  word_page s v (Ok c) h =
       let (same, m, is, listed) = symbols_page s (extract_of s v) c (page_of s (extract_of s v)) h in
-      (ap decoded.Corrected same, m, is, listed)
-  word_page s v (decoded.Refused e) h = let z : ◌≡◌ {A = ℕ} 0 1 = cc in absurd (omega arith)
+      (ap Ok same, m, is, listed)
+  word_page s v (Err e) h = let z : ◌≡◌ {A = ℕ} 0 1 = cc in absurd (omega arith)
 
   opened_page : (s : Shape) (way : ℕ) (word scratch : List ℕ) → opened the_ways s way word scratch ≡ Page number marks k → ReadPage number k marks s way word scratch
   unfolding opened

@@ -8,12 +8,13 @@ use native.Mathlib.Decide.{ℕ_discrete}
 use native.Mathlib.Numerals.{add-one}
 use native.Mathlib.Omega.{arith}
 use lib.Dec.{eqb, leb}
+use Rattle.std.specs.Prelude.{Some, None}
 use lib.ListN.{length, get_or, drop, set, length-set, drop_of_length-le}
 use lib.Seq.{drop-cons, get_or-set_same, get_or-set_other}
 use borrow.Author.Tests.{eq-eqb, ne_eqb, le-leb, lt-leb}
 use Rattle.parity.specs.Count.{bit}
 use Rattle.parity.proofs.Lists.{length_tabulate, at_tabulate, is_tabulate}
-use Rattle.parity.proofs.Tests.{clash, and_both, not_of_false, any_intro, any_none, any_cong}
+use Rattle.parity.proofs.Tests.{and_both, not_of_false, any_intro, any_none, any_cong}
 use Rattle.parity.proofs.Sums.{bit_true, bit_false}
 use Rattle.session.specs.Session.{is_call, count_of, added, overflows}
 use Rattle.session.specs.Steps.{Adding, Counts, Functions}
@@ -120,16 +121,16 @@ module _ {calls marks calls' : List ℕ} {i : ℕ} (h : Turn calls marks calls' 
         small = h.small;
       }
 
-  pub turn_full : i < length marks → 2 ^ 32 ≤ get_or calls' (get_or marks i 0) 0 + bit (is_call (get_or marks i 0)) → Adding calls marks calls' false
+  pub turn_full : i < length marks → 2 ^ 32 ≤ get_or calls' (get_or marks i 0) 0 + bit (is_call (get_or marks i 0)) → Adding calls marks calls' None
   turn_full l full =
       let over : overflows calls' (drop i marks) ≡ true = rw (left l) (passes calls' (get_or marks i 0) (drop (i + 1) marks) (h.small.below i l) full) in
-      record { fits = sym (ap not (same_overflow calls marks calls' (drop i marks) h.sums ∙ over)); sums = λ t. absurd (clash t refl) }
+      record { fits = rw (same_overflow calls marks calls' (drop i marks) h.sums ∙ over); sums = λ t. cc }
 
-  pub turn_all : length marks ≤ i → Adding calls marks calls' true
+  pub turn_all : length marks ≤ i → Adding calls marks calls' (Some tt)
   turn_all l =
       let none : drop i marks ≡ [] = drop_of_length-le marks {i = i} l in
       let fits : overflows calls' (drop i marks) ≡ false = rw none (passes_none calls' h.counts.below) in
       record {
-        fits = sym (ap not (same_overflow calls marks calls' (drop i marks) h.sums ∙ fits));
+        fits = rw (same_overflow calls marks calls' (drop i marks) h.sums ∙ fits);
         sums = λ t. added_none calls' h.counts.size ∙ ap (added calls') (sym none) ∙ h.sums;
       }

@@ -19,10 +19,7 @@ use Rattle.gtb.specs.Shape.{lawful, Lawful, word_length, scratch_length, shape_r
 use Rattle.gtb.specs.Positions.{extract_of}
 use Rattle.gtb.specs.Answer.{refusal_number, unless}
 use Rattle.gtb.proofs.Sizes.{sizes}
-use Rattle.correction.specs.declared.Decoded.{Decoded}
-use Rattle.correction.specs.declared.Decoded.TheVariants as decoded
-use Rattle.page.specs.declared.PageRead.{PageRead}
-use Rattle.page.specs.declared.PageRead.TheVariants as page
+use Rattle.std.specs.Prelude.{Result, Ok, Err}
 use Rattle.page.specs.Page.{most, page_of}
 use Rattle.page.proofs.Pages.{page_facts}
 use Rattle.session.specs.Arrival.{by_session, Ways, AllSound, Opened, Page, Bad, open_page, open_word, is_way, way_of, the_ways, opened}
@@ -43,15 +40,15 @@ session_foreign s e h =
 few_marks : (s : Shape) → Lawful s → most s ≤ 898
 few_marks s h = omega (arith, (sizes s h).info)
 
-page_sane : (s : Shape) (symbols : List ℕ) (k : ℕ) (r : PageRead) → page_of s symbols ≡ r → Sane (open_page s symbols k r)
-page_sane s symbols k (page.Page number c) h =
+page_sane : (s : Shape) (symbols : List ℕ) (k : ℕ) (r : Result (ℕ × ℕ) Refusal) → page_of s symbols ≡ r → Sane (open_page s symbols k r)
+page_sane s symbols k (Ok (number, c)) h =
     let f = page_facts s symbols number c h in
     (f.page, omega (arith, few_marks s f.lawful, f.few, f.length))
-page_sane s symbols k (page.Refused e) h = λ x. page_never s symbols e (session_foreign s e x) h
+page_sane s symbols k (Err e) h = λ x. page_never s symbols e (session_foreign s e x) h
 
-word_sane : (s : Shape) (v : List ℕ) (r : Decoded) → ((e : Refusal) → by_session e ≡ true → r ≡ decoded.Refused e → ⊥) → Sane (open_word s v r)
-word_sane s v (decoded.Corrected k) h = page_sane s (extract_of s v) k (page_of s (extract_of s v)) refl
-word_sane s v (decoded.Refused e) h = λ x. h e x refl
+word_sane : (s : Shape) (v : List ℕ) (r : Result ℕ Refusal) → ((e : Refusal) → by_session e ≡ true → r ≡ Err e → ⊥) → Sane (open_word s v r)
+word_sane s v (Ok k) h = page_sane s (extract_of s v) k (page_of s (extract_of s v)) refl
+word_sane s v (Err e) h = λ x. h e x refl
 
 unless_sane : (t : Bool) (e : Refusal) (next : Opened) → (t ≡ false → by_session e ≡ true → ⊥) → (t ≡ true → Sane next) → Sane (unless t (Bad e) next)
 unless_sane true e next l h = h refl
@@ -75,13 +72,13 @@ opened_sane ways s sound way word scratch =
     (λ _. word_sane s ((ways.named way).word s word) ((ways.named way).answer s word) ((sound.sound way known).never word)))))
 
 -- ---- what an arrival read the clean way, number 0, is never turned down by
-page_opens : (s : Shape) (symbols : List ℕ) (k : ℕ) (e : Refusal) (r : PageRead) → (r ≡ page.Refused e → ⊥) → open_page s symbols k r ≡ Bad e → ⊥
-page_opens s symbols k e (page.Page number c) ne h = let z : ◌≡◌ {A = ℕ} 0 1 = cc in omega arith
-page_opens s symbols k e (page.Refused e') ne h = ne (cc)
+page_opens : (s : Shape) (symbols : List ℕ) (k : ℕ) (e : Refusal) (r : Result (ℕ × ℕ) Refusal) → (r ≡ Err e → ⊥) → open_page s symbols k r ≡ Bad e → ⊥
+page_opens s symbols k e (Ok (number, c)) ne h = let z : ◌≡◌ {A = ℕ} 0 1 = cc in omega arith
+page_opens s symbols k e (Err e') ne h = ne (cc)
 
-word_opens : (s : Shape) (v : List ℕ) (e : Refusal) → Foreign s e → (r : Decoded) → (r ≡ decoded.Refused e → ⊥) → open_word s v r ≡ Bad e → ⊥
-word_opens s v e f (decoded.Corrected k) ne = page_opens s (extract_of s v) k e (page_of s (extract_of s v)) (page_never s (extract_of s v) e f)
-word_opens s v e f (decoded.Refused e') ne = λ h. ne (cc)
+word_opens : (s : Shape) (v : List ℕ) (e : Refusal) → Foreign s e → (r : Result ℕ Refusal) → (r ≡ Err e → ⊥) → open_word s v r ≡ Bad e → ⊥
+word_opens s v e f (Ok k) ne = page_opens s (extract_of s v) k e (page_of s (extract_of s v)) (page_never s (extract_of s v) e f)
+word_opens s v e f (Err e') ne = λ h. ne (cc)
 
 pub opened_never : (s : Shape) (word scratch : List ℕ) (e : Refusal) → Foreign s e → opened the_ways s 0 word scratch ≡ Bad e → ⊥
 unfolding opened is_way way_of

@@ -10,16 +10,13 @@ use Rattle.parity.proofs.Lowest.{Lowest, lowest_is, lowest_right}
 use Rattle.paper.specs.Paper as paper
 use Rattle.gtb.specs.declared.Shape.{Shape}
 use Rattle.gtb.specs.declared.Refusal.{Refusal}
-use Rattle.gtb.specs.declared.Status.TheVariants as status
+use Rattle.std.specs.Prelude.{Result, Ok, Err}
 use Rattle.gtb.specs.Shape.{of, lawful, shape_refusal}
 use Rattle.gtb.specs.Answer.{unless, status_number}
 use Rattle.gtb.proofs.Judging.{Decides, decides_eqb, decides_both, test}
 use Rattle.gtb.proofs.Conditions.{shape_tests}
 use Rattle.session.specs.declared.Session.{Session}
-use Rattle.session.specs.declared.Fresh.{Fresh}
-use Rattle.session.specs.declared.Counted.{Counted}
-use Rattle.session.specs.declared.Counted.TheVariants as counted
-use Rattle.session.specs.Session.{plain, marked, pages_of, lowest_of, consistent, session_status, past, fresh_of, fresh_status, Beginning, counted_of, counted_number}
+use Rattle.session.specs.Session.{begun_session, begun_status, plain, marked, pages_of, lowest_of, consistent, session_status, past, fresh_of, fresh_status, Beginning, counted_of, counted_number}
 
 -- ---- test 11
 module _ (σ : Session) where
@@ -40,7 +37,7 @@ module _ (σ : Session) where
   decides_figures = decides_both _ _ (decides_eqb _ _) (decides_lowest σ.lowest)
 
   past_tests : {A : Type 0} (a c : Bool) (e : Refusal) (refuse : Refusal → A) (next : A)
-      → past (unless a (status.Refused e) (unless c (status.Refused Refusal.Figures) status.Done)) refuse next ≡ unless a (refuse e) (unless c (refuse Refusal.Figures) next)
+      → past (unless a (Err e) (unless c (Err Refusal.Figures) (Ok tt))) refuse next ≡ unless a (refuse e) (unless c (refuse Refusal.Figures) next)
   past_tests false c e refuse next = refl
   past_tests true false e refuse next = refl
   past_tests true true e refuse next = refl
@@ -59,20 +56,20 @@ module _ (σ : Session) where
   decides_function : (f : ℕ) → Decides (ltb f 256) (255 < f)
   decides_function f = record { holds = ltb-false f 256; fails = λ h no. let l = ltb-true f 256 h in omega arith }
 
-  pub counting : (f : ℕ) {r : Counted} → r ≡ counted_of σ f
+  pub counting : (f : ℕ) {r : Result ℕ Refusal} → r ≡ counted_of σ f
       → paper.Counting (plain σ) f (counted_number r)
   unfolding counted_of
   counting f =
-      session_tests_lem counted.Refused _ (ap counted_number) (ap counted_number) (ap counted_number)
+      session_tests_lem Err _ (ap counted_number) (ap counted_number) (ap counted_number)
       (test (ltb f 256) _ _ (decides_function f) (ap counted_number) (λ _. ap counted_number))
 
-  pub counting_asked : (f : ℕ) {r : Counted} → r ≡ counted_of σ f → (r ≡ counted_of σ f) × paper.Counting (plain σ) f (counted_number r)
+  pub counting_asked : (f : ℕ) {r : Result ℕ Refusal} → r ≡ counted_of σ f → (r ≡ counted_of σ f) × paper.Counting (plain σ) f (counted_number r)
   counting_asked f h = (h, counting f h)
 
 -- ---- the fresh session
-pub beginning : (s : Shape) (r : Fresh) → Beginning s r → paper.Beginning (of s) (plain r.session) (status_number r.status)
+pub beginning : (s : Shape) (r : Result Session Refusal) → Beginning s r → paper.Beginning (of s) (plain (begun_session s r)) (status_number (begun_status r))
 unfolding fresh_status fresh_of
-beginning s r x = shape_tests s status.Refused _ (ap status_number) (ap status_number) (λ _ h. (ap status_number h, ap plain x.session)) x.status
+beginning s r x = shape_tests s Err _ (ap status_number) (ap status_number) (λ _ h. (ap status_number h, ap plain x.session)) x.status
 
-pub beginning_asked : {s : Shape} {r : Fresh} → Beginning s r → Beginning s r × paper.Beginning (of s) (plain r.session) (status_number r.status)
+pub beginning_asked : {s : Shape} {r : Result Session Refusal} → Beginning s r → Beginning s r × paper.Beginning (of s) (plain (begun_session s r)) (status_number (begun_status r))
 beginning_asked {s} {r} x = (x, beginning s r x)

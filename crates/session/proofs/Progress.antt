@@ -1,25 +1,26 @@
 -- The two figures: counted and searched for, tested, and kept by an arrival.
 use mathlib.Core.Path.{◌≡◌, refl, sym, ap, ap₂, ◌∙◌}
 use mathlib.Core.Bool.{Bool, true, false, not, ◌&&◌, and-true}
-use mathlib.Core.List.{List}
+use mathlib.Core.List.{List, ◌++◌}
 use mathlib.Core.Logic.{⊎_elim}
 use Prim.Native.Nat.{ℕ, ◌+◌, ◌-◌, ◌<◌, ◌≤◌}
-use native.Mathlib.Nat.{eq-or-lt_of_le, le_of_suc-le-suc}
-use native.Mathlib.Numerals.{add-one}
 use native.Mathlib.Omega.{arith}
 use lib.Dec.{eqb}
-use lib.ListN.{length, set, get_or-replicate}
-use lib.Seq.{get_or-set_same, get_or-set_other}
+use lib.ListN.{length, set, take, drop, get_or-append, get_or-replicate}
+use lib.Seq.{get_or-set_same, get_or-set_other, length-take-le}
+use Rattle.std.proofs.lemmas.List.{get_or-append-add, get_or-take, get_or-drop, length-append}
+use Rattle.std.proofs.lemmas.Bool.{cases_lt}
 use borrow.Author.Tests.{eq-eqb, ne_eqb, eqb-true, eqb-false}
 use mir.Val.{bool_byte}
-use Rattle.parity.specs.Count.{bit, count}
+use Rattle.parity.specs.Count.{bit, sum, count}
 use Rattle.parity.proofs.Tests.{either, clash, and_both, and_left, and_right, and_no_left, and_no_right, not_of_true, not_of_false}
-use Rattle.parity.proofs.Sums.{sum_split, count_zero, count_more, count_cong, count_bound, count_none, count_all}
+use Rattle.parity.proofs.Sums.{sum_split, sum_cong, count_zero, count_cong, count_bound, count_none, count_all}
 use Rattle.parity.proofs.Pigeon.{count_others}
 use Rattle.parity.proofs.Lowest.{Lowest, lowest_is, lowest_right, full_count}
 use Rattle.gtb.specs.declared.Shape.{Shape}
 use Rattle.session.specs.declared.Session.{Session}
 use Rattle.session.specs.Session.{marked, pages_of, lowest_of, consistent, Consistent, fresh_of, figured, recorded}
+use Rattle.session.specs.Steps.{marks_in}
 use Rattle.session.specs.declared.Arrived.{Arrived}
 use Rattle.session.specs.Arrival.{Ways, Opened, session_after, Answering}
 use Rattle.session.proofs.Settle.{after_cases}
@@ -32,28 +33,26 @@ unfolding bit
 bit_byte true = refl
 bit_byte false = refl
 
--- the places from one on that pass a test: none yet
-pub none_counted : (p : ℕ → Bool) (from : ℕ) → 0 ≡ count (from - from) (λ k. p (from + k))
-none_counted p from =
-    let none : 0 ≡ from - from = omega arith in
-    sym (count_zero (λ k. p (from + k))) ∙ ap (λ (n : ℕ). count n (λ k. p (from + k))) none
-
--- one place more
-pub counted_more : (p : ℕ → Bool) (from i : ℕ) {n : ℕ} → from ≤ i → n ≡ count (i - from) (λ k. p (from + k)) → n + bit (p i) ≡ count (i + 1 - from) (λ k. p (from + k))
-counted_more p from i l h =
-    let here : from + (i - from) ≡ i = omega arith in
-    let next : i - from + 1 ≡ i + 1 - from = omega arith in
-    ap (λ (x : ℕ). x + bit (p i)) h
-    ∙ ap (λ (x : ℕ). count (i - from) (λ k. p (from + k)) + bit (p x)) (sym here)
-    ∙ sym (count_more (i - from) (λ k. p (from + k)))
-    ∙ ap (λ (k : ℕ). count k (λ j. p (from + j))) next
-
--- a piece more
-pub piece_more : (p : ℕ → Bool) (from to : ℕ) → from ≤ to → count from p + count (to - from) (λ k. p (from + k)) ≡ count to p
+-- a piece of the marks more
+pub marks_joined : (xs ys : List Bool) → marks_in (xs ++ ys) ≡ marks_in xs + marks_in ys
 unfolding count
-piece_more p from to l =
-    let next : from + (to - from) ≡ to = omega arith in
-    sym (sum_split from (to - from) (λ k. bit (p k))) ∙ ap (λ (k : ℕ). count k p) next
+marks_joined xs ys =
+    let f : ℕ → ℕ = λ k. bit (marked (xs ++ ys) k) in
+    ap (λ (n : ℕ). sum n f) (length-append xs ys)
+    ∙ sum_split (length xs) (length ys) f
+    ∙ ap₂ (λ (a b : ℕ). a + b)
+    (sum_cong (length xs) f (λ k. bit (marked xs k)) (λ k l. ap bit (get_or-append xs ys false k l)))
+    (sum_cong (length ys) (λ k. f (length xs + k)) (λ k. bit (marked ys k)) (λ k l. ap bit (get_or-append-add xs ys k false)))
+
+-- those at the front
+pub marks_front : (taken : List Bool) (end : ℕ) → end ≤ length taken → marks_in (take end taken) ≡ count end (marked taken)
+marks_front taken end l =
+    ap (λ (n : ℕ). count n (marked (take end taken))) (length-take-le end taken l)
+    ∙ count_cong end (marked (take end taken)) (marked taken) (λ k below. get_or-take end taken k false below)
+
+-- none
+pub marks_none : (xs : List Bool) → length xs ≡ 0 → marks_in xs ≡ 0
+marks_none xs e = ap (λ (n : ℕ). count n (marked xs)) e ∙ count_zero (marked xs)
 
 -- ---- the test
 
@@ -63,10 +62,18 @@ pub lowest_found : (taken : List Bool) (lowest : ℕ) → lowest ≤ 1024 → ((
 unfolding lowest_of
 lowest_found taken lowest few below free = sym (lowest_is 1024 (marked taken) lowest (record { upto = few; below = below; fails = free }))
 
--- one more is taken
-pub one_more : (taken : List Bool) (at : ℕ) → ((p : ℕ) → p < at → marked taken p ≡ true) → marked taken at ≡ true → (p : ℕ) → p < at + 1 → marked taken p ≡ true
-one_more taken at below here p l =
-    ⊎_elim (λ (e : p ≡ at). ap (marked taken) e ∙ here) (below p) (eq-or-lt_of_le (le_of_suc-le-suc (rw (add-one at) at l)))
+-- the marks from one number on
+pub mark_behind : (taken : List Bool) (from k : ℕ) → k < 1024 - from → marked (take (1024 - from) (drop from taken)) k ≡ marked taken (from + k)
+mark_behind taken from k l = get_or-take (1024 - from) (drop from taken) k false l ∙ get_or-drop from taken k false
+
+-- behind marks that are taken, i more are
+pub below_found : (taken : List Bool) (from i : ℕ) → i ≤ 1024 - from → ((p : ℕ) → p < from → marked taken p ≡ true)
+    → ((k : ℕ) → k < i → marked (take (1024 - from) (drop from taken)) k ≡ true) → (p : ℕ) → p < from + i → marked taken p ≡ true
+below_found taken from i room below more p l =
+    ⊎_elim (λ (h : p < from). below p h)
+    (λ (h : from ≤ p).
+    ap (marked taken) (omega arith) ∙ sym (mark_behind taken from (p - from) (omega arith)) ∙ more (p - from) (omega arith))
+    (cases_lt p from)
 
 -- so with what the marks say
 pub lowest_facts : (taken : List Bool) → Lowest 1024 (marked taken) (lowest_of taken)

@@ -1,9 +1,10 @@
 -- The last step of an arrival, answer by answer.
 use mathlib.Core.Path.{◌≡◌, refl, ◌∙◌}
-use mathlib.Core.Bool.{true, false}
+use mathlib.Core.Bool.{Bool, true, false}
 use mathlib.Core.List.{List}
 use Prim.Native.Nat.{ℕ}
 use lib.ListN.{get_or}
+use Rattle.std.specs.Prelude.{cond, Option, Some, None, is_some}
 use Rattle.gtb.specs.declared.Refusal.{Refusal}
 use Rattle.session.specs.declared.Session.{Session}
 use Rattle.session.specs.declared.Outcome.{Outcome}
@@ -23,6 +24,15 @@ after_cases P σ same more o = by o (outcome_of σ o)
     by (Page number marks k) (Again p c) = same
     by (Page number marks k) (Refused e) = same
     by (Bad e) r = same
+
+-- whether the marks were added tells whether a count passes its limit
+pub not_added : (passes : Bool) {r : Option (Unit {0})} → r ≡ cond passes None (Some tt) → is_some r ≡ false → passes ≡ true
+not_added true h none = refl
+not_added false h none = cc
+
+pub all_added : (passes : Bool) {r : Option (Unit {0})} → r ≡ cond passes None (Some tt) → is_some r ≡ true → (passes ≡ false) × (r ≡ Some tt)
+all_added true h some = cc
+all_added false h some = (refl, h)
 
 -- nothing was brought
 pub settle_bad : {σ : Session} {e : Refusal} → Settling σ (Bad e) (record { session = σ; outcome = Refused e })

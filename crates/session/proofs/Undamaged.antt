@@ -7,7 +7,7 @@ use Prim.Native.Nat.{ℕ, zero, suc, ◌<◌, suc-le-suc, zero-le}
 use native.Mathlib.Nat.{not-suc-le-zero, le_of_suc-le-suc}
 use lib.ListN.{length, replicate, length-replicate}
 use Rattle.gtb.specs.declared.Shape.{Shape}
-use Rattle.gtb.specs.declared.Status.TheVariants.{Done}
+use Rattle.std.specs.Prelude.{Ok}
 use Rattle.gtb.specs.Shape.{Lawful, scratch_length}
 use Rattle.gtb.proofs.Words.{narrow_at}
 use Rattle.gtb.proofs.Codewords.{codeword_exists}
@@ -25,7 +25,7 @@ pub record Undamaged (s : Shape) (way : ℕ) (p : Sheet) (a : Arrival) : Type 0 
 
 -- a page that the page writer accepts, brought as it was stored
 pub undamaged : (s : Shape) → Lawful s → (way : ℕ) → is_way way ≡ true → (way_of way).suits s ≡ true → (p : Sheet)
-    → write_status s p.number p.marks (symbols_of s p) ≡ Done → (a : Arrival) × Undamaged s way p a
+    → write_status s p.number p.marks (symbols_of s p) ≡ Ok tt → (a : Arrival) × Undamaged s way p a
 undamaged s legal way known suits p accepted =
     let facts = page_facts s (symbols_of s p) p.number (length p.marks) (write_read s p.number p.marks (symbols_of s p) accepted).0 in
     let (stored, encodes) = codeword_exists s legal (symbols_of s p) facts.size (narrow_at s.b (symbols_of s p) facts.width) in (
@@ -48,7 +48,7 @@ undamaged s legal way known suits p accepted =
 
 -- an arrival for each of the pages
 one_each : (s : Shape) → Lawful s → (way : ℕ → ℕ) → ((i : ℕ) → is_way (way i) ≡ true) → ((i : ℕ) → (way_of (way i)).suits s ≡ true) → (pages : List Sheet)
-    → ((i : ℕ) → i < length pages → write_status s (sheet_at pages i).number (sheet_at pages i).marks (symbols_of s (sheet_at pages i)) ≡ Done)
+    → ((i : ℕ) → i < length pages → write_status s (sheet_at pages i).number (sheet_at pages i).marks (symbols_of s (sheet_at pages i)) ≡ Ok tt)
     → (arrivals : List Arrival) × (length arrivals ≡ length pages)
     × ((i : ℕ) → i < length pages → Undamaged s (way i) (sheet_at pages i) (arrival_at arrivals i))
 one_each s legal way known suits [] accepted = ([], refl, λ i l. absurd (not-suc-le-zero l))

@@ -10,7 +10,8 @@ use borrow.Author.Tests.{ltb-true, le-leb, leb-true}
 use Rattle.gtb.specs.declared.Shape.{Shape}
 use Rattle.gtb.specs.Shape.{Lawful}
 use Rattle.distance.specs.Distance.{Near}
-use Rattle.correction.specs.declared.Decoded.{Decoded}
+use Rattle.std.specs.Prelude.{Result}
+use Rattle.gtb.specs.declared.Refusal.{Refusal}
 use Rattle.correction.proofs.Near.{damaged_near, near_damages}
 use Rattle.decoder.specs.Damage.{Explains}
 use Rattle.decoder.specs.Decode.{Decoding}
@@ -76,7 +77,7 @@ pub all_sound : (s : Shape) → Lawful s → AllSound the_ways s
 all_sound s legal = record { sound = λ way known. (all_read way).sound s legal }
 
 -- what each reader ensures is what its way gives
-module _ {s : Shape} {w w' : List ℕ} {r : Decoded} where
+module _ {s : Shape} {w w' : List ℕ} {r : Result ℕ Refusal} where
   pub reads_clean : (way : ℕ) → way ≡ 0 → Decoding s w w' r → Reading (way_of way) s w w' r
   unfolding way_of
   reads_clean way h read = rw h (record { answer = read.answer; word = read.word })

@@ -1,25 +1,18 @@
 -- An arrival (RULES 5). What it brings is opened without the session; the session then decides.
-use Rattle.std.specs.Prelude.{◌≡◌, Bool, true, false, cond, ◌&&◌, ◌||◌, List, [], ◌∷◌, ℕ, zero, suc, ◌-◌, ◌/◌, ◌≤◌, eqb, ltb, length, get_or, replicate}
+use Rattle.std.specs.Prelude.{◌≡◌, Bool, true, false, cond, ◌&&◌, ◌||◌, List, [], ◌∷◌, ℕ, zero, suc, ◌-◌, ◌/◌, ◌≤◌, eqb, ltb, length, get_or, replicate, Result, Ok, Err}
 use Rattle.paper.specs.Session as paper
 use Rattle.gtb.specs.declared.Shape.{Shape}
 use Rattle.gtb.specs.declared.Refusal.{Refusal}
-use Rattle.gtb.specs.declared.Status.{Status}
-use Rattle.gtb.specs.declared.Status.TheVariants.{Done}
-use Rattle.gtb.specs.declared.Status.TheVariants as status
 use Rattle.gtb.specs.Shape.{lawful, shape_refusal, word_length, scratch_length}
 use Rattle.gtb.specs.Square.{at, Word, Codeword}
 use Rattle.gtb.specs.Positions.{extract_of}
 use Rattle.gtb.specs.Answer.{refusal_number, unless, scratch_after}
-use Rattle.correction.specs.declared.Decoded.{Decoded}
-use Rattle.correction.specs.declared.Decoded.TheVariants as decoded
 use Rattle.correction.specs.Error.{weight, damaged}
 use Rattle.correction.specs.Reading.{Reader, restored_by, read_of}
 use Rattle.decoder.specs.Damage.{Unmasked}
 use Rattle.decoder.specs.Decode as decoder
 use Rattle.majority.specs.Majority as majority
 use Rattle.double.specs.Double as double
-use Rattle.page.specs.declared.PageRead.{PageRead}
-use Rattle.page.specs.declared.PageRead.TheVariants as page
 use Rattle.page.specs.Page.{page_of, marks_of}
 use Rattle.session.specs.declared.Session.{Session}
 use Rattle.session.specs.declared.Outcome.{Outcome}
@@ -42,7 +35,7 @@ left r word scratch = record { session = plain r.session; word = word; scratch =
 
 -- a way of reading: its answer, the stored word that it gives, the damage that it is to undo, and test 16: whether it can be used with the shape at all
 pub record Way : Type 1 where
-  pub answer : Shape → List ℕ → Decoded
+  pub answer : Shape → List ℕ → Result ℕ Refusal
   pub word : Shape → List ℕ → List ℕ
   pub Allowed : Shape → (ℕ → ℕ) → Type 0
   pub suits : Shape → Bool
@@ -54,8 +47,8 @@ by_session e = eqb (refusal_number e) 9 || eqb (refusal_number e) 11
 -- it gives, for every stored word and allowed damage, that word and the number of digits changed, and then can be used with the shape; it never refuses as a session does
 pub record Sound (way : Way) (s : Shape) : Type 0 where
   pub right : (v e : List ℕ) → Codeword s v → Word s e → way.Allowed s (at e)
-      → (way.answer s (damaged v e) ≡ decoded.Corrected (weight s (at e))) × (way.word s (damaged v e) ≡ v) × (way.suits s ≡ true)
-  pub never : (w : List ℕ) (e : Refusal) → by_session e ≡ true → way.answer s w ≡ decoded.Refused e → ⊥
+      → (way.answer s (damaged v e) ≡ Ok (weight s (at e))) × (way.word s (damaged v e) ≡ v) × (way.suits s ≡ true)
+  pub never : (w : List ℕ) (e : Refusal) → by_session e ≡ true → way.answer s w ≡ Err e → ⊥
 
 -- a reader as a way, with the damage that it is to undo
 abbrev pub way_by : Reader → (Shape → (ℕ → ℕ) → Type 0) → Way
@@ -101,14 +94,14 @@ pub data Opened : Type 0 where
   Bad : Refusal → Opened
 
 -- the page in the information symbols
-abbrev pub open_page : Shape → List ℕ → ℕ → PageRead → Opened
-open_page s symbols k (page.Page number c) = Page number (marks_of s symbols) k
-open_page s symbols k (page.Refused e) = Bad e
+abbrev pub open_page : Shape → List ℕ → ℕ → Result (ℕ × ℕ) Refusal → Opened
+open_page s symbols k (Ok (number, c)) = Page number (marks_of s symbols) k
+open_page s symbols k (Err e) = Bad e
 
 -- the page in the data digits of the word that was read
-abbrev pub open_word : Shape → List ℕ → Decoded → Opened
-open_word s v (decoded.Corrected k) = open_page s (extract_of s v) k (page_of s (extract_of s v))
-open_word s v (decoded.Refused e) = Bad e
+abbrev pub open_word : Shape → List ℕ → Result ℕ Refusal → Opened
+open_word s v (Ok k) = open_page s (extract_of s v) k (page_of s (extract_of s v))
+open_word s v (Err e) = Bad e
 
 -- tests 1, 18, 16, 2 to 8, for a session whose figures are right: a number that names no way is 1, whatever the shape; the word is read that way, its data digits taken out, the page read
 unfoldable pub opened : Ways → Shape → ℕ → List ℕ → List ℕ → Opened
@@ -120,11 +113,11 @@ opened ways s k word scratch =
     (open_word s ((ways.named k).word s word) ((ways.named k).answer s word)))))
 
 -- the tests of the session and the way's number: test 11 comes directly after 1 and 18, so before 16
-unfoldable pub arrival_status : Ways → Session → ℕ → Status
+unfoldable pub arrival_status : Ways → Session → ℕ → Result (Unit {0}) Refusal
 arrival_status ways σ k =
-    unless (ways.known k) (status.Refused Refusal.Shape)
-    (past (session_status σ) status.Refused
-    (unless ((ways.named k).suits σ.shape) (status.Refused Refusal.Directions) Done))
+    unless (ways.known k) (Err Refusal.Shape)
+    (past (session_status σ) Err
+    (unless ((ways.named k).suits σ.shape) (Err Refusal.Directions) (Ok tt)))
 
 -- what an arrival brings with test 11
 unfoldable pub presented : Ways → Session → ℕ → List ℕ → List ℕ → Opened

@@ -1,16 +1,13 @@
 -- What must come of a list of arrivals: the claim of demand 3 (RULES 5; demand 3 is RULES 12).
-use Rattle.std.specs.Prelude.{◌≡◌, ◌↔◌, Bool, true, false, ◌||◌, List, [], ◌∷◌, ℕ, ◌+◌, ◌*◌, ◌<◌, ◌≤◌, eqb, length, get_or, take}
+use Rattle.std.specs.Prelude.{Result, ◌≡◌, ◌↔◌, Bool, true, false, ◌||◌, List, [], ◌∷◌, ℕ, ◌+◌, ◌*◌, ◌<◌, ◌≤◌, eqb, length, get_or, take, Ok}
 use Rattle.parity.specs.Count.{any, count, lowest_not}
 use Rattle.gtb.specs.declared.Shape.{Shape}
 use Rattle.gtb.specs.declared.Refusal.{Refusal}
-use Rattle.gtb.specs.declared.Status.TheVariants.{Done}
 use Rattle.session.specs.declared.Session.{Session}
-use Rattle.session.specs.declared.Fresh.{Fresh}
-use Rattle.session.specs.declared.Counted.TheVariants.{Calls}
 use Rattle.session.specs.declared.Outcome.{Outcome}
 use Rattle.session.specs.declared.Outcome.TheVariants.{Taken, Again, Refused}
 use Rattle.session.specs.declared.Arrived.{Arrived}
-use Rattle.session.specs.Session.{Consistent, Beginning, count_of, counted_of}
+use Rattle.session.specs.Session.{begun_session, begun_status, Consistent, Beginning, count_of, counted_of}
 use Rattle.session.specs.Arrival.{by_session, Ways, AllSound, Opened, Page, Bad, opened, Arriving}
 use Rattle.session.specs.Recording.{Sheet, sheet_at, Recording, tally, Arrival, arrival_at, opened_at, TurnedDown, Brings, Fits}
 
@@ -99,11 +96,11 @@ pub record SameSheets (pages others : List Sheet) : Type 0 where
   pub back : (j : ℕ) → j < length others → (i : ℕ) × (i < length pages) × (sheet_at pages i ≡ sheet_at others j)
 
 -- what such a list must show, from what `Session::fresh` gave on
-pub record Demand3 (ways : Ways) (s : Shape) (pages : List Sheet) (begin : Fresh) (arrivals : List Arrival) (answers : List Outcome) (end : Session) : Type 0 where
+pub record Demand3 (ways : Ways) (s : Shape) (pages : List Sheet) (begin : Result Session Refusal) (arrivals : List Arrival) (answers : List Outcome) (end : Session) : Type 0 where
   -- the session was made
-  pub made : begin.status ≡ Done
+  pub made : begun_status begin ≡ Ok tt
   -- after every prefix the counts are those of the pages that have come unrefused so far
-  pub sofar : (m : ℕ) → m ≤ length arrivals → (first : List Outcome) (σ : Session) → Run ways begin.session (take m arrivals) first σ
+  pub sofar : (m : ℕ) → m ≤ length arrivals → (first : List Outcome) (σ : Session) → Run ways (begun_session s begin) (take m arrivals) first σ
       → (first ≡ take m answers) × ((f : ℕ) → f < 256 → get_or σ.calls f 0 ≡ tally pages (λ p. come ways s arrivals m p.number) f)
   -- and a page of the recording has come so far exactly if an arrival so far brings it
   pub came : (m : ℕ) → m ≤ length arrivals → (i : ℕ) → i < length pages
@@ -112,21 +109,21 @@ pub record Demand3 (ways : Ways) (s : Shape) (pages : List Sheet) (begin : Fresh
   -- at the end the counts are the recording's own
   pub whole : (f : ℕ) → f < 256 → get_or end.calls f 0 ≡ tally pages (λ p. true) f
   -- and so a count query answers
-  pub counted : (f : ℕ) → f < 256 → counted_of end f ≡ Calls (tally pages (λ p. true) f)
+  pub counted : (f : ℕ) → f < 256 → counted_of end f ≡ Ok (tally pages (λ p. true) f)
   -- which answer an arrival that brings a page gets
   pub answer : (j : ℕ) → j < length arrivals → (i : ℕ) → i < length pages → (k : ℕ) → Brings ways s (arrival_at arrivals j) (sheet_at pages i) k
       → answer_at answers j ≡ answer_to (come ways s arrivals j (sheet_at pages i).number) (sheet_at pages i).number k
   -- taken is answered as often as the recording has pages
   pub taken : count (length answers) (λ j. is_taken (answer_at answers j)) ≡ length pages
   -- an arrival that is turned down is answered with that number, and what holds of every list holds of this one
-  pub every : EveryList ways s begin.session arrivals answers end
+  pub every : EveryList ways s (begun_session s begin) arrivals answers end
   -- the list fits no other recording of this shape
   pub only : (others : List Sheet) → Recording s others → Fits ways s others arrivals → SameSheets pages others
 
 -- for every recording, every list of arrivals, each by its own way, that fits it, and whatever run of them from what `Session::fresh` ensures on
 abbrev pub ClaimOf : Ways → Shape → Type 0
-ClaimOf ways s = (pages : List Sheet) (arrivals : List Arrival) (answers : List Outcome) (begin : Fresh) (end : Session)
-    → Recording s pages → Fits ways s pages arrivals → Beginning s begin → Run ways begin.session arrivals answers end
+ClaimOf ways s = (pages : List Sheet) (arrivals : List Arrival) (answers : List Outcome) (begin : Result Session Refusal) (end : Session)
+    → Recording s pages → Fits ways s pages arrivals → Beginning s begin → Run ways (begun_session s begin) arrivals answers end
     → Demand3 ways s pages begin arrivals answers end
 
 -- the one claim, of any ways of reading that are sound

@@ -1,9 +1,8 @@
 -- A recording, and the arrivals that fit it (RULES 5).
-use Rattle.std.specs.Prelude.{◌≡◌, ◌⊎◌, Bool, true, cond, List, [], ℕ, ◌<◌, length, get_or}
+use Rattle.std.specs.Prelude.{◌≡◌, ◌⊎◌, Bool, true, cond, List, [], ℕ, ◌<◌, length, get_or, Ok}
 use Rattle.parity.specs.Count.{sum}
 use Rattle.gtb.specs.declared.Shape.{Shape}
 use Rattle.gtb.specs.declared.Refusal.{Refusal}
-use Rattle.gtb.specs.declared.Status.TheVariants.{Done}
 use Rattle.gtb.specs.Shape.{Lawful, scratch_length}
 use Rattle.gtb.specs.Square.{at, Word}
 use Rattle.gtb.specs.Positions.{Encodes}
@@ -35,7 +34,7 @@ symbols_of s p = page_symbols s p.number p.marks
 pub record Recording (s : Shape) (pages : List Sheet) : Type 0 where
   pub lawful : Lawful s
   -- the writer's test 2 is about the length of the lent list: the page's own symbols have length K, so that the tests on page and marks alone decide
-  pub accepted : (i : ℕ) → i < length pages → write_status s (sheet_at pages i).number (sheet_at pages i).marks (symbols_of s (sheet_at pages i)) ≡ Done
+  pub accepted : (i : ℕ) → i < length pages → write_status s (sheet_at pages i).number (sheet_at pages i).marks (symbols_of s (sheet_at pages i)) ≡ Ok tt
   pub different : (i j : ℕ) → i < length pages → j < length pages → (sheet_at pages i).number ≡ (sheet_at pages j).number → i ≡ j
 
 -- the tally of those of the pages that pass a test: for function f the number of marks for it

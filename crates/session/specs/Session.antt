@@ -1,19 +1,13 @@
 -- The session, fresh and after a page (RULES 5).
-use Rattle.std.specs.Prelude.{Bool, true, false, not, ◌&&◌, List, [], ◌∷◌, ◌≡◌, ℕ, ◌+◌, ◌^◌, eqb, leb, ltb, get_or, set, replicate}
+use Rattle.std.specs.Prelude.{Bool, true, false, not, ◌&&◌, List, [], ◌∷◌, ◌≡◌, ℕ, ◌+◌, ◌^◌, eqb, leb, ltb, get_or, set, replicate, Result, Ok, Err}
 use Rattle.parity.specs.Count.{bit, any, count, lowest_not}
 use Rattle.parity.specs.Lists.{tabulate}
 use Rattle.paper.specs.Session as paper
 use Rattle.gtb.specs.declared.Shape.{Shape}
 use Rattle.gtb.specs.declared.Refusal.{Refusal}
-use Rattle.gtb.specs.declared.Status.{Status}
-use Rattle.gtb.specs.declared.Status.TheVariants.{Done}
-use Rattle.gtb.specs.declared.Status.TheVariants as status
 use Rattle.gtb.specs.Shape.{of, lawful, shape_refusal}
 use Rattle.gtb.specs.Answer.{refusal_number, unless}
 use Rattle.session.specs.declared.Session.{Session}
-use Rattle.session.specs.declared.Fresh.{Fresh}
-use Rattle.session.specs.declared.Counted.{Counted}
-use Rattle.session.specs.declared.Counted.TheVariants.{Calls, Refused}
 
 -- a session in the paper's numbers
 abbrev pub plain : Session → paper.Session
@@ -43,13 +37,22 @@ unfoldable pub fresh_of : Shape → Session
 fresh_of s = record { shape = s; taken = replicate 1024 false; calls = replicate 256 0; pages = 0; lowest = 0 }
 
 -- making one tests 1, then 18
-unfoldable pub fresh_status : Shape → Status
-fresh_status s = unless (lawful s) (status.Refused (shape_refusal s)) Done
+unfoldable pub fresh_status : Shape → Result (Unit {0}) Refusal
+fresh_status s = unless (lawful s) (Err (shape_refusal s)) (Ok tt)
 
--- what making one answers; beside a refusal stands the session of that shape, of use to nobody
-pub record Beginning (s : Shape) (r : Fresh) : Type 0 where
-  pub session : r.session ≡ fresh_of s
-  pub status : r.status ≡ fresh_status s
+-- what making one gives: the session, beside a refusal that of the shape, of use to nobody
+abbrev pub begun_session : Shape → Result Session Refusal → Session
+begun_session s (Ok σ) = σ
+begun_session s (Err e) = fresh_of s
+
+-- and the answer
+abbrev pub begun_status : Result Session Refusal → Result (Unit {0}) Refusal
+begun_status (Ok σ) = Ok tt
+begun_status (Err e) = Err e
+
+pub record Beginning (s : Shape) (r : Result Session Refusal) : Type 0 where
+  pub session : begun_session s r ≡ fresh_of s
+  pub status : begun_status r ≡ fresh_status s
 
 -- a mark that is a call: 0 is the idle loop (N5)
 abbrev pub is_call : ℕ → Bool
@@ -77,21 +80,21 @@ unfoldable pub recorded : Session → ℕ → List ℕ → Session
 recorded σ number marks = figured σ.shape (set σ.taken number true) (added σ.calls marks)
 
 -- the tests of a session that is handed in: 1, 18, then 11
-unfoldable pub session_status : Session → Status
+unfoldable pub session_status : Session → Result (Unit {0}) Refusal
 session_status σ =
-    unless (lawful σ.shape) (status.Refused (shape_refusal σ.shape))
-    (unless (consistent σ) (status.Refused Refusal.Figures) Done)
+    unless (lawful σ.shape) (Err (shape_refusal σ.shape))
+    (unless (consistent σ) (Err Refusal.Figures) (Ok tt))
 
 -- past such tests: go on, or give their refusal
-abbrev pub past : {A : Type 0} → Status → (Refusal → A) → A → A
-past Done refused next = next
-past (status.Refused e) refused next = refused e
+abbrev pub past : {A : Type 0} → Result (Unit {0}) Refusal → (Refusal → A) → A → A
+past (Ok tt) refused next = next
+past (Err e) refused next = refused e
 
 -- a count query tests 1, 18, 11, then 7
-unfoldable pub counted_of : Session → ℕ → Counted
-counted_of σ f = past (session_status σ) Refused (unless (ltb f 256) (Refused Refusal.Function) (Calls (get_or σ.calls f 0)))
+unfoldable pub counted_of : Session → ℕ → Result ℕ Refusal
+counted_of σ f = past (session_status σ) Err (unless (ltb f 256) (Err Refusal.Function) (Ok (get_or σ.calls f 0)))
 
 -- as one number, a refusal above all counts
-abbrev pub counted_number : Counted → ℕ
-counted_number (Calls k) = k
-counted_number (Refused e) = 2 ^ 32 + refusal_number e
+abbrev pub counted_number : Result ℕ Refusal → ℕ
+counted_number (Ok k) = k
+counted_number (Err e) = 2 ^ 32 + refusal_number e

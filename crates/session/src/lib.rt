@@ -11,14 +11,15 @@ ghost use Rattle.std.specs.Prelude.{◌≡◌, cond, ◌<◌, length};
 ghost use Rattle.paper.specs.Session as paper;
 ghost use Rattle.gtb.specs.Answer.{status_number};
 ghost use Rattle.gtb.specs.Shape.{of, info_length};
-ghost use Rattle.session.specs.Session.{plain, Consistent, session_status, counted_of, counted_number, Beginning};
-ghost use Rattle.session.specs.Arrival.{handed, left, way_of, the_ways, Opened, arrival_status, Arriving, is_accepted};
+ghost use Rattle.session.specs.Session.{plain, Consistent, session_status, counted_of, counted_number, fresh_of, begun_session, begun_status, Beginning};
+ghost use Rattle.session.specs.Arrival.{handed, left, way_of, the_ways, Opened, arrival_status, Arriving, is_accepted, outcome_values};
 ghost use Rattle.session.specs.Steps.{Adding, Counts, Functions, Settling, Openable, Deciding};
 
 use crate::open::open_kept;
 use crate::status::word_status;
+use gtb::code::Code;
 use gtb::size::info_length;
-use gtb::{Refusal, Shape, Status};
+use gtb::{Refusal, Shape};
 
 // A session handed in from elsewhere may hold anything, a bad shape too.
 #[derive(Clone, Copy)]
@@ -47,25 +48,12 @@ pub struct Arrived {
     pub outcome: Outcome,
 }
 
-// The answer of an arrival's first step: page number, number of marks and symbols changed, the word restored; or a refusal, and whether the word was read, so that it stands restored too.
+// The page that a word brings: its number, how many marks it has, and how many symbols of the word were changed.
 #[derive(Clone, Copy)]
-pub enum Opening {
-    Page(u32, u32, u32),
-    Refused(Refusal, bool),
-}
-
-// A fresh session beside the answer. An enum holds no array, so one stands beside a refusal too; it is of no use there.
-#[derive(Clone, Copy)]
-pub struct Fresh {
-    pub session: Session,
-    pub status: Status,
-}
-
-// The answer of a count query.
-#[derive(Clone, Copy)]
-pub enum Counted {
-    Calls(u32),
-    Refused(Refusal),
+pub struct Brought {
+    pub number: u32,
+    pub count: u32,
+    pub corrected: u32,
 }
 
 impl Session {
@@ -75,32 +63,30 @@ impl Session {
     // Function numbers are below this.
     pub const FUNCTIONS: usize = 256;
 
-    // A session that has seen nothing.
-    pub fn fresh(shape: Shape) -> Fresh
-        ensures begun { Beginning shape result }
-        ensures paper { paper.Beginning (of shape) (plain result.session) (status_number result.status) }
+    // A session of any shape that has seen nothing.
+    pub fn blank(shape: Shape) -> Session
+        ensures { result ≡ fresh_of shape }
     {
-        let session = Session {
+        Session {
             shape,
             taken: [false; Session::PAGES],
             calls: [0u32; Session::FUNCTIONS],
             pages: 0,
             lowest: 0,
-        };
-        if gtb::is_lawful(shape) {
-            return Fresh {
-                session,
-                status: Status::Done,
-            };
-        }
-        Fresh {
-            session,
-            status: Status::Refused(gtb::shape_refusal(shape)),
         }
     }
 
+    // One of a shape that tests 1 and 18 let pass.
+    pub fn fresh(shape: Shape) -> Result<Session, Refusal>
+        ensures begun { Beginning shape result }
+        ensures paper { paper.Beginning (of shape) (plain (begun_session shape result)) (status_number (begun_status result)) }
+    {
+        let code = Code::of(shape)?;
+        Ok(Session::blank(code.shape))
+    }
+
     // Tests 1, 18 and 11.
-    pub fn status(self) -> Status
+    pub fn status(self) -> Result<(), Refusal>
         ensures { result ≡ session_status self }
     {
         let agree = figures::agree(&self.taken, self.pages, self.lowest);
@@ -108,7 +94,7 @@ impl Session {
     }
 
     // Tests 1, 18, 11 and 16, for arrivals that name this way.
-    pub fn arrival_status(self, way: u32) -> Status
+    pub fn arrival_status(self, way: u32) -> Result<(), Refusal>
         ensures { result ≡ arrival_status the_ways self way }
     {
         let agree = figures::agree(&self.taken, self.pages, self.lowest);
@@ -116,19 +102,17 @@ impl Session {
     }
 
     // How often a function was called: tests 1, 18, 11, then 7.
-    pub fn count(self, function: u32) -> Counted
+    pub fn count(self, function: u32) -> Result<u32, Refusal>
         ensures counted { result ≡ counted_of self function }
         ensures paper { paper.Counting (plain self) function (counted_number result) }
     {
-        if let Status::Refused(e) = self.status() {
-            return Counted::Refused(e);
-        }
+        self.status()?;
         if function > 255 {
-            return Counted::Refused(Refusal::Function);
+            return Err(Refusal::Function);
         }
         let at = function as usize;
         let calls = self.calls;
-        Counted::Calls(calls[at])
+        Ok(calls[at])
     }
 
     // An arrival, read the way that it names. Past test 2 every answer leaves the scratch cleared.
@@ -137,10 +121,10 @@ impl Session {
         ensures paper { paper.Arriving (plain self) (handed way word.old scratch.old) (left result word.new scratch.new) }
     {
         let agree = figures::agree(&self.taken, self.pages, self.lowest);
-        if let Status::Refused(e) = word_status(self.shape, way, agree, word, scratch) {
+        if let Err(e) = word_status(self.shape, way, agree, word, scratch) {
             return self.refused(e);
         }
-        gtb::clear(scratch);
+        scratch.fill(0);
         let size = word.len();
         let info = info_length(self.shape);
         let mut came = [0u32; 961];
@@ -170,12 +154,12 @@ impl Session {
         ensures { Deciding (way_of way) self word.old word.new result }
     {
         match open_kept(self.shape, way, word, came, symbols) {
-            Opening::Refused(e, _) => self.refused(e),
-            Opening::Page(number, count, corrected) => {
-                let end = 2 + count as usize;
-                let arrived = self.settled(number, corrected, &symbols[2..end]);
+            Err(e) => self.refused(e),
+            Ok(page) => {
+                let end = 2 + page.count as usize;
+                let arrived = self.settled(page.number, page.corrected, &symbols[2..end]);
                 let outcome = arrived.outcome;
-                put_back(outcome, came, word);
+                outcome.put_back(came, word);
                 arrived
             }
         }
@@ -196,7 +180,7 @@ impl Session {
             };
         }
         let mut calls = self.calls;
-        if !add_marks(&mut calls, marks) {
+        if add_marks(&mut calls, marks).is_none() {
             return self.refused(Refusal::Overflow);
         }
         taken[at] = true;
@@ -214,42 +198,45 @@ impl Session {
     }
 }
 
-// Adds each mark that is a call to its function's count; false where a count would pass its limit. A mark 0 is the idle loop.
-fn add_marks(calls: &mut [u32; Session::FUNCTIONS], marks: &[u32]) -> bool
+// Adds each mark that is a call to its function's count; none where a count would pass its limit. A mark 0 is the idle loop.
+fn add_marks(calls: &mut [u32; Session::FUNCTIONS], marks: &[u32]) -> Option<()>
     requires { Counts calls.old × Functions marks.now }
     ensures { Adding calls.old marks.now calls.new result }
 {
-    let mut i = 0;
-    while i < marks.len() {
-        let f = marks[i] as usize;
-        let k = calls[f];
+    for mark in marks {
+        let f = *mark as usize;
         let call = (f != 0) as u32;
-        if k > 4294967295 - call {
-            return false;
+        calls[f] = calls[f].checked_add(call)?;
+    }
+    Some(())
+}
+
+impl Outcome {
+    // Taken or again.
+    pub fn is_accepted(self) -> bool
+        ensures { result ≡ is_accepted self }
+    {
+        !matches!(self, Outcome::Refused(_))
+    }
+
+    // A page that is refused after all, by 9: what came is put back.
+    pub fn put_back(self, came: &[u32], word: &mut [u32])
+        requires { length came.now ≡ length word.old }
+        ensures { word.new ≡ cond (is_accepted self) word.old came.now }
+    {
+        if !self.is_accepted() {
+            word.copy_from_slice(came);
         }
-        calls[f] = k + call;
-        i += 1;
     }
-    true
-}
 
-// A page that is refused after all, by 9: what came is put back.
-pub fn put_back(outcome: Outcome, came: &[u32], word: &mut [u32])
-    requires { length came.now ≡ length word.old }
-    ensures { word.new ≡ cond (is_accepted outcome) word.old came.now }
-{
-    if !accepts(outcome) {
-        gtb::copy(came, word);
-    }
-}
-
-// The outcome is taken or again.
-fn accepts(outcome: Outcome) -> bool
-    ensures { result ≡ is_accepted outcome }
-{
-    match outcome {
-        Outcome::Taken(_, _) => true,
-        Outcome::Again(_, _) => true,
-        Outcome::Refused(_) => false,
+    // The three values of the rules.
+    pub fn values(self) -> [u32; 3]
+        ensures { result ≡ outcome_values self }
+    {
+        match self {
+            Outcome::Taken(page, corrected) => [0, page, corrected],
+            Outcome::Again(page, corrected) => [1, page, corrected],
+            Outcome::Refused(e) => [2, u32::from(e), 0],
+        }
     }
 }

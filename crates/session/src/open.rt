@@ -4,27 +4,29 @@ ghost use Rattle.gtb.specs.Shape.{info_length};
 ghost use Rattle.session.specs.Arrival.{way_of};
 ghost use Rattle.session.specs.Steps.{Openable, Opens, Keeps};
 
-use crate::Opening;
+use crate::Brought;
 use crate::way::read_word;
-use correction::Decoded;
-use gtb::Shape;
-use page::{PageRead, read_narrow};
+use gtb::{Refusal, Shape};
+use page::read_narrow;
 
 // A word past tests 1, 18, 16 and 2, read the way that is named. Where it brings a page, the marks are the symbols from place 2 on.
-pub fn open(shape: Shape, way: u32, word: &mut [u32], symbols: &mut [u32]) -> Opening
+pub fn open(
+    shape: Shape,
+    way: u32,
+    word: &mut [u32],
+    symbols: &mut [u32],
+) -> Result<Brought, Refusal>
     requires { Openable shape way word.old × (length symbols.old ≡ info_length shape) }
     ensures { Opens (way_of way) shape word.old word.new symbols.new result }
 {
-    match read_word(shape, way, word) {
-        Decoded::Refused(e) => Opening::Refused(e, false),
-        Decoded::Corrected(corrected) => {
-            gtb::gather(shape, word, symbols);
-            match read_narrow(shape, symbols) {
-                PageRead::Refused(e) => Opening::Refused(e, true),
-                PageRead::Page(number, count) => Opening::Page(number, count, corrected),
-            }
-        }
-    }
+    let corrected = read_word(shape, way, word)?;
+    gtb::gather(shape, word, symbols);
+    let (number, count) = read_narrow(shape, symbols)?;
+    Ok(Brought {
+        number,
+        count,
+        corrected,
+    })
 }
 
 // The same for a word that is to stay as it came where it brings no page: what came is kept beside it, and put back.
@@ -34,17 +36,14 @@ pub fn open_kept(
     word: &mut [u32],
     came: &mut [u32],
     symbols: &mut [u32],
-) -> Opening
+) -> Result<Brought, Refusal>
     requires { Openable shape way word.old × (length came.old ≡ length word.old) × (length symbols.old ≡ info_length shape) }
     ensures { Keeps (way_of way) shape word.old word.new came.new symbols.new result }
 {
-    gtb::copy(word, came);
+    came.copy_from_slice(word);
     let opening = open(shape, way, word, symbols);
-    if let Opening::Refused(e, restored) = opening {
-        if restored {
-            gtb::copy(came, word);
-        }
-        return Opening::Refused(e, false);
+    if opening.is_err() {
+        word.copy_from_slice(came);
     }
     opening
 }

@@ -3,50 +3,51 @@ ghost use Rattle.std.specs.Prelude.{◌≡◌};
 ghost use Rattle.session.specs.Steps.{session_tests, arrival_tests, word_tests};
 
 use crate::way::{is_way, suits};
+use gtb::code::Code;
 use gtb::size::{scratch_length, word_length};
-use gtb::{Refusal, Shape, Status};
+use gtb::{Refusal, Shape};
 
 // Tests 1, 18 and 11.
-pub fn session_status(shape: Shape, agree: bool) -> Status
+pub fn session_status(shape: Shape, agree: bool) -> Result<(), Refusal>
     ensures { result ≡ session_tests shape agree }
 {
-    if !gtb::is_lawful(shape) {
-        return Status::Refused(gtb::shape_refusal(shape));
-    }
+    Code::of(shape)?;
     if !agree {
-        return Status::Refused(Refusal::Figures);
+        return Err(Refusal::Figures);
     }
-    Status::Done
+    Ok(())
 }
 
 // Tests 1, 18, 11 and 16, for arrivals that name this way.
-pub fn arrival_status(shape: Shape, way: u32, agree: bool) -> Status
+pub fn arrival_status(shape: Shape, way: u32, agree: bool) -> Result<(), Refusal>
     ensures { result ≡ arrival_tests shape way agree }
 {
     if !is_way(way) {
-        return Status::Refused(Refusal::Shape);
+        return Err(Refusal::Shape);
     }
-    if let Status::Refused(e) = session_status(shape, agree) {
-        return Status::Refused(e);
-    }
+    session_status(shape, agree)?;
     if !suits(shape, way) {
-        return Status::Refused(Refusal::Directions);
+        return Err(Refusal::Directions);
     }
-    Status::Done
+    Ok(())
 }
 
 // These and test 2, for one word.
-pub fn word_status(shape: Shape, way: u32, agree: bool, word: &[u32], scratch: &[u32]) -> Status
+pub fn word_status(
+    shape: Shape,
+    way: u32,
+    agree: bool,
+    word: &[u32],
+    scratch: &[u32],
+) -> Result<(), Refusal>
     ensures { result ≡ word_tests shape way agree word.now scratch.now }
 {
-    if let Status::Refused(e) = arrival_status(shape, way, agree) {
-        return Status::Refused(e);
-    }
+    arrival_status(shape, way, agree)?;
     if word.len() != word_length(shape) {
-        return Status::Refused(Refusal::Length);
+        return Err(Refusal::Length);
     }
     if scratch.len() != scratch_length(shape) {
-        return Status::Refused(Refusal::Length);
+        return Err(Refusal::Length);
     }
-    Status::Done
+    Ok(())
 }

@@ -4,8 +4,7 @@ ghost use Rattle.session.specs.Arrival.{is_way, way_of};
 ghost use Rattle.session.specs.Steps.{Reading};
 
 use crate::Session;
-use correction::Decoded;
-use gtb::Shape;
+use gtb::{Refusal, Shape};
 
 impl Session {
     // Numbers of ways of reading are below this.
@@ -39,7 +38,7 @@ pub fn suits(shape: Shape, way: u32) -> bool
 }
 
 // A word read the way that is named: here the ways meet.
-pub fn read_word(shape: Shape, way: u32, word: &mut [u32]) -> Decoded
+pub fn read_word(shape: Shape, way: u32, word: &mut [u32]) -> Result<u32, Refusal>
     requires { is_way way ≡ true }
     ensures { Reading (way_of way) shape word.old word.new result }
 {

@@ -29,14 +29,14 @@ fn add_columns(sums: &mut [u32], word: &[u32], q: usize)
 }
 
 // Both directions, on zeros. The columns are summed in a list of our own: for all the compiler knows a lent one might overlap the word.
-fn flat_by(shape: Shape, word: &[u32], syn: &mut [u32; 248], q: usize)
-    requires { (Lawful shape) × (length word.now ≡ word_length shape) × (syn.old ≡ replicate 248 0) × (is_flat shape ≡ true) × (shape.q ≡ q) }
+fn flat_by<const Q: usize>(shape: Shape, word: &[u32], syn: &mut [u32; 248])
+    requires { (Lawful shape) × (length word.now ≡ word_length shape) × (syn.old ≡ replicate 248 0) × (is_flat shape ≡ true) × (shape.q ≡ Q) }
     ensures { Syndromes shape word.now syn.new }
 {
     let mut sums = [0u32; 31];
-    add_rows(syn, word, q);
-    add_columns(&mut sums, word, q);
-    copy_run(syn, &sums, q, 0, q);
+    add_rows(syn, word, Q);
+    add_columns(&mut sums, word, Q);
+    copy_run(syn, &sums, Q, 0, Q);
 }
 
 // The same with a literal order.
@@ -46,15 +46,15 @@ pub fn fill_flat(shape: Shape, word: &[u32], syn: &mut [u32; 248])
 {
     let q = shape.q;
     match q {
-        3 => flat_by(shape, word, syn, 3),
-        5 => flat_by(shape, word, syn, 5),
-        7 => flat_by(shape, word, syn, 7),
-        11 => flat_by(shape, word, syn, 11),
-        13 => flat_by(shape, word, syn, 13),
-        17 => flat_by(shape, word, syn, 17),
-        19 => flat_by(shape, word, syn, 19),
-        23 => flat_by(shape, word, syn, 23),
-        29 => flat_by(shape, word, syn, 29),
-        _ => flat_by(shape, word, syn, 31),
+        3 => flat_by::<3>(shape, word, syn),
+        5 => flat_by::<5>(shape, word, syn),
+        7 => flat_by::<7>(shape, word, syn),
+        11 => flat_by::<11>(shape, word, syn),
+        13 => flat_by::<13>(shape, word, syn),
+        17 => flat_by::<17>(shape, word, syn),
+        19 => flat_by::<19>(shape, word, syn),
+        23 => flat_by::<23>(shape, word, syn),
+        29 => flat_by::<29>(shape, word, syn),
+        _ => flat_by::<31>(shape, word, syn),
     }
 }

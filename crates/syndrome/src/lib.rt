@@ -18,14 +18,11 @@ pub fn run_sum(values: &[u32], from: usize, count: usize) -> u32
     requires { from + count ≤ length values.now }
     ensures { result ≡ xor_sum count (λ i. at values.now (from + i)) }
 {
-    let mut sum: u32 = 0;
-    for i in 0..count {
-        sum ^= values[from + i];
-    }
-    sum
+    values[from..from + count].iter().fold(0, |sum, x| sum ^ x)
 }
 
 // The entries from `to` on take up `count` symbols of the word, from place `from` on.
+// Kept as it is: of what is written through iter_mut() and zip(..), a proof knows the length alone.
 fn add_run(syn: &mut [u32], word: &[u32], to: usize, from: usize, count: usize)
     requires { (to + count ≤ length syn.old) × (from + count ≤ length word.now) }
     ensures { Added to count (λ i. at word.now (from + i)) syn.old syn.new }
@@ -45,7 +42,7 @@ fn add_rows(syn: &mut [u32; 248], word: &[u32], q: usize)
     }
 }
 
-// The values of all checks, that of line L of direction t at t × q + L, put down where zeros are lent. Each order has a function of its own.
+// The values of all checks, that of line L of direction t at t × q + L, put down where zeros are lent. Each order is a literal.
 pub fn fill(shape: Shape, word: &[u32], syn: &mut [u32; 248])
     requires { (Lawful shape) × (length word.now ≡ word_length shape) × (syn.old ≡ replicate 248 0) }
     ensures { Syndromes shape word.now syn.new }
@@ -56,16 +53,16 @@ pub fn fill(shape: Shape, word: &[u32], syn: &mut [u32; 248])
     }
     let q = shape.q;
     match q {
-        3 => literal::fill_3(shape, word, syn),
-        5 => literal::fill_5(shape, word, syn),
-        7 => literal::fill_7(shape, word, syn),
-        11 => literal::fill_11(shape, word, syn),
-        13 => literal::fill_13(shape, word, syn),
-        17 => literal::fill_17(shape, word, syn),
-        19 => literal::fill_19(shape, word, syn),
-        23 => literal::fill_23(shape, word, syn),
-        29 => literal::fill_29(shape, word, syn),
-        _ => literal::fill_31(shape, word, syn),
+        3 => literal::fill_with::<3, 18>(shape, word, syn),
+        5 => literal::fill_with::<5, 50>(shape, word, syn),
+        7 => literal::fill_with::<7, 98>(shape, word, syn),
+        11 => literal::fill_with::<11, 242>(shape, word, syn),
+        13 => literal::fill_with::<13, 338>(shape, word, syn),
+        17 => literal::fill_with::<17, 578>(shape, word, syn),
+        19 => literal::fill_with::<19, 722>(shape, word, syn),
+        23 => literal::fill_with::<23, 1058>(shape, word, syn),
+        29 => literal::fill_with::<29, 1682>(shape, word, syn),
+        _ => literal::fill_with::<31, 1922>(shape, word, syn),
     }
 }
 

@@ -1,10 +1,10 @@
 -- What was asked for and came, and steps by what they promise.
 use mathlib.Core.Path.{◌≡◌}
 use mathlib.Core.Bool.{Bool}
-use mathlib.Core.List.{List, ◌++◌}
-use Prim.Native.Nat.{ℕ, ◌+◌, ◌≤◌, ◌<◌, min}
+use mathlib.Core.List.{List}
+use Prim.Native.Nat.{ℕ, ◌≤◌, ◌<◌, min}
 use native.Mathlib.Omega.{arith}
-use lib.ListN.{length, take, drop, length-take, length-append, length-drop}
+use lib.ListN.{length, take}
 use lib.Seq.{length-take-le}
 use Rattle.capture.specs.declared.Reader.{Reader}
 use Rattle.capture.specs.Feed.{is_ended}
@@ -13,7 +13,7 @@ use Rattle.program.specs.declared.State.{State}
 use Rattle.program.specs.declared.Taken.{Taken}
 use Rattle.program.specs.Moves.{begun, toward_of}
 use Rattle.program.specs.Steps.{rank, Sound, Stepped, Took, Closing}
-use Rattle.program.proofs.Moves.{most_all, size_at, stepped_by, begun_sound, ended_stepped, taken_stepped, closed_stepped}
+use Rattle.program.proofs.Moves.{stepped_by, begun_sound, ended_stepped, taken_stepped, closed_stepped}
 
 -- no more came than was asked for
 pub asked : (left want count : ℕ) (block : List ℕ) → want ≡ min left 16384 → length block ≡ 16384 → count ≤ length (take want block) → (count ≤ left) × (count ≤ 16384)
@@ -21,27 +21,8 @@ asked left want count block w e c =
     let h = length-take-le want block (omega arith) in
     (omega arith, omega arith)
 
--- what was not asked for stays behind what was
-pub rest_kept : (want : ℕ) (block part : List ℕ) → want ≤ 16384 → length block ≡ 16384 → length part ≡ length (take want block) → length (part ++ drop want block) ≡ 16384
-rest_kept want block part few e same =
-    let h = length-take-le want block (omega arith) in
-    rw (length-append, length-drop) (omega arith)
-
 pub begun_there : {r : State} {at : ℕ} (error output : Bool) (second : ℕ) → r ≡ begun at error output second → at ≡ 19 → Sound r
 begun_there error output second e a = rw (e, a) (begun_sound error output second)
-
--- ---- the output that waits has room
-pub room_out : {s : State} → Sound s → s.size ≤ 500000
-room_out {s} h = omega (arith, h.out, most_all s.action)
-
-pub room_take : {s : State} {n : ℕ} → Sound s → s.action ≡ Take → n ≡ 500000 → s.size + 491560 ≤ n
-room_take h is full = omega (arith, size_at h is)
-
-pub room_close : {s : State} {n : ℕ} → Sound s → s.action ≡ Close → n ≡ 500000 → s.size + 5687 ≤ n
-room_close h is full = omega (arith, size_at h is)
-
-pub block_few : {s : State} → Sound s → (block : List ℕ) → length (take s.input.count block) ≤ 16384
-block_few {s} h block = omega (arith, h.block, length-take s.input.count block)
 
 -- ---- steps
 pub took_stepped : {s : State} {reader : Reader} {line block out line' out' : List ℕ} {r : Taken} → Sound s → s.action ≡ Take → Took s reader line block out line' out' r → Stepped s r.state

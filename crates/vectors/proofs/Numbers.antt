@@ -14,16 +14,13 @@ use Rattle.parity.proofs.Sums.{count_bound}
 use Rattle.parity.proofs.Tests.{and_left}
 use Rattle.gtb.specs.declared.Shape.{Shape}
 use Rattle.gtb.specs.declared.Refusal.{Refusal}
-use Rattle.gtb.specs.declared.Status.{Status}
-use Rattle.gtb.specs.declared.Status.TheVariants as status
+use Rattle.std.specs.Prelude.{Result, Ok, Err}
 use Rattle.gtb.specs.Shape.{lawful, Lawful, word_length, info_length}
 use Rattle.gtb.specs.Square.{at}
 use Rattle.gtb.specs.Answer.{unless}
 use Rattle.gtb.proofs.Answers.{unless_done, unless_passed}
 use Rattle.gtb.proofs.Bounds.{bounds}
 use Rattle.distance.specs.Distance.{differences, Near}
-use Rattle.correction.specs.declared.Decoded.{Decoded}
-use Rattle.correction.specs.declared.Decoded.TheVariants as decoded
 use Rattle.correction.specs.Reading.{Reader, Meaning, changes_by, accepted_by, Reads}
 use Rattle.correction.proofs.Readings.{corrected_not, read_accepted}
 use Rattle.decoder.specs.Damage.{Explains}
@@ -34,13 +31,10 @@ use Rattle.double.specs.Double.{two}
 use Rattle.nearest.specs.Nearest.{nearest}
 use Rattle.erasure.specs.Fill.{fill_status, FilledIn, NoWord, SeveralWords, Filling}
 use Rattle.restore.specs.Restore.{Restored, OutOfReach, SeveralReach, Recovering}
-use Rattle.page.specs.declared.PageRead.TheVariants as page
 use Rattle.page.specs.Page.{page_of}
 use Rattle.page.proofs.Pages.{page_facts, marks_few, no_page}
-use Rattle.session.specs.declared.Counted.TheVariants as counted
 use Rattle.session.specs.Session.{session_status, past, counted_of}
 use Rattle.energy.proofs.Sums.{bill_small}
-use Rattle.coverage.specs.declared.Covered.TheVariants as covered
 use Rattle.coverage.specs.Coverage.{cover_count, cover_of}
 use Rattle.coverage.proofs.Marks.{cover_small}
 use Rattle.host.specs.Bytes.{symbols_of}
@@ -82,54 +76,54 @@ numbers = record {
 }
 
 -- a reader changes at most as many symbols as its bound, so at most 7
-few : (reader : Reader) (Means : Meaning) {s : Shape} {w w' : List ℕ} {r : Decoded} (k : ℕ) → (2 ≤ s.n → s.n ≤ 8 → reader.bound s ≤ 7)
-    → Reads reader Means s w w' r → r ≡ decoded.Corrected k → k ≤ 7
+few : (reader : Reader) (Means : Meaning) {s : Shape} {w w' : List ℕ} {r : Result ℕ Refusal} (k : ℕ) → (2 ≤ s.n → s.n ≤ 8 → reader.bound s ≤ 7)
+    → Reads reader Means s w w' r → r ≡ Ok k → k ≤ 7
 unfolding accepted_by
 few reader Means {s} {w} k low h is =
     let a = read_accepted reader s w k (sym h.answer ∙ is) in
     let b = bounds s a.lawful in
     omega (arith, a.changed, low b.n2 b.n8, leb-true (changes_by reader s w) (reader.bound s) (and_left _ _ a.accepted))
 
-not_corrected : {r : Decoded} {e : Refusal} {k : ℕ} → r ≡ decoded.Refused e → r ≡ decoded.Corrected k → ⊥
+not_corrected : {r : Result ℕ Refusal} {e : Refusal} {k : ℕ} → r ≡ Err e → r ≡ Ok k → ⊥
 not_corrected {e = e} {k} h is = corrected_not e k (sym h ∙ is)
 
 -- a number of differences is at most that of all symbols
-all_few : (s : Shape) (w w' : List ℕ) {r : Decoded} (k : ℕ) → Lawful s → r ≡ decoded.Corrected (differences s w' w) → r ≡ decoded.Corrected k → k ≤ 961
+all_few : (s : Shape) (w w' : List ℕ) {r : Result ℕ Refusal} (k : ℕ) → Lawful s → r ≡ Ok (differences s w' w) → r ≡ Ok k → k ≤ 961
 unfolding differences
 all_few s w w' k law answer is =
     let most : word_length s ≤ 31 * 31 = mul-le-mul (bounds s law).q31 (bounds s law).q31 in
     let same : k ≡ count (word_length s) (λ j. not (eqb (at w' j) (at w j))) = let z = sym is ∙ answer in cc in
     omega (arith, same, most, count_bound (word_length s) (λ j. not (eqb (at w' j) (at w j))))
 
-fill_few : {s : Shape} {w places x w' x' : List ℕ} {r : Decoded} (k : ℕ) (t : Status) → fill_status s w places x ≡ t → Filling s w places x w' x' r → r ≡ decoded.Corrected k → k ≤ 961
+fill_few : {s : Shape} {w places x w' x' : List ℕ} {r : Result ℕ Refusal} (k : ℕ) (t : Result (Unit {0}) Refusal) → fill_status s w places x ≡ t → Filling s w places x w' x' r → r ≡ Ok k → k ≤ 961
 unfolding fill_status
-fill_few k (status.Refused e) tests f is = absurd (not_corrected (f.tested e tests).0 is)
-fill_few {s} {w} {places} {x} {w'} {x'} {r} k status.Done tests f is =
+fill_few k (Err e) tests f is = absurd (not_corrected (f.tested e tests).0 is)
+fill_few {s} {w} {places} {x} {w'} {x'} {r} k (Ok tt) tests f is =
     ⊎_elim (λ (a : FilledIn s w places w' r). all_few s w w' k (unless_done (lawful s) _ _ tests).0 a.answer is)
     (λ (o : NoWord s w places w' r ⊎ SeveralWords s w places w' r).
     ⊎_elim (λ (a : NoWord s w places w' r). absurd (not_corrected a.answer is)) (λ (a : SeveralWords s w places w' r). absurd (not_corrected a.answer is)) o)
     (f.decided tests).0
 
-restore_few : {s : Shape} {w places x w' x' : List ℕ} {r : Decoded} (k : ℕ) (t : Status) → fill_status s w places x ≡ t → Recovering s w places x w' x' r → r ≡ decoded.Corrected k → k ≤ 961
+restore_few : {s : Shape} {w places x w' x' : List ℕ} {r : Result ℕ Refusal} (k : ℕ) (t : Result (Unit {0}) Refusal) → fill_status s w places x ≡ t → Recovering s w places x w' x' r → r ≡ Ok k → k ≤ 961
 unfolding fill_status
-restore_few k (status.Refused e) tests f is = absurd (not_corrected (f.tested e tests).0 is)
-restore_few {s} {w} {places} {x} {w'} {x'} {r} k status.Done tests f is =
+restore_few k (Err e) tests f is = absurd (not_corrected (f.tested e tests).0 is)
+restore_few {s} {w} {places} {x} {w'} {x'} {r} k (Ok tt) tests f is =
     ⊎_elim (λ (a : Restored s w places w' r). all_few s w w' k (unless_done (lawful s) _ _ tests).0 a.answer is)
     (λ (o : OutOfReach s w places w' r ⊎ SeveralReach s w places w' r).
     ⊎_elim (λ (a : OutOfReach s w places w' r). absurd (not_corrected a.answer is)) (λ (a : SeveralReach s w places w' r). absurd (not_corrected a.answer is)) o)
     (f.decided tests).0
 
-cover_number : (t : Status) (u : Bool) (n k : ℕ) → past t covered.Refused (unless u (covered.Refused Refusal.Length) (covered.Functions n)) ≡ covered.Functions k → n ≡ k
-cover_number (status.Refused e) u n k h = let z : ◌≡◌ {A = ℕ} 0 1 = cc in absurd (omega arith)
-cover_number status.Done true n k h = cc
-cover_number status.Done false n k h = let z : ◌≡◌ {A = ℕ} 0 1 = cc in absurd (omega arith)
+cover_number : (t : Result (Unit {0}) Refusal) (u : Bool) (n k : ℕ) → past t Err (unless u (Err Refusal.Length) (Ok n)) ≡ Ok k → n ≡ k
+cover_number (Err e) u n k h = let z : ◌≡◌ {A = ℕ} 0 1 = cc in absurd (omega arith)
+cover_number (Ok tt) true n k h = cc
+cover_number (Ok tt) false n k h = let z : ◌≡◌ {A = ℕ} 0 1 = cc in absurd (omega arith)
 
-count_number : (t : Status) (u : Bool) (n k : ℕ) → past t counted.Refused (unless u (counted.Refused Refusal.Function) (counted.Calls n)) ≡ counted.Calls k → n ≡ k
-count_number (status.Refused e) u n k h = let z : ◌≡◌ {A = ℕ} 0 1 = cc in absurd (omega arith)
-count_number status.Done true n k h = cc
-count_number status.Done false n k h = let z : ◌≡◌ {A = ℕ} 0 1 = cc in absurd (omega arith)
+count_number : (t : Result (Unit {0}) Refusal) (u : Bool) (n k : ℕ) → past t Err (unless u (Err Refusal.Function) (Ok n)) ≡ Ok k → n ≡ k
+count_number (Err e) u n k h = let z : ◌≡◌ {A = ℕ} 0 1 = cc in absurd (omega arith)
+count_number (Ok tt) true n k h = cc
+count_number (Ok tt) false n k h = let z : ◌≡◌ {A = ℕ} 0 1 = cc in absurd (omega arith)
 
-page_few : (s : Shape) (symbols : List ℕ) (p c : ℕ) → page_of s symbols ≡ page.Page p c → (p < 1024) × (c < 1024) × (1024 * p + c < 2147483648)
+page_few : (s : Shape) (symbols : List ℕ) (p c : ℕ) → page_of s symbols ≡ Ok (p, c) → (p < 1024) × (c < 1024) × (1024 * p + c < 2147483648)
 page_few s symbols p c h =
     let f = page_facts s symbols p c h in
     (f.page, omega (arith, f.length, (marks_few s symbols).1), omega (arith, f.page, f.length, (marks_few s symbols).1))

@@ -1,15 +1,12 @@
 -- P1 to P10 (RULES 8), and the shapes and marks beside them, in one table.
-use Rattle.std.specs.Prelude.{◌≡◌, ◌↔◌, Bool, true, false, List, [], ◌∷◌, ℕ, ◌<◌, eqb, length, get_or}
+use Rattle.std.specs.Prelude.{◌≡◌, ◌↔◌, Bool, true, false, List, [], ◌∷◌, ℕ, ◌<◌, eqb, length, get_or, Ok, Err}
 use Rattle.parity.specs.Count.{any}
 use Rattle.gtb.specs.declared.Shape.{Shape}
 use Rattle.gtb.specs.declared.Refusal.{Refusal}
 use Rattle.gtb.specs.Shape.{standard, lawful, Lawful, shape_refusal}
 use Rattle.gtb.specs.Positions.{Dependent, Encodes}
-use Rattle.correction.specs.declared.Decoded.TheVariants.{Corrected}
-use Rattle.correction.specs.declared.Decoded.TheVariants as decoded
 use Rattle.correction.specs.Error.{damaged}
 use Rattle.decoder.specs.Decode.{decode_of, restored}
-use Rattle.page.specs.declared.PageRead.TheVariants.{Page, Refused}
 use Rattle.page.specs.Page.{page_of, page_symbols}
 
 abbrev pub among : List ℕ → ℕ → Bool
@@ -35,15 +32,15 @@ pub record Bench : Type 0 where
   pub p2 : (b : ℕ) → Lawful (standard 3 3 b) → Places (standard 3 3 b) (7 ∷ 8 ∷ [])
   pub p3 : Encodes (standard 3 2 3) (3 ∷ 5 ∷ 6 ∷ 7 ∷ []) (7 ∷ 5 ∷ 2 ∷ 6 ∷ 3 ∷ 5 ∷ 1 ∷ 6 ∷ 7 ∷ [])
   pub p4 : Encodes (standard 3 3 3) (5 ∷ 3 ∷ []) stored
-  pub p5 : (decode_of (standard 3 3 3) (received 1) ≡ Corrected 2) × (restored (standard 3 3 3) (received 1) ≡ stored)
-  pub p6 : decode_of (standard 3 3 3) (received 7) ≡ decoded.Refused Refusal.Uncorrectable
+  pub p5 : (decode_of (standard 3 3 3) (received 1) ≡ Ok 2) × (restored (standard 3 3 3) (received 1) ≡ stored)
+  pub p6 : decode_of (standard 3 3 3) (received 7) ≡ Err Refusal.Uncorrectable
   pub p7 : Encodes (standard 3 2 8) (page_symbols (standard 3 2 8) 1 (3 ∷ 5 ∷ [])) (5 ∷ 2 ∷ 7 ∷ 3 ∷ 1 ∷ 2 ∷ 6 ∷ 3 ∷ 5 ∷ [])
-  pub p8 : page_of (standard 3 2 8) (1 ∷ 3 ∷ 0 ∷ 0 ∷ []) ≡ Refused Refusal.Count
-  pub p9 : page_of (standard 3 2 8) (0 ∷ 1 ∷ 4 ∷ 9 ∷ []) ≡ Refused Refusal.Tail
-  pub p10 : page_of (standard 3 2 11) (1023 ∷ 0 ∷ 0 ∷ 0 ∷ []) ≡ Page 1023 0
-  pub p10_past : page_of (standard 3 2 11) (1024 ∷ 0 ∷ 0 ∷ 0 ∷ []) ≡ Refused Refusal.Page
+  pub p8 : page_of (standard 3 2 8) (1 ∷ 3 ∷ 0 ∷ 0 ∷ []) ≡ Err Refusal.Count
+  pub p9 : page_of (standard 3 2 8) (0 ∷ 1 ∷ 4 ∷ 9 ∷ []) ≡ Err Refusal.Tail
+  pub p10 : page_of (standard 3 2 11) (1023 ∷ 0 ∷ 0 ∷ 0 ∷ []) ≡ Ok (1023, 0)
+  pub p10_past : page_of (standard 3 2 11) (1024 ∷ 0 ∷ 0 ∷ 0 ∷ []) ≡ Err Refusal.Page
   pub accepted : (lawful (standard 31 8 32) ≡ true) × (lawful (standard 3 3 1) ≡ true)
   -- these give 1
   pub refused : Refused1 (standard 3 4 8) × Refused1 (standard 31 9 8) × Refused1 (standard 9 2 8) × Refused1 (standard 3 2 0) × Refused1 (standard 3 2 33)
-  pub mark : page_of (standard 3 2 9) (0 ∷ 1 ∷ 255 ∷ 0 ∷ []) ≡ Page 0 1
-  pub mark_past : page_of (standard 3 2 9) (0 ∷ 1 ∷ 256 ∷ 0 ∷ []) ≡ Refused Refusal.Function
+  pub mark : page_of (standard 3 2 9) (0 ∷ 1 ∷ 255 ∷ 0 ∷ []) ≡ Ok (0, 1)
+  pub mark_past : page_of (standard 3 2 9) (0 ∷ 1 ∷ 256 ∷ 0 ∷ []) ≡ Err Refusal.Function

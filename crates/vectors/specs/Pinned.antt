@@ -1,15 +1,12 @@
 -- Definitions on examples (RULES 1 to 7): what a definition would get wrong if it and the code were wrong alike.
-use Rattle.std.specs.Prelude.{◌≡◌, true, false, List, [], ◌∷◌, map, ℕ, eqb, length, get_or, take, drop, replicate}
+use Rattle.std.specs.Prelude.{◌≡◌, true, false, List, [], ◌∷◌, map, ℕ, eqb, length, get_or, take, drop, replicate, Result, Ok, Err}
 use Rattle.parity.specs.Count.{any}
 use Rattle.parity.specs.Lists.{tabulate}
 use Rattle.gtb.specs.declared.Shape.{Shape}
 use Rattle.gtb.specs.declared.Refusal.{Refusal}
-use Rattle.gtb.specs.declared.Status.{Status}
-use Rattle.gtb.specs.declared.Status.TheVariants.{Done, Refused}
 use Rattle.gtb.specs.Shape.{standard, lawful, shape_refusal, scratch_length}
 use Rattle.gtb.specs.Answer.{refusal_number, is_early, scratch_after}
 use Rattle.encoder.specs.Contract.{Extraction}
-use Rattle.correction.specs.declared.Decoded.TheVariants as decoded
 use Rattle.decoder.specs.Decode.{clean, decode_of}
 use Rattle.decoder.specs.Looking.{looking_of}
 use Rattle.majority.specs.Majority.{vote, majority_of}
@@ -17,19 +14,14 @@ use Rattle.double.specs.Double.{two}
 use Rattle.nearest.specs.Nearest.{nearest}
 use Rattle.erasure.specs.Fill.{fill_status}
 use Rattle.restore.specs.Restore.{reach}
-use Rattle.page.specs.declared.PageRead.TheVariants as page
 use Rattle.page.specs.Page.{page_of, write_status}
 use Rattle.session.specs.declared.Session.{Session}
 use Rattle.session.specs.declared.Outcome.TheVariants as outcome
-use Rattle.session.specs.declared.Counted.TheVariants as counted
 use Rattle.session.specs.Session.{session_status, counted_of}
 use Rattle.session.specs.Arrival.{the_ways, Page, arrival_status, outcome_of}
-use Rattle.energy.specs.declared.Billed.TheVariants as billed
 use Rattle.energy.specs.Energy.{millis, bill_of}
-use Rattle.coverage.specs.declared.Covered.TheVariants as covered
 use Rattle.coverage.specs.Coverage.{cover_of}
 use Rattle.batch.specs.Batch.{whole_run, batch_status, values_of}
-use Rattle.verify.specs.declared.Verdict.TheVariants as verdict
 use Rattle.verify.specs.Verify.{verdict_of}
 use Rattle.lines.specs.Text.{ascii}
 use Rattle.lines.specs.Content.{Spelled, Unreadable, content_of}
@@ -74,31 +66,31 @@ faulty = ascii "outcome page fixed\nrefused 10 0\n"
 pub record Orders : Type 0 where
   pub one_eighteen : shape_refusal (record { q = 9; n = 3; b = 1; slopes = replicate 7 0 }) ≡ Refusal.Shape
   pub eighteen : shape_refusal (sloping (replicate 7 0)) ≡ Refusal.Slope
-  pub eighteen_eleven : session_status (miscounted (sloping (replicate 7 0))) ≡ Refused Refusal.Slope
-  pub eleven_seven : counted_of (miscounted small) 256 ≡ counted.Refused Refusal.Figures
-  pub eleven_two_bill : bill_of (miscounted small) [] ≡ billed.Refused Refusal.Figures
-  pub eleven_two_cover : cover_of (miscounted small) [] ≡ covered.Refused Refusal.Figures
-  pub eleven_sixteen : arrival_status the_ways (miscounted small) 2 ≡ Refused Refusal.Figures
-  pub eleven_two_bundle : batch_status (miscounted small) 0 [] [] [] ≡ Refused Refusal.Figures
-  pub one_eleven : arrival_status the_ways (miscounted small) 3 ≡ Refused Refusal.Shape
-  pub two_three : looking_of small too_wide [] ≡ Refused Refusal.Length
-  pub three_four : decode_of small too_wide ≡ decoded.Refused Refusal.Width
-  pub three_twelve : fill_status small too_wide (9 ∷ []) (replicate 5 0) ≡ Refused Refusal.Width
-  pub twelve : fill_status small (replicate 9 0) (9 ∷ []) (replicate 5 0) ≡ Refused Refusal.Places
-  pub three_no : verdict_of small too_wide (1 ∷ replicate 8 0) ≡ verdict.Refused Refusal.Width
-  pub three_five : page_of wide (2048 ∷ 0 ∷ 0 ∷ 0 ∷ []) ≡ page.Refused Refusal.Width
-  pub five_six : page_of wide (1024 ∷ 3 ∷ 0 ∷ 0 ∷ []) ≡ page.Refused Refusal.Page
-  pub six_seven : page_of wide (0 ∷ 3 ∷ 256 ∷ 0 ∷ []) ≡ page.Refused Refusal.Count
-  pub seven_eight : page_of wide (0 ∷ 1 ∷ 256 ∷ 9 ∷ []) ≡ page.Refused Refusal.Function
-  pub five_three : write_status small 1024 [] (replicate 4 0) ≡ Refused Refusal.Page
+  pub eighteen_eleven : session_status (miscounted (sloping (replicate 7 0))) ≡ Err Refusal.Slope
+  pub eleven_seven : counted_of (miscounted small) 256 ≡ Err Refusal.Figures
+  pub eleven_two_bill : bill_of (miscounted small) [] ≡ Err Refusal.Figures
+  pub eleven_two_cover : cover_of (miscounted small) [] ≡ Err Refusal.Figures
+  pub eleven_sixteen : arrival_status the_ways (miscounted small) 2 ≡ Err Refusal.Figures
+  pub eleven_two_bundle : batch_status (miscounted small) 0 [] [] [] ≡ Err Refusal.Figures
+  pub one_eleven : arrival_status the_ways (miscounted small) 3 ≡ Err Refusal.Shape
+  pub two_three : looking_of small too_wide [] ≡ Err Refusal.Length
+  pub three_four : decode_of small too_wide ≡ Err Refusal.Width
+  pub three_twelve : fill_status small too_wide (9 ∷ []) (replicate 5 0) ≡ Err Refusal.Width
+  pub twelve : fill_status small (replicate 9 0) (9 ∷ []) (replicate 5 0) ≡ Err Refusal.Places
+  pub three_no : verdict_of small too_wide (1 ∷ replicate 8 0) ≡ Err Refusal.Width
+  pub three_five : page_of wide (2048 ∷ 0 ∷ 0 ∷ 0 ∷ []) ≡ Err Refusal.Width
+  pub five_six : page_of wide (1024 ∷ 3 ∷ 0 ∷ 0 ∷ []) ≡ Err Refusal.Page
+  pub six_seven : page_of wide (0 ∷ 3 ∷ 256 ∷ 0 ∷ []) ≡ Err Refusal.Count
+  pub seven_eight : page_of wide (0 ∷ 1 ∷ 256 ∷ 9 ∷ []) ≡ Err Refusal.Function
+  pub five_three : write_status small 1024 [] (replicate 4 0) ≡ Err Refusal.Page
   pub again_nine : outcome_of worn (Page 0 (1 ∷ []) 0) ≡ outcome.Again 0 0
   pub nine : outcome_of worn (Page 1 (1 ∷ []) 0) ≡ outcome.Refused Refusal.Overflow
 
 -- the last value on either side of a limit, and what stands where
 pub record Limits : Type 0 where
   pub falling_slopes : lawful (sloping (2 ∷ 0 ∷ 0 ∷ 0 ∷ 0 ∷ 0 ∷ 0 ∷ [])) ≡ true
-  pub full_page : page_of (standard 17 4 9) (0 ∷ 222 ∷ replicate 222 255) ≡ page.Page 0 222
-  pub last_function : counted_of (record { shape = small; taken = replicate 1024 false; calls = replicate 256 0; pages = 0; lowest = 0 }) 255 ≡ counted.Calls 0
+  pub full_page : page_of (standard 17 4 9) (0 ∷ 222 ∷ replicate 222 255) ≡ Ok (0, 222)
+  pub last_function : counted_of (record { shape = small; taken = replicate 1024 false; calls = replicate 256 0; pages = 0; lowest = 0 }) 255 ≡ Ok 0
   pub last_count : outcome_of nearly_worn (Page 1 (1 ∷ []) 0) ≡ outcome.Taken 1 0
   pub each_billed : millis (λ f. f) (tabulate 256 (λ f. f)) ≡ 5559680
   pub words_none : whole_run small [] ≡ false
@@ -107,10 +99,10 @@ pub record Limits : Type 0 where
   pub bundle_values : values_of (outcome.Taken 5 1 ∷ outcome.Refused Refusal.Page ∷ []) ≡ 0 ∷ 5 ∷ 1 ∷ 2 ∷ 5 ∷ 0 ∷ replicate 186 0
   pub shipped_scratch : scratch_length (standard 17 4 32) ≡ 650
   pub shipped_reach : map (reach (standard 17 4 32)) (0 ∷ 1 ∷ 2 ∷ 3 ∷ 4 ∷ 5 ∷ 6 ∷ 7 ∷ 289 ∷ []) ≡ 3 ∷ 3 ∷ 2 ∷ 2 ∷ 1 ∷ 1 ∷ 0 ∷ 0 ∷ 0 ∷ []
-  pub half_of_two : majority_of small (12 ∷ 2 ∷ 7 ∷ 3 ∷ 1 ∷ 2 ∷ 6 ∷ 3 ∷ 5 ∷ []) ≡ decoded.Corrected 1
+  pub half_of_two : majority_of small (12 ∷ 2 ∷ 7 ∷ 3 ∷ 1 ∷ 2 ∷ 6 ∷ 3 ∷ 5 ∷ []) ≡ Ok 1
   -- what was lent for the answer may hold anything
-  pub extraction : {scratch' symbols' : List ℕ} {r : Status}
-      → Extraction small (replicate 9 0) (replicate 5 0) (256 ∷ 256 ∷ 256 ∷ 256 ∷ []) scratch' symbols' r → r ≡ Done
+  pub extraction : {scratch' symbols' : List ℕ} {r : Result (Unit {0}) Refusal}
+      → Extraction small (replicate 9 0) (replicate 5 0) (256 ∷ 256 ∷ 256 ∷ 256 ∷ []) scratch' symbols' r → r ≡ Ok tt
   pub symbols : symbols_of (1 ∷ 2 ∷ 3 ∷ 4 ∷ []) ≡ 67305985 ∷ []
   pub bytes : bytes_of (67305985 ∷ []) ≡ 1 ∷ 2 ∷ 3 ∷ 4 ∷ []
   pub largest : content_of (ascii "4294967295") ≡ Spelled (4294967295 ∷ [])
@@ -150,4 +142,4 @@ pub record Layout : Type 0 where
   -- what is not taken leaves the values as they were, and so does a fresh session that is refused
   pub again : (v : List ℕ) (σ : Session) (p k : ℕ) → session_in v σ (outcome.Again p k) ≡ v
   pub refused : (v : List ℕ) (σ : Session) (e : Refusal) → session_in v σ (outcome.Refused e) ≡ v
-  pub unmade : (s : Shape) (v : List ℕ) (e : Refusal) → fresh_in s v (Refused e) ≡ v
+  pub unmade : (s : Shape) (v : List ℕ) (e : Refusal) → fresh_in s v (Err e) ≡ v

@@ -1,6 +1,6 @@
 -- A check of a proposal looks at the first n - 1 slopes alone; so do arrivals of proposals.
 use mathlib.Core.Path.{◌≡◌, ap, ◌∙◌}
-use mathlib.Core.Bool.{not, cond, ◌&&◌, ◌||◌}
+use mathlib.Core.Bool.{not, ◌&&◌, ◌||◌}
 use mathlib.Core.List.{List}
 use mathlib.Core.Logic.{inl, inr, ⊎_elim}
 use Prim.Native.Nat.{ℕ, ◌-◌}
@@ -20,7 +20,7 @@ use Rattle.session.specs.declared.Outcome.{Outcome}
 use Rattle.session.specs.Arrival.{the_ways}
 use Rattle.session.specs.Recording.{Arrival, arrival_at}
 use Rattle.session.specs.Claim.{Run}
-use Rattle.verify.specs.declared.Verdict.TheVariants.{Yes, No, Refused}
+use Rattle.std.specs.Prelude.{Ok, Err}
 use Rattle.verify.specs.Verify.{difference, unmasked_test, restores, verdict_of}
 use Rattle.verify.specs.Proposals.{Replaced, Proposed, AnswersAlike}
 use Rattle.verify.proofs.Proposals.{proposals_alike}
@@ -42,10 +42,10 @@ module _ (s : Shape) (slopes : List ℕ) (alike : Alike s slopes) where
   pub check_alike : (w v : List ℕ) → verdict_of (reslope s slopes) w v ≡ verdict_of s w v
   unfolding verdict_of
   check_alike w v = λ i.
-      unless (lawful_alike s slopes alike i) (Refused (refusal_alike s slopes alike i))
-      (unless (eqb (length w) (word_length s) && eqb (length v) (word_length s)) (Refused Refusal.Length)
-      (unless (narrow s.b w && narrow s.b v) (Refused Refusal.Width)
-      (cond (restores_alike w v i) Yes No)))
+      unless (lawful_alike s slopes alike i) (Err (refusal_alike s slopes alike i))
+      (unless (eqb (length w) (word_length s) && eqb (length v) (word_length s)) (Err Refusal.Length)
+      (unless (narrow s.b w && narrow s.b v) (Err Refusal.Width)
+      (Ok (restores_alike w v i))))
 
   -- proposals that were checked under such a shape
   proposed_alike : {arrivals others : List Arrival} → Proposed s arrivals others → Proposed (reslope s slopes) arrivals others

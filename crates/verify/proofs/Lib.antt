@@ -1,4 +1,5 @@
 pub mod Meaning
+pub mod Lists
 pub mod Table
 pub mod Answers
 pub mod Proposals

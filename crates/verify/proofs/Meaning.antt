@@ -1,6 +1,6 @@
 -- What checking means: yes exactly where the proposal explains the received word, so exactly for the proposal that reading gives.
 use mathlib.Core.Path.{◌≡◌, refl, sym, ap, ◌∙◌}
-use mathlib.Core.Bool.{Bool, true, false, not, cond, ◌&&◌, ◌||◌}
+use mathlib.Core.Bool.{Bool, true, false, not, ◌&&◌, ◌||◌}
 use mathlib.Core.List.{List}
 use mathlib.Core.Logic.{⊎_elim}
 use Prim.Native.Nat.{ℕ, ◌-◌, ◌<◌}
@@ -16,15 +16,13 @@ use Rattle.gtb.specs.Shape.{lawful, shape_refusal, Lawful, word_length}
 use Rattle.gtb.specs.Square.{line_of, at, narrow, syndrome, Word, silent_test}
 use Rattle.gtb.proofs.Words.{word_narrow, narrow_word, test_silent, silent_test_lem}
 use Rattle.gtb.proofs.Answers.{unless_passed}
-use Rattle.correction.specs.declared.Decoded.TheVariants as decoded
+use Rattle.std.specs.Prelude.{Result, Ok, Err}
 use Rattle.correction.specs.Error.{weight}
 use Rattle.correction.proofs.Near.{error_size}
 use Rattle.correction.proofs.Readings.{read_accepted, read_means}
 use Rattle.decoder.specs.Damage.{Unmasked, Explains}
 use Rattle.decoder.specs.Decode.{clean, decode_of, restored}
 use Rattle.decoder.proofs.Meaning.{explains_near, explains_unmasked, near_explains, clean_meant, explains_decode}
-use Rattle.verify.specs.declared.Verdict.{Verdict}
-use Rattle.verify.specs.declared.Verdict.TheVariants.{Yes, No, Refused}
 use Rattle.verify.specs.Verify.{difference, unmasked_test, restores, verdict_of, Checking}
 
 -- ---- the test and what it says
@@ -80,17 +78,17 @@ module _ (s : Shape) (w v : List ℕ) where
       (unmasked_test_lem s (difference w v) (explains_unmasked s w v k x))
 
 -- ---- the tests before
-abbrev is_refused : Verdict → Type 0
-is_refused r = (e : Refusal) × (Refused e ≡ r)
+abbrev is_refused : Result Bool Refusal → Type 0
+is_refused r = (e : Refusal) × (Err e ≡ r)
 
 -- what has passed the tests, and what decides then
-record Passed (s : Shape) (w v : List ℕ) (r : Verdict) : Type 0 where
+record Passed (s : Shape) (w v : List ℕ) (r : Result Bool Refusal) : Type 0 where
   pub law : Lawful s
   pub received : Word s w
   pub proposed : Word s v
-  pub decides : cond (restores s w v) Yes No ≡ r
+  pub decides : Ok (restores s w v) ≡ r
 
-passed : (s : Shape) (w v : List ℕ) (r : Verdict) → (is_refused r → ⊥) → verdict_of s w v ≡ r → Passed s w v r
+passed : (s : Shape) (w v : List ℕ) (r : Result Bool Refusal) → (is_refused r → ⊥) → verdict_of s w v ≡ r → Passed s w v r
 unfolding verdict_of
 passed s w v r ne h =
     let (law, h2) = unless_passed (lawful s) _ _ (λ e. ne (shape_refusal s, e)) h in
@@ -104,25 +102,25 @@ passed s w v r ne h =
     }
 
 -- past them
-verdict_by : (s : Shape) (w v : List ℕ) → Lawful s → Word s w → Word s v → verdict_of s w v ≡ cond (restores s w v) Yes No
+verdict_by : (s : Shape) (w v : List ℕ) → Lawful s → Word s w → Word s v → verdict_of s w v ≡ Ok (restores s w v)
 unfolding verdict_of
 verdict_by s w v law hw hv =
     rw (law, eq-eqb (length w) (word_length s) hw.size, eq-eqb (length v) (word_length s) hv.size, word_narrow s w hw, word_narrow s v hv)
 
-yes_true : (b : Bool) → cond b Yes No ≡ Yes → b ≡ true
+yes_true : (b : Bool) → ◌≡◌ {A = Result Bool Refusal} (Ok b) (Ok true) → b ≡ true
 yes_true true h = refl
 yes_true false h = let z : ◌≡◌ {A = ℕ} 0 1 = cc in absurd (omega arith)
 
-yes_plain : is_refused Yes → ⊥
+yes_plain : is_refused (Ok true) → ⊥
 yes_plain (e, h) = let z : ◌≡◌ {A = ℕ} 0 1 = cc in omega arith
 
-no_plain : is_refused No → ⊥
+no_plain : is_refused (Ok false) → ⊥
 no_plain (e, h) = let z : ◌≡◌ {A = ℕ} 0 1 = cc in omega arith
 
 -- a proposal that explains gets yes
-pub explains_yes : (s : Shape) → Lawful s → (w v : List ℕ) (k : ℕ) → Explains s w v k → verdict_of s w v ≡ Yes
+pub explains_yes : (s : Shape) → Lawful s → (w v : List ℕ) (k : ℕ) → Explains s w v k → verdict_of s w v ≡ Ok true
 explains_yes s law w v k x =
-    verdict_by s w v law (explains_near s w v k x).word x.codeword.word ∙ ap (λ (b : Bool). cond b Yes No) (explains_restores s w v k x)
+    verdict_by s w v law (explains_near s w v k x).word x.codeword.word ∙ ap (λ (b : Bool). Ok b) (explains_restores s w v k x)
 
 -- and one that gets yes explains
 pub record Accepted (s : Shape) (w v : List ℕ) : Type 0 where
@@ -131,9 +129,9 @@ pub record Accepted (s : Shape) (w v : List ℕ) : Type 0 where
   pub changed : ℕ
   pub explains : Explains s w v changed
 
-pub yes_explains : (s : Shape) (w v : List ℕ) → verdict_of s w v ≡ Yes → Accepted s w v
+pub yes_explains : (s : Shape) (w v : List ℕ) → verdict_of s w v ≡ Ok true → Accepted s w v
 yes_explains s w v h =
-    let p = passed s w v Yes yes_plain h in
+    let p = passed s w v (Ok true) yes_plain h in
     record {
       law = p.law;
       received = p.received;
@@ -142,10 +140,10 @@ yes_explains s w v h =
     }
 
 -- ---- yes exactly for the proposal that reading gives
-pub yes_decodes : (s : Shape) (w v : List ℕ) → verdict_of s w v ≡ Yes → (k : ℕ) × ((decode_of s w ≡ decoded.Corrected k) × (restored s w ≡ v))
+pub yes_decodes : (s : Shape) (w v : List ℕ) → verdict_of s w v ≡ Ok true → (k : ℕ) × ((decode_of s w ≡ Ok k) × (restored s w ≡ v))
 yes_decodes s w v h = let a = yes_explains s w v h in (a.changed, explains_decode s a.law w v a.changed a.explains)
 
-pub decodes_yes : (s : Shape) (w v : List ℕ) (k : ℕ) → decode_of s w ≡ decoded.Corrected k → restored s w ≡ v → verdict_of s w v ≡ Yes
+pub decodes_yes : (s : Shape) (w v : List ℕ) (k : ℕ) → decode_of s w ≡ Ok k → restored s w ≡ v → verdict_of s w v ≡ Ok true
 decodes_yes s w v k h e = explains_yes s (read_accepted clean s w k h).lawful w v k (rw e at (read_means clean_meant s w k h))
 
 -- ---- for every shape and two words: the answer by equation, and what it means
@@ -154,7 +152,7 @@ check_meets s w v = record {
   answer = refl;
   yes = λ h. let a = yes_explains s w v h in (a.changed, a.explains);
   no = λ h k x.
-      let y = explains_yes s (passed s w v No no_plain h).law w v k x in
+      let y = explains_yes s (passed s w v (Ok false) no_plain h).law w v k x in
       let z : ◌≡◌ {A = ℕ} 0 1 = cc in
       omega arith;
 }

@@ -11,17 +11,13 @@ use lib.ListN.{length, take, get_or}
 use borrow.Author.Tests.{eq-eqb}
 use Rattle.gtb.specs.declared.Shape.{Shape}
 use Rattle.gtb.specs.declared.Refusal.{Refusal}
-use Rattle.gtb.specs.declared.Status.{Status}
-use Rattle.gtb.specs.declared.Status.TheVariants as status
+use Rattle.std.specs.Prelude.{Result, Ok, Err}
 use Rattle.gtb.specs.Shape.{Lawful, word_length, scratch_length}
 use Rattle.gtb.specs.Square.{Codeword}
 use Rattle.gtb.specs.Positions.{extract_of}
 use Rattle.gtb.specs.Answer.{unless}
-use Rattle.correction.specs.declared.Decoded.TheVariants as decoded
 use Rattle.decoder.specs.Decode.{decode_of, restored}
 use Rattle.decoder.proofs.Meaning.{codeword_explains, explains_decode}
-use Rattle.page.specs.declared.PageRead.{PageRead}
-use Rattle.page.specs.declared.PageRead.TheVariants as page
 use Rattle.page.specs.Page.{page_of}
 use Rattle.session.specs.declared.Session.{Session}
 use Rattle.session.specs.declared.Outcome.{Outcome}
@@ -32,7 +28,6 @@ use Rattle.session.specs.Recording.{arrival_at, Arrival}
 use Rattle.session.specs.Claim.{Run, answer_at}
 use Rattle.session.proofs.Alikes.{shape_kept}
 use Rattle.session.proofs.Fed.{brought, answers_of, end_of, run_answers, run_end}
-use Rattle.verify.specs.declared.Verdict.TheVariants.{Yes}
 use Rattle.verify.specs.Verify.{verdict_of}
 use Rattle.verify.specs.Proposals.{Replaced, Proposed, without_number, AnswersAlike}
 use Rattle.verify.proofs.Meaning.{yes_explains}
@@ -45,31 +40,31 @@ plain (Bad e) = Bad e
 -- ---- one word
 
 -- a codeword is read as it is
-codeword_read : (s : Shape) → Lawful s → (v : List ℕ) → Codeword s v → (decode_of s v ≡ decoded.Corrected 0) × (restored s v ≡ v)
+codeword_read : (s : Shape) → Lawful s → (v : List ℕ) → Codeword s v → (decode_of s v ≡ Ok 0) × (restored s v ≡ v)
 codeword_read s law v stored = explains_decode s law v v 0 (codeword_explains s v stored)
 
 -- what a word opens to that is read as v
 abbrev opened_to : Shape → List ℕ → List ℕ → ℕ → Opened
 opened_to s v scratch k = unless (eqb (length scratch) (scratch_length s)) (Bad Refusal.Length) (open_page s (extract_of s v) k (page_of s (extract_of s v)))
 
-opens : (s : Shape) (w v scratch : List ℕ) (k : ℕ) → Lawful s → length w ≡ word_length s → decode_of s w ≡ decoded.Corrected k → restored s w ≡ v
+opens : (s : Shape) (w v scratch : List ℕ) (k : ℕ) → Lawful s → length w ≡ word_length s → decode_of s w ≡ Ok k → restored s w ≡ v
     → opened the_ways s 0 w scratch ≡ opened_to s v scratch k
 unfolding opened is_way way_of
 opens s w v scratch k law size read word = rw (law, eq-eqb (length w) (word_length s) size, read, word)
 
-page_plain : (s : Shape) (symbols : List ℕ) (k k' : ℕ) (r : PageRead) → plain (open_page s symbols k r) ≡ plain (open_page s symbols k' r)
-page_plain s symbols k k' (page.Page number c) = refl
-page_plain s symbols k k' (page.Refused e) = refl
+page_plain : (s : Shape) (symbols : List ℕ) (k k' : ℕ) (r : Result (ℕ × ℕ) Refusal) → plain (open_page s symbols k r) ≡ plain (open_page s symbols k' r)
+page_plain s symbols k k' (Ok (number, c)) = refl
+page_plain s symbols k k' (Err e) = refl
 
 unless_plain : (t : Bool) (e : Refusal) (o o' : Opened) → plain o ≡ plain o' → plain (unless t (Bad e) o) ≡ plain (unless t (Bad e) o')
 unless_plain true e o o' h = h
 unless_plain false e o o' h = refl
 
-past_plain : (t : Status) (o o' : Opened) → plain o ≡ plain o' → plain (past t Bad o) ≡ plain (past t Bad o')
-past_plain status.Done o o' h = h
-past_plain (status.Refused e) o o' h = refl
+past_plain : (t : Result (Unit {0}) Refusal) (o o' : Opened) → plain o ≡ plain o' → plain (past t Bad o) ≡ plain (past t Bad o')
+past_plain (Ok tt) o o' h = h
+past_plain (Err e) o o' h = refl
 
-opened_plain : (s : Shape) (w v scratch : List ℕ) → verdict_of s w v ≡ Yes → plain (opened the_ways s 0 v scratch) ≡ plain (opened the_ways s 0 w scratch)
+opened_plain : (s : Shape) (w v scratch : List ℕ) → verdict_of s w v ≡ Ok true → plain (opened the_ways s 0 v scratch) ≡ plain (opened the_ways s 0 w scratch)
 opened_plain s w v scratch h =
     let a = yes_explains s w v h in
     let (read, word) = explains_decode s a.law w v a.changed a.explains in
@@ -79,7 +74,7 @@ opened_plain s w v scratch h =
     ∙ sym (ap plain (opens s w v scratch a.changed a.law a.received.size read word))
 
 -- ---- one arrival, at any session
-presented_plain : (σ : Session) (w v scratch : List ℕ) → verdict_of σ.shape w v ≡ Yes
+presented_plain : (σ : Session) (w v scratch : List ℕ) → verdict_of σ.shape w v ≡ Ok true
     → plain (presented the_ways σ 0 v scratch) ≡ plain (presented the_ways σ 0 w scratch)
 unfolding presented
 presented_plain σ w v scratch h = past_plain (arrival_status the_ways σ 0) _ _ (opened_plain σ.shape w v scratch h)

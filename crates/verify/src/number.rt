@@ -2,14 +2,14 @@
 ghost use Rattle.std.specs.Prelude.{◌≡◌};
 ghost use Rattle.verify.specs.Verify.{verdict_number};
 
-use crate::Verdict;
+use gtb::Refusal;
 
-pub fn verdict(answer: Verdict) -> u32
+pub fn verdict(answer: Result<bool, Refusal>) -> u32
     ensures { result ≡ verdict_number answer }
 {
     match answer {
-        Verdict::Yes => 1,
-        Verdict::No => 0,
-        Verdict::Refused(e) => gtb::number::refused(e),
+        Ok(true) => 1,
+        Ok(false) => 0,
+        Err(e) => gtb::number::refused(e),
     }
 }

@@ -9,7 +9,7 @@ pub returns : goal.returns
 unfolding start
 returns c = let put = c.put_outcome_names-at.ensures in
     record {
-      tally = rw c.fresh-fresh.ensures.begun.session;
+      tally = rw c.blank.ensures;
       held = refl;
       counts = refl;
       at = put.next;

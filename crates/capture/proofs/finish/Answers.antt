@@ -5,9 +5,6 @@ use Rattle.capture.specs.Feed.{closing}
 use Rattle.capture.proofs.Texts.{appended_both, held_none}
 use Rattle.capture.proofs.finish.Goals as goal
 
-pub put_table-end-requires : goal.put_table-end-requires
-put_table-end-requires c = omega (arith, c.put_answer-next.ensures.1, c.put_answer-next.ensures.0.size, c.requires)
-
 pub returns : goal.returns
 unfolding closing
 returns c = let table = c.put_table-end.ensures in
@@ -17,7 +14,7 @@ returns c = let table = c.put_table-end.ensures in
       tally = refl;
       held = refl;
       output = λ buffer line h. rw (← held_none h, ← last) (appended_both answer.0 table.0);
-      counts = λ buffer line h. rw (← held_none h, ← last) c.count_answer-counts.ensures;
+      counts = λ buffer line h. rw (← held_none h, ← last) c.count_answer.ensures;
       within = omega (arith, answer.1, table.1);
       size = table.0.size ∙ answer.0.size;
     }

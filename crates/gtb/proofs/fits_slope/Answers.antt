@@ -1,22 +1,31 @@
--- `gtb::fits_slope` meets its contract. The loop's invariant: the slope is below q, and none of the places passed holds it.
-use mathlib.Core.Path.{refl, sym, ◌∙◌}
-use native.Mathlib.Nat.{le_antisymm}
+-- `gtb::fits_slope` meets its contract.
+use mathlib.Core.Path.{sym, ◌∙◌}
+use mathlib.Core.Bool.{not}
+use native.Mathlib.Omega.{arith}
 use borrow.Author.Rules.{rules}
-use Rattle.parity.proofs.Tests.{all_zero}
-use Rattle.gtb.proofs.Slopes.{slope_large, slope_twice, slope_other, slope_fits}
+use lib.Dec.{eqb}
+use lib.ListN.{get_or, take}
+use borrow.Author.Tests.{lt-ltb, le-ltb}
+use Rattle.std.proofs.Common.{tests}
+use Rattle.std.proofs.lemmas.Iterator.{YieldsList-from_slice}
+use Rattle.std.proofs.lemmas.Iterator.Search.{all_from_yields_List}
+use Rattle.parity.proofs.Tests.{and_no_left}
+use Rattle.gtb.specs.Shape.{fits_slope}
+use Rattle.gtb.proofs.Lists.{all_first}
 use Rattle.gtb.proofs.fits_slope.Goals as goal
 
-pub returns-then-shape-slope : goal.returns-then-shape-slope
-returns-then-shape-slope c = slope_large _ _ c.if-shape-slope.true
+pub returns-then-slope-q : goal.returns-then-slope-q
+unfolding fits_slope
+returns-then-slope-q c =
+    let slopes = c.args.slopes.now in
+    let slope = get_or slopes c.args.t 0 in
+    rw (lt-ltb slope c.args.q c.if-slope-q.true)
+    (all_from_yields_List (λ x. not (eqb x slope)) _ _ c.all.result c.all.ensures.ran (YieldsList-from_slice (take c.args.t slopes) (cc))
+    (λ x b q k. search (rules, tests))
+    ∙ all_first (λ x. not (eqb x slope)) slopes c.args.t (omega arith))
 
-pub loop-u-init : goal.loop-u-init
-loop-u-init c = (search rules, refl, search rules, all_zero _)
-
-pub returns-then-shape-u : goal.returns-then-shape-u
-returns-then-shape-u c = slope_twice _ _ _ _ c.loop-u-test.true (c.if-shape-u.true ∙ c.loop-u.invariant.1)
-
-pub loop-u-preserved : goal.loop-u-preserved
-loop-u-preserved c = (search rules, c.loop-u.invariant.1, c.loop-u.invariant.2, slope_other c.args.shape.slopes c.args.t c.loop-u.u c.loop-u.invariant.3 (λ e. c.if-shape-u.false (e ∙ sym c.loop-u.invariant.1)))
-
-pub returns : goal.returns
-returns c = slope_fits _ _ (rw c.loop-u.invariant.1 at c.loop-u.invariant.2) (rw (le_antisymm c.loop-u.invariant.0 c.loop-u-test.false) at c.loop-u.invariant.3)
+pub returns-else-slope-q : goal.returns-else-slope-q
+unfolding fits_slope
+returns-else-slope-q c = let a = c.args in
+    let large = le-ltb (get_or a.slopes.now a.t 0) a.q c.if-slope-q.false in
+    large ∙ sym (and_no_left _ large)

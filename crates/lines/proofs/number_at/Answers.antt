@@ -1,33 +1,38 @@
 -- `lines::number_at` meets its contract: what has been passed is the spelling of the value.
-use Rattle.std.proofs.Common.{arith}
-use Rattle.lines.proofs.Scans.{digit_first, digit_more, end_other, without_digit, with_leading_zero, with_large_value}
+use Rattle.std.proofs.Common.{◌≡◌, ◌+◌, ◌*◌, arith}
+use Rattle.lines.specs.Scan.{Digit}
+use Rattle.lines.proofs.Scans.{digit_first, digit_more, without_digit, with_leading_zero, with_large_value}
 use Rattle.lines.proofs.number_at.Goals as goal
 
-pub returns-then-from-line : goal.returns-then-from-line
-returns-then-from-line c = without_digit _ _ (end_other c.args.line.now c.args.from c.if-from-line.true)
+pub returns-in_err-value : goal.returns-in_err-value
+returns-in_err-value c = rw c.from_residual.ensures (without_digit _ _ (c.digit_at.ensures.none c.in_err-value.was))
 
-pub returns-then-first-lt48 : goal.returns-then-first-lt48
-returns-then-first-lt48 c = without_digit _ _ (λ l h. omega arith)
-
-pub returns-then-first-gt57 : goal.returns-then-first-gt57
-returns-then-first-gt57 c = without_digit _ _ (λ l h. omega arith)
-
-pub loop-at-init : goal.loop-at-init
-loop-at-init c = (omega arith, omega arith, omega arith, digit_first c.args.line.now c.args.from (omega arith) (omega arith) (omega arith))
+pub loop-digit-init : goal.loop-digit-init
+loop-digit-init c =
+    let digit : Digit c.args.line.now c.args.from c.in_ok-value.value = c.digit_at.ensures.found _ c.in_ok-value.was in
+    record { low = omega arith; high = omega arith; small = omega arith; text = digit_first _ _ digit }
 
 pub returns-then-value-eq0 : goal.returns-then-value-eq0
-returns-then-value-eq0 c = with_leading_zero _ _ c.loop-at.at c.loop-at.value (omega arith) (omega arith) c.if-value-eq0.true c.loop-at.invariant.3
+returns-then-value-eq0 c =
+    with_leading_zero _ _ (c.digit_at-in-loop-digit.ensures.found _ c.in-Some.is) c.if-value-eq0.true c.loop-digit.invariant.text
 
-pub returns-then-value-gt4294967295 : goal.returns-then-value-gt4294967295
-returns-then-value-gt4294967295 c =
-    with_large_value _ _ _ _ (omega arith)
-    (digit_more c.args.line.now c.args.from c.loop-at.at c.loop-at.value (omega arith) (omega arith) (omega arith) (omega arith)
-    c.loop-at.invariant.3)
+pub returns-in_err-checked_mul : goal.returns-in_err-checked_mul
+returns-in_err-checked_mul c =
+    let more = digit_more _ _ (c.digit_at-in-loop-digit.ensures.found _ c.in-Some.is) c.if-value-eq0.false c.loop-digit.invariant.text in
+    rw c.from_residual-in_err-checked_mul.ensures (with_large_value _ _ _ _ (omega arith) more)
 
-pub loop-at-preserved : goal.loop-at-preserved
-loop-at-preserved c = (
-  omega arith,
-  omega arith,
-  omega arith,
-  digit_more c.args.line.now c.args.from c.loop-at.at c.loop-at.value (omega arith) (omega arith) (omega arith) (omega arith) c.loop-at.invariant.3,
-)
+pub returns-in_err-value-2 : goal.returns-in_err-value-2
+returns-in_err-value-2 c =
+    let more = digit_more _ _ (c.digit_at-in-loop-digit.ensures.found _ c.in-Some.is) c.if-value-eq0.false c.loop-digit.invariant.text in
+    rw c.from_residual-in_err-value-2.ensures (with_large_value _ _ _ _ (omega arith) more)
+
+pub loop-digit-preserved : goal.loop-digit-preserved
+loop-digit-preserved c =
+    let digit : Digit c.args.line.now c.loop-digit.at c.in-Some.digit = c.digit_at-in-loop-digit.ensures.found _ c.in-Some.is in
+    let sum : c.in_ok-value-2.value ≡ c.loop-digit.value * 10 + c.in-Some.digit = omega arith in
+    record {
+      low = omega arith;
+      high = omega arith;
+      small = omega arith;
+      text = rw sum (digit_more _ _ digit c.if-value-eq0.false c.loop-digit.invariant.text);
+    }

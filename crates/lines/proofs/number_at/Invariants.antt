@@ -3,8 +3,13 @@ use Rattle.std.proofs.Common.{◌≡◌, ◌++◌, ◌-◌, ◌^◌, ◌<◌, �
 use Rattle.lines.specs.Text.{decimal}
 use Rattle.lines.proofs.number_at.Given as goal
 
-abbrev pub invariant-loop-at : goal.invariant-loop-at
-invariant-loop-at l = (l.from < l.at) × (l.at ≤ length l.line) × (l.value < 2 ^ 32) × (drop l.from l.line ≡ decimal l.value ++ drop l.at l.line)
+abbrev pub invariant-loop-digit : goal.invariant-loop-digit
+invariant-loop-digit l = record {
+  low : l.from < l.at;
+  high : l.at ≤ length l.line;
+  small : l.value < 2 ^ 32;
+  text : drop l.from l.line ≡ decimal l.value ++ drop l.at l.line;
+}
 
-abbrev pub decreases-loop-at : goal.decreases-loop-at
-decreases-loop-at l = length l.line - l.at
+abbrev pub decreases-loop-digit : goal.decreases-loop-digit
+decreases-loop-digit l = length l.line - l.at

@@ -4,7 +4,6 @@ use mathlib.Core.Path.{◌≡◌, sym, ap, ◌∙◌}
 use mathlib.Core.Bool.{Bool}
 use mathlib.Core.List.{List}
 use Prim.Native.Nat.{ℕ, ◌+◌, ◌-◌}
-use native.Mathlib.Omega.{arith}
 use lib.ListN.{length, get_or, take, drop}
 use Rattle.page.specs.Page.{page_of, functions, zeros}
 use Rattle.page.proofs.Pages.{passed_read, many_marks, few_marks}
@@ -19,9 +18,6 @@ calls symbols e = ap functions (sym (marks_part (get_or symbols 1 0) symbols)) �
 tail : (symbols : List ℕ) {r : Bool} → r ≡ zeros (take (length symbols - (2 + get_or symbols 1 0)) (drop (2 + get_or symbols 1 0) symbols)) →
     zeros (drop (2 + get_or symbols 1 0) symbols) ≡ r
 tail symbols e = ap zeros (sym (rest_part (2 + get_or symbols 1 0) symbols)) ∙ sym e
-
-pub overflow_cast-c : goal.overflow_cast-c
-overflow_cast-c c = omega (arith, c.type_inv.symbols 1)
 
 pub returns-then-number-ge1024 : goal.returns-then-number-ge1024
 unfolding page_of

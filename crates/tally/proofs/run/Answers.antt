@@ -1,14 +1,10 @@
 -- `tally::run` is safe and ends: every step is within the buffers, and the state's measure falls.
-use Rattle.std.proofs.Common.{◌∙◌}
 use Rattle.capture.proofs.Sessions.{start_consistent}
 use Rattle.tally.proofs.Acts.{begun_there, took_stepped, closing_stepped}
 use Rattle.tally.proofs.run.Goals as goal
 
 pub loop-block-init : goal.loop-block-init
 loop-block-init g c = record {
-  block = c.buffer-block.ensures;
-  line = c.buffer-line.ensures;
-  out = c.begin-reader.ensures.output.size ∙ c.output_buffer-out.ensures;
   figures = rw c.begin-reader.ensures.tally start_consistent;
   sound = begun_there _ _ _ c.begin-state.ensures c.begin-reader.ensures.at;
 }

@@ -1,7 +1,10 @@
 -- `verify::check` meets its contract. Each way out is one of Answers.antt.
-use mathlib.Core.Path.{◌≡◌, sym, ◌∙◌}
+use mathlib.Core.Path.{◌≡◌, sym, ap, ◌∙◌, subst}
+use Rattle.std.proofs.lemmas.Result.{err_from_is_err_and}
 use lib.ListN.{length}
+use Rattle.gtb.specs.declared.Shape.{Shape}
 use Rattle.gtb.specs.Shape.{Lawful, word_length}
+use Rattle.gtb.specs.Lent.{word_status}
 use Rattle.gtb.proofs.Words.{status_word}
 use Rattle.verify.proofs.Paper.{checking_asked}
 use Rattle.verify.proofs.Answers.{refuses_shape, refuses_length, refuses_received, refuses_proposed, decides}
@@ -11,59 +14,41 @@ use Rattle.verify.proofs.check.Goals as goal
 both : {A B : Type 0} → A × B → record { checked : A; paper : B }
 both x = record { checked = x.0; paper = x.1 }
 
-pub returns-then-not-is_lawful : goal.returns-then-not-is_lawful
-returns-then-not-is_lawful c = both (checking_asked (refuses_shape (sym c.is_lawful.ensures ∙ c.if-not-is_lawful.true) c.shape_refusal.ensures))
-
-pub word_length-requires : goal.word_length-requires
-word_length-requires c =
-    let shape-passes : Lawful c.args.shape = sym c.is_lawful.ensures ∙ c.if-not-is_lawful.false in
-    shape-passes
+pub returns-in_err-code : goal.returns-in_err-code
+returns-in_err-code c = let e = err_from_is_err_and c.from_residual.result c.from_residual.ensures.1 in
+    rw (e.1, e.2) (both (checking_asked (refuses_shape c.in_err-code.ensures.0 c.in_err-code.ensures.1)))
 
 pub returns-then-proposed-word_length : goal.returns-then-proposed-word_length
 returns-then-proposed-word_length c =
-    let shape-passes : Lawful c.args.shape = sym c.is_lawful.ensures ∙ c.if-not-is_lawful.false in
-    both (checking_asked (refuses_length _ shape-passes _ _ (λ e. c.if-proposed-word_length.true (e ∙ sym c.word_length.ensures))))
+    let law : Lawful c.args.shape = subst Lawful c.in_ok-code.ensures c.in_ok-code.code.lawful in
+    both (checking_asked (refuses_length _ law _ _ (λ e. c.if-proposed-word_length.true (e ∙ sym (c.word_length.ensures ∙ ap word_length c.in_ok-code.ensures)))))
 
-pub word_status-first-requires : goal.word_status-first-requires
-word_status-first-requires c =
-    let shape-passes : Lawful c.args.shape = sym c.is_lawful.ensures ∙ c.if-not-is_lawful.false in
-    shape-passes
+pub returns-in_err-test_word : goal.returns-in_err-test_word
+returns-in_err-test_word c =
+    let law : Lawful c.args.shape = subst Lawful c.in_ok-code.ensures c.in_ok-code.code.lawful in
+    let size : length c.args.proposed.now ≡ word_length c.args.shape = c.if-proposed-word_length.false ∙ c.word_length.ensures ∙ ap word_length c.in_ok-code.ensures in
+    let tested = ap (λ (s : Shape). word_status s c.args.received.now) (sym c.in_ok-code.ensures) ∙ sym c.test_word.ensures ∙ c.in_err-test_word.was in
+    let e = err_from_is_err_and c.from_residual-in_err-test_word.result c.from_residual-in_err-test_word.ensures.1 in rw (e.1, e.2)
+    (both (checking_asked (refuses_received _ law _ _ size tested)))
 
-pub returns-in-Refused : goal.returns-in-Refused
-returns-in-Refused c =
-    let shape-passes : Lawful c.args.shape = sym c.is_lawful.ensures ∙ c.if-not-is_lawful.false in
-    let length-passes : length c.args.proposed.now ≡ word_length c.args.shape = c.if-proposed-word_length.false ∙ c.word_length.ensures in
-    both (checking_asked (refuses_received _ shape-passes _ _ length-passes (sym c.word_status-first.ensures ∙ c.in-Refused.is)))
-
-pub word_status-second-requires : goal.word_status-second-requires
-word_status-second-requires c =
-    let shape-passes : Lawful c.args.shape = sym c.is_lawful.ensures ∙ c.if-not-is_lawful.false in
-    shape-passes
-
-pub returns-in-Refused-second : goal.returns-in-Refused-second
-returns-in-Refused-second c =
-    let shape-passes : Lawful c.args.shape = sym c.is_lawful.ensures ∙ c.if-not-is_lawful.false in
-    let length-passes : length c.args.proposed.now ≡ word_length c.args.shape = c.if-proposed-word_length.false ∙ c.word_length.ensures in
-    both (checking_asked (refuses_proposed _ shape-passes _ _ length-passes (sym c.word_status-first.ensures ∙ c.in_default.is) (sym c.word_status-second.ensures ∙ c.in-Refused-second.is)))
+pub returns-in_err-test_word-2 : goal.returns-in_err-test_word-2
+returns-in_err-test_word-2 c =
+    let law : Lawful c.args.shape = subst Lawful c.in_ok-code.ensures c.in_ok-code.code.lawful in
+    let size : length c.args.proposed.now ≡ word_length c.args.shape = c.if-proposed-word_length.false ∙ c.word_length.ensures ∙ ap word_length c.in_ok-code.ensures in
+    let first = ap (λ (s : Shape). word_status s c.args.received.now) (sym c.in_ok-code.ensures) ∙ sym c.test_word.ensures ∙ c.in_ok-test_word.was in
+    let second = ap (λ (s : Shape). word_status s c.args.proposed.now) (sym c.in_ok-code.ensures) ∙ sym c.test_word-2.ensures ∙ c.in_err-test_word-2.was in
+    let e = err_from_is_err_and c.from_residual-in_err-test_word-2.result c.from_residual-in_err-test_word-2.ensures.1 in rw (e.1, e.2)
+    (both (checking_asked (refuses_proposed _ law _ _ size first second)))
 
 pub is_restored-requires : goal.is_restored-requires
 is_restored-requires c =
-    let shape-passes : Lawful c.args.shape = sym c.is_lawful.ensures ∙ c.if-not-is_lawful.false in
-    let length-passes : length c.args.proposed.now ≡ word_length c.args.shape = c.if-proposed-word_length.false ∙ c.word_length.ensures in
-    (shape-passes, (status_word _ _ (sym c.word_status-first.ensures ∙ c.in_default.is)).size, length-passes)
-
-pub returns-then-is_restored : goal.returns-then-is_restored
-returns-then-is_restored c =
-    let shape-passes : Lawful c.args.shape = sym c.is_lawful.ensures ∙ c.if-not-is_lawful.false in
-    let length-passes : length c.args.proposed.now ≡ word_length c.args.shape = c.if-proposed-word_length.false ∙ c.word_length.ensures in
-    both (checking_asked
-    (decides _ shape-passes _ _ length-passes (sym c.word_status-first.ensures ∙ c.in_default.is) (sym c.word_status-second.ensures ∙ c.in_default-second.is)
-    (sym c.is_restored.ensures ∙ c.if-is_restored.true)))
+    let size : length c.args.proposed.now ≡ word_length c.in_ok-code.code.shape = c.if-proposed-word_length.false ∙ c.word_length.ensures in
+    rw c.from.ensures ((status_word _ _ (sym c.test_word.ensures ∙ c.in_ok-test_word.was)).size, size)
 
 pub returns : goal.returns
 returns c =
-    let shape-passes : Lawful c.args.shape = sym c.is_lawful.ensures ∙ c.if-not-is_lawful.false in
-    let length-passes : length c.args.proposed.now ≡ word_length c.args.shape = c.if-proposed-word_length.false ∙ c.word_length.ensures in
-    both (checking_asked
-    (decides _ shape-passes _ _ length-passes (sym c.word_status-first.ensures ∙ c.in_default.is) (sym c.word_status-second.ensures ∙ c.in_default-second.is)
-    (sym c.is_restored.ensures ∙ c.if-is_restored.false)))
+    let law : Lawful c.args.shape = subst Lawful c.in_ok-code.ensures c.in_ok-code.code.lawful in
+    let size : length c.args.proposed.now ≡ word_length c.args.shape = c.if-proposed-word_length.false ∙ c.word_length.ensures ∙ ap word_length c.in_ok-code.ensures in
+    let first = ap (λ (s : Shape). word_status s c.args.received.now) (sym c.in_ok-code.ensures) ∙ sym c.test_word.ensures ∙ c.in_ok-test_word.was in
+    let second = ap (λ (s : Shape). word_status s c.args.proposed.now) (sym c.in_ok-code.ensures) ∙ sym c.test_word-2.ensures ∙ c.in_ok-test_word-2.was in
+    both (checking_asked (decides _ law _ _ size first second (sym (rw (c.from.ensures, c.in_ok-code.ensures) at c.is_restored.ensures))))

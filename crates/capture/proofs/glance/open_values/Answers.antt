@@ -15,20 +15,10 @@ use Rattle.capture.proofs.glance.open_values.Goals as goal
 pub returns-then-not-is_lawful : goal.returns-then-not-is_lawful
 returns-then-not-is_lawful c = λ line h. tells_refused (brings_shape _ h (sym c.is_lawful.ensures ∙ c.if-not-is_lawful.true) ∙ ap Bad (sym c.shape_refusal.ensures))
 
-pub word_length-requires : goal.word_length-requires
-word_length-requires c =
-    let legal : Lawful c.args.shape = sym c.is_lawful.ensures ∙ c.if-not-is_lawful.false in
-    legal
-
 pub returns-then-count-word_length : goal.returns-then-count-word_length
 returns-then-count-word_length c =
     let legal : Lawful c.args.shape = sym c.is_lawful.ensures ∙ c.if-not-is_lawful.false in
     λ line h. tells_refused (brings_length _ h legal (λ e. c.if-count-word_length.true (e ∙ sym c.word_length.ensures)))
-
-pub info_length-info-requires : goal.info_length-info-requires
-info_length-info-requires c =
-    let legal : Lawful c.args.shape = sym c.is_lawful.ensures ∙ c.if-not-is_lawful.false in
-    legal
 
 pub slice_bounds-open-end : goal.slice_bounds-open-end
 slice_bounds-open-end c =

@@ -1,7 +1,5 @@
 -- `capture::head::take_head` meets its contract, phase by phase.
-use mathlib.Core.Path.{ap}
-use Rattle.parity.proofs.Tests.{clash}
-use Rattle.capture.specs.Judge.{judged_of, is_words}
+use Rattle.capture.specs.Judge.{judged_of}
 use Rattle.capture.proofs.Judges.{kept_short}
 use Rattle.capture.proofs.head.take_head.Goals as goal
 
@@ -16,9 +14,6 @@ returns-in-ShapeValues c = rw (c.in-ShapeValues.is, kept_short _ c.requires.1) c
 pub returns-in-WordNames : goal.returns-in-WordNames
 unfolding judged_of
 returns-in-WordNames c = rw (c.in-WordNames.is, kept_short _ c.requires.1, ← c.is_word_names.ensures, ← c.fault_in-wrong-in-WordNames.ensures) c.take_names-in-WordNames.ensures
-
-pub returns-in-Words : goal.returns-in-Words
-returns-in-Words c = absurd (clash (ap is_words c.in-Words.is) c.requires.0)
 
 pub returns-in-Ended : goal.returns-in-Ended
 unfolding judged_of

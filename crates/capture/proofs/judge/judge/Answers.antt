@@ -4,20 +4,11 @@ use Rattle.session.proofs.Opens.{lent_marks}
 use Rattle.capture.proofs.judge.judge.Goals as goal
 
 pub slice_bounds-take_page-end : goal.slice_bounds-take_page-end
-slice_bounds-take_page-end c = (c.requires.2.page _ _ _ c.in-New.is).room
+slice_bounds-take_page-end c = (c.requires.2.page _ c.in-New.is).room
 
 pub take_page-requires : goal.take_page-requires
-take_page-requires c = let page = c.requires.2.page _ _ _ c.in-New.is in
+take_page-requires c = let page = c.requires.2.page _ c.in-New.is in
     (c.requires.0, page.low, lent_marks page)
-
-pub take_head-requires : goal.take_head-requires
-take_head-requires c = (c.requires.2.head c.in-Head.is, c.requires.1)
-
-pub returns-in-Known : goal.returns-in-Known
-returns-in-Known c = rw c.in-Known.is
 
 pub returns-in-New : goal.returns-in-New
 returns-in-New c = rw (c.in-New.is, ← marks_part _ c.args.symbols.now) c.take_page.ensures
-
-pub returns-in-Head : goal.returns-in-Head
-returns-in-Head c = rw c.in-Head.is c.take_head.ensures

@@ -13,5 +13,5 @@ returns-in-Again c = rw c.in-Again.is (put_line_lem c.requires c.put_outcome-in-
 
 pub returns-in-Refused : goal.returns-in-Refused
 unfolding outcome_line
-returns-in-Refused c = rw (c.in-Refused.is, ← c.refusal.ensures)
+returns-in-Refused c = rw (c.in-Refused.is, ← c.from.ensures)
     (put_line_lem c.requires c.put_outcome-in-Refused.ensures)

@@ -14,19 +14,19 @@ use Rattle.decoder.proofs.error.error_of.Goals as goal
 pub loop-t-init : goal.loop-t-init
 loop-t-init c = (search rules, below_none _)
 
-pub offset_bounds-syn-number_by : goal.offset_bounds-syn-number_by
-offset_bounds-syn-number_by c =
-    let inside : c.number_by.result < 248 = rw c.number_by.ensures (check_fits c.args.shape c.requires.0 c.loop-t.t c.args.j c.loop-t-test.true c.requires.2) in
+pub offset_bounds-syn-number : goal.offset_bounds-syn-number
+offset_bounds-syn-number c =
+    let inside : c.number.result < 248 = rw c.number.ensures (check_fits c.args.checks.shape c.args.checks.lawful c.loop-t.t c.args.j c.loop-t-test.true c.requires.0) in
     omega (arith, inside)
 
-pub bounds-syn-number_by : goal.bounds-syn-number_by
-bounds-syn-number_by c =
-    let inside : c.number_by.result < 248 = rw c.number_by.ensures (check_fits c.args.shape c.requires.0 c.loop-t.t c.args.j c.loop-t-test.true c.requires.2) in
+pub bounds-syn-number : goal.bounds-syn-number
+bounds-syn-number c =
+    let inside : c.number.result < 248 = rw c.number.ensures (check_fits c.args.checks.shape c.args.checks.lawful c.loop-t.t c.args.j c.loop-t-test.true c.requires.0) in
     inside
 
 pub returns-then-is_alone : goal.returns-then-is_alone
 unfolding error_among
-returns-then-is_alone c = ap (at c.args.syn.now) c.number_by.ensures
+returns-then-is_alone c = ap (at c.args.syn.now) c.number.ensures
     ∙ sym
     (first_at _ _ _ c.loop-t.t c.loop-t-test.true c.loop-t.invariant.1 (sym c.is_alone.ensures ∙ c.if-is_alone.true))
 

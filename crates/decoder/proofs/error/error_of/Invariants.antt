@@ -6,4 +6,4 @@ use Rattle.decoder.specs.Steps.{alone_among_places}
 use Rattle.decoder.proofs.error.error_of.Given as goal
 
 abbrev pub invariant-loop-t : goal.invariant-loop-t
-invariant-loop-t l = (l.t ≤ l.n) × ((u : ℕ) → u < l.t → alone_among_places l.shape l.places l.count l.j u ≡ false)
+invariant-loop-t l = (l.t ≤ l.n) × ((u : ℕ) → u < l.t → alone_among_places l.checks.shape l.places l.count l.j u ≡ false)

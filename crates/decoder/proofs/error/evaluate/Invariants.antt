@@ -6,4 +6,4 @@ use Rattle.decoder.specs.Steps.{error_among}
 use Rattle.decoder.proofs.error.evaluate.Given as goal
 
 abbrev pub invariant-loop-x : goal.invariant-loop-x
-invariant-loop-x l = (l.x ≤ l.count) × Begins 8 l.x (λ y. error_among l.shape l.syn l.places l.count (at l.places y)) l.errors
+invariant-loop-x l = (l.x ≤ l.count) × Begins 8 l.x (λ y. error_among l.checks.shape l.syn l.places l.count (at l.places y)) l.errors

@@ -14,17 +14,17 @@ loop-x-init c = (search rules, any_zero _)
 
 pub offset_bounds-places-x : goal.offset_bounds-places-x
 offset_bounds-places-x c =
-    let inside : c.loop-x.x < 8 = omega (arith, c.requires.4.few) in
+    let inside : c.loop-x.x < 8 = omega (arith, c.requires.2.few) in
     omega (arith, inside)
 
 pub bounds-places-x : goal.bounds-places-x
 bounds-places-x c =
-    let inside : c.loop-x.x < 8 = omega (arith, c.requires.4.few) in
+    let inside : c.loop-x.x < 8 = omega (arith, c.requires.2.few) in
     inside
 
 pub shares_check-requires : goal.shares_check-requires
-shares_check-requires c = let p = c.requires in
-    (p.0, p.1, p.2, p.3, p.4.below c.loop-x.x c.loop-x-test.true)
+shares_check-requires c =
+    (c.requires.0, c.requires.1, c.requires.2.below c.loop-x.x c.loop-x-test.true)
 
 pub returns-then-shares_check : goal.returns-then-shares_check
 unfolding alone_among_places

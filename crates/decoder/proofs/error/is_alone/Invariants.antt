@@ -8,4 +8,4 @@ use Rattle.decoder.specs.Steps.{shares}
 use Rattle.decoder.proofs.error.is_alone.Given as goal
 
 abbrev pub invariant-loop-x : goal.invariant-loop-x
-invariant-loop-x l = (l.x ≤ l.count) × (any l.x (λ y. shares l.shape l.t l.j (at l.places y)) ≡ false)
+invariant-loop-x l = (l.x ≤ l.count) × (any l.x (λ y. shares l.checks.shape l.t l.j (at l.places y)) ≡ false)

@@ -7,4 +7,4 @@ pub returns-then-i-j : goal.returns-then-i-j
 returns-then-i-j c = sym (shares_self _ _ _ _ c.if-i-j.true)
 
 pub returns : goal.returns
-returns c = shares_check_lem _ _ _ _ c.if-i-j.false c.number_by.ensures c.number_by-2.ensures
+returns c = shares_check_lem _ _ _ _ c.if-i-j.false c.number.ensures c.number-2.ensures

@@ -10,19 +10,20 @@ use Rattle.correction.proofs.Listing.{listed_none, scanned_few, scanned_many}
 use Rattle.decoder.proofs.locate.locate.Goals as goal
 
 pub loop-row-init : goal.loop-row-init
-loop-row-init c = (search rules, omega (arith, (bounds c.args.shape c.requires.0).n2), rw (zero-mul c.args.shape.q) (listed_none _ _ c.requires.2))
+loop-row-init c = (search rules, omega (arith, (bounds c.args.checks.shape c.args.checks.lawful).n2), rw (zero-mul c.args.checks.shape.q) (listed_none _ _ c.requires))
 
-pub scan_row-found-requires : goal.scan_row-found-requires
-scan_row-found-requires c = let i = c.loop-row.invariant in
-    (c.requires.0, c.requires.1, c.loop-row-test.true, i.1, i.2)
+pub scan_row-requires : goal.scan_row-requires
+scan_row-requires c = let i = c.loop-row.invariant in
+    (c.loop-row-test.true, i.1, i.2)
 
-pub returns-then-n-found : goal.returns-then-n-found
-returns-then-n-found c = let s = c.args.shape in
+pub returns-in_err-found : goal.returns-in_err-found
+returns-in_err-found c = let s = c.args.checks.shape in
     let row = c.loop-row.row in
-    scanned_many (row * s.q + s.q) (row_in row s.q c.loop-row-test.true) (c.scan_row-found.ensures.0.many c.if-n-found.true)
+    rw c.from_residual.ensures (scanned_many (row * s.q + s.q) (row_in row s.q c.loop-row-test.true) (c.scan_row.ensures.0.many c.in_err-found.was))
 
 pub loop-row-preserved : goal.loop-row-preserved
-loop-row-preserved c = (search rules, c.if-n-found.false, rw next_row (c.scan_row-found.ensures.0.few c.if-n-found.false))
+loop-row-preserved c = let (few, listed) = c.scan_row.ensures.0.few _ c.in_ok-found.was in
+    (search rules, few, rw next_row listed)
 
 pub returns : goal.returns
 returns c = scanned_few c.loop-row.invariant.1 (rw (le_antisymm c.loop-row.invariant.0 c.loop-row-test.false) at c.loop-row.invariant.2)

@@ -5,4 +5,4 @@ use Rattle.decoder.specs.Steps.{judged}
 use Rattle.decoder.proofs.locate.locate.Given as goal
 
 abbrev pub invariant-loop-row : goal.invariant-loop-row
-invariant-loop-row l = (l.row ≤ l.q) × (l.found < l.n) × Listed (judged l.shape l.syn) (l.row * l.q) l.found l.places
+invariant-loop-row l = (l.row ≤ l.q) × (l.found < l.checks.shape.n) × Listed (judged l.checks.shape l.syn) (l.row * l.q) l.found l.places

@@ -5,4 +5,4 @@ use Rattle.decoder.specs.Steps.{judged}
 use Rattle.decoder.proofs.locate.scan_row.Given as goal
 
 abbrev pub invariant-loop-c : goal.invariant-loop-c
-invariant-loop-c l = (l.c ≤ l.q) × (l.found < l.n) × Listed (judged l.shape l.syn) (l.row * l.q + l.c) l.found l.places
+invariant-loop-c l = (l.c ≤ l.q) × (l.found < l.n) × Listed (judged l.checks.shape l.syn) (l.row * l.q + l.c) l.found l.places

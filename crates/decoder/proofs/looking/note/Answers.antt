@@ -1,12 +1,16 @@
--- `decoder::looking::note` meets its contract: it is the list, with the table or without.
-use mathlib.Core.Path.{sym, ◌∙◌}
+-- `decoder::looking::note` meets its contract. The loop's invariant: the list is right in the rows passed.
+use native.Mathlib.Nat.{zero-mul, le_antisymm}
 use borrow.Author.Rules.{rules}
-use Rattle.correction.proofs.Tabulated.{tabled, untabled}
+use Rattle.correction.proofs.Rows.{next_row}
+use Rattle.parity.proofs.Writes.{begins_none}
+use Rattle.decoder.proofs.Looks.{noted_all}
 use Rattle.decoder.proofs.looking.note.Goals as goal
 
-pub note_by-requires : goal.note_by-requires
-note_by-requires c = let p = c.requires in
-    (p.0, tabled _ (sym c.is_shipped.ensures ∙ c.if-is_shipped.true) _ c.check_numbers-table.ensures, p.1, p.2)
+pub loop-row-init : goal.loop-row-init
+loop-row-init c = (search rules, rw (zero-mul c.args.checks.shape.q) (begins_none c.requires.1))
 
-pub note_by-requires-2 : goal.note_by-requires-2
-note_by-requires-2 c = search (rules, untabled)
+pub loop-row-preserved : goal.loop-row-preserved
+loop-row-preserved c = (search rules, rw next_row c.note_row.ensures)
+
+pub returns : goal.returns
+returns c = noted_all c.args.checks.lawful c.syndromes-syn.ensures (rw (le_antisymm c.loop-row.invariant.0 c.loop-row-test.false) at c.loop-row.invariant.1)

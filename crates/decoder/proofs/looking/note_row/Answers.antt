@@ -13,47 +13,47 @@ use Rattle.decoder.proofs.looking.note_row.Goals as goal
 
 pub offset_bounds-syn-row : goal.offset_bounds-syn-row
 offset_bounds-syn-row c =
-    let inside : c.args.row < 248 = omega (arith, (bounds c.args.shape c.requires.0).q31) in
+    let inside : c.args.row < 248 = omega (arith, (bounds c.args.checks.shape c.args.checks.lawful).q31) in
     omega (arith, inside)
 
 pub bounds-syn-row : goal.bounds-syn-row
 bounds-syn-row c =
-    let inside : c.args.row < 248 = omega (arith, (bounds c.args.shape c.requires.0).q31) in
+    let inside : c.args.row < 248 = omega (arith, (bounds c.args.checks.shape c.args.checks.lawful).q31) in
     inside
 
 pub loop-c-init : goal.loop-c-init
-loop-c-init c = (search rules, rw (add-zero (c.args.row * c.args.shape.q)) c.requires.3)
+loop-c-init c = (search rules, rw (add-zero (c.args.row * c.args.checks.shape.q)) c.requires.1)
 
 pub judge-judged-requires : goal.judge-judged-requires
-judge-judged-requires c = (c.requires.0, c.requires.1, c.shifts_by.ensures, refl, c.requires.2, c.loop-c-test.true)
+judge-judged-requires c = rw (c.of-in_row.ensures.0, c.of-in_row.ensures.1) (refl, c.loop-c-test.true)
 
 pub overflow_mul-looked : goal.overflow_mul-looked
 overflow_mul-looked c =
-    let place : c.args.row * c.args.shape.q + c.loop-c.c < word_length c.args.shape = in_word c.args.shape c.requires.2 c.loop-c-test.true in
-    let small : c.args.row * c.args.shape.q + c.loop-c.c < 961 = lt_of_lt_of_le place (square_le c.args.shape.q (bounds c.args.shape c.requires.0).q31) in
+    let place : c.args.row * c.args.checks.shape.q + c.loop-c.c < word_length c.args.checks.shape = in_word c.args.checks.shape c.requires.0 c.loop-c-test.true in
+    let small : c.args.row * c.args.checks.shape.q + c.loop-c.c < 961 = lt_of_lt_of_le place (square_le c.args.checks.shape.q (bounds c.args.checks.shape c.args.checks.lawful).q31) in
     omega (arith, small)
 
 pub overflow_add-looked : goal.overflow_add-looked
 overflow_add-looked c =
-    let place : c.args.row * c.args.shape.q + c.loop-c.c < word_length c.args.shape = in_word c.args.shape c.requires.2 c.loop-c-test.true in
-    let small : c.args.row * c.args.shape.q + c.loop-c.c < 961 = lt_of_lt_of_le place (square_le c.args.shape.q (bounds c.args.shape c.requires.0).q31) in
+    let place : c.args.row * c.args.checks.shape.q + c.loop-c.c < word_length c.args.checks.shape = in_word c.args.checks.shape c.requires.0 c.loop-c-test.true in
+    let small : c.args.row * c.args.checks.shape.q + c.loop-c.c < 961 = lt_of_lt_of_le place (square_le c.args.checks.shape.q (bounds c.args.checks.shape c.args.checks.lawful).q31) in
     omega (arith, small)
 
 pub offset_bounds-looked-row : goal.offset_bounds-looked-row
 offset_bounds-looked-row c =
-    let place : c.args.row * c.args.shape.q + c.loop-c.c < word_length c.args.shape = in_word c.args.shape c.requires.2 c.loop-c-test.true in
-    let small : c.args.row * c.args.shape.q + c.loop-c.c < 961 = lt_of_lt_of_le place (square_le c.args.shape.q (bounds c.args.shape c.requires.0).q31) in
+    let place : c.args.row * c.args.checks.shape.q + c.loop-c.c < word_length c.args.checks.shape = in_word c.args.checks.shape c.requires.0 c.loop-c-test.true in
+    let small : c.args.row * c.args.checks.shape.q + c.loop-c.c < 961 = lt_of_lt_of_le place (square_le c.args.checks.shape.q (bounds c.args.checks.shape c.args.checks.lawful).q31) in
     omega (arith, small)
 
 pub bounds-looked-row : goal.bounds-looked-row
 bounds-looked-row c =
-    let place : c.args.row * c.args.shape.q + c.loop-c.c < word_length c.args.shape = in_word c.args.shape c.requires.2 c.loop-c-test.true in
+    let place : c.args.row * c.args.checks.shape.q + c.loop-c.c < word_length c.args.checks.shape = in_word c.args.checks.shape c.requires.0 c.loop-c-test.true in
     rw c.loop-c.invariant.1.size place
 
 pub loop-c-preserved : goal.loop-c-preserved
 loop-c-preserved c =
-    let place : c.args.row * c.args.shape.q + c.loop-c.c < word_length c.args.shape = in_word c.args.shape c.requires.2 c.loop-c-test.true in
-    (search rules, rw (← add_assoc) (begins_more _ place c.judge-judged.ensures.looked c.loop-c.invariant.1))
+    let place : c.args.row * c.args.checks.shape.q + c.loop-c.c < word_length c.args.checks.shape = in_word c.args.checks.shape c.requires.0 c.loop-c-test.true in
+    (search rules, rw (← add_assoc) (begins_more _ place (rw (c.of-in_row.ensures.0, c.of-in_row.ensures.1) at c.judge-judged.ensures.looked) c.loop-c.invariant.1))
 
 pub returns : goal.returns
 returns c = rw (le_antisymm c.loop-c.invariant.0 c.loop-c-test.false) at c.loop-c.invariant.1

@@ -6,4 +6,4 @@ use Rattle.decoder.specs.Steps.{looked_in}
 use Rattle.decoder.proofs.looking.note_row.Given as goal
 
 abbrev pub invariant-loop-c : goal.invariant-loop-c
-invariant-loop-c l = (l.c ≤ l.q) × Begins (word_length l.shape) (l.row * l.q + l.c) (looked_in l.shape l.syn) l.looked
+invariant-loop-c l = (l.c ≤ l.q) × Begins (word_length l.checks.shape) (l.row * l.q + l.c) (looked_in l.checks.shape l.syn) l.looked

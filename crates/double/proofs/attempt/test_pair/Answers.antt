@@ -1,10 +1,13 @@
 -- `double::attempt::test_pair` meets its contract.
-use mathlib.Core.List.{[]}
-use Rattle.double.proofs.Trials.{pair_within, pair_tried}
+use mathlib.Core.Path.{refl, sym, ◌∙◌}
+use Rattle.double.proofs.Trials.{places, errors, pair_tried}
 use Rattle.double.proofs.attempt.test_pair.Goals as goal
 
-pub cancel_by-requires : goal.cancel_by-requires
-cancel_by-requires c = let p = c.requires in (p.0, p.1, p.2, pair_within _ _ [] p.3 p.4)
+pub returns-then-is_silent : goal.returns-then-is_silent
+returns-then-is_silent c = (
+  refl,
+  λ w y. pair_tried c.args.checks.shape (places c.args.pair) (errors c.args.pair) c.requires.0 c.requires.1 c.args.checks.lawful c.cancel.ensures y ∙ sym c.is_silent.ensures ∙ c.if-is_silent.true,
+)
 
 pub returns : goal.returns
-returns c = let p = c.requires in pair_tried _ _ _ p.3 p.4 p.0 c.cancel_by.ensures c.is_silent-works.ensures
+returns c = λ w y. pair_tried c.args.checks.shape (places c.args.pair) (errors c.args.pair) c.requires.0 c.requires.1 c.args.checks.lawful c.cancel.ensures y ∙ sym c.is_silent.ensures ∙ c.if-is_silent.false

@@ -6,4 +6,4 @@ use Rattle.correction.specs.Guesses.{OnRow}
 use Rattle.double.proofs.lines.cross.Given as goal
 
 abbrev pub invariant-loop-row : goal.invariant-loop-row
-invariant-loop-row l = (l.row ≤ l.q) × ((r : ℕ) → r < l.row → (i : ℕ) → OnRow l.shape l.u r l.b i → line_of l.shape l.t i ≡ l.a → ⊥)
+invariant-loop-row l = (l.row ≤ l.q) × ((r : ℕ) → r < l.row → (i : ℕ) → OnRow l.checks.shape l.u r l.b i → line_of l.checks.shape l.t i ≡ l.a → ⊥)

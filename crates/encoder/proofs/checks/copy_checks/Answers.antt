@@ -6,13 +6,10 @@ use Rattle.encoder.proofs.Upper.{raised_copied}
 use Rattle.encoder.proofs.checks.copy_checks.Goals as goal
 
 pub overflow_sub-m : goal.overflow_sub-m
-overflow_sub-m c = let b = bounds _ c.requires.0 in omega arith
-
-pub overflow_mul-m : goal.overflow_mul-m
-overflow_mul-m c = let f = upper_fits _ c.requires.0 in omega arith
+overflow_sub-m c = let b = bounds _ c.args.code.lawful in omega arith
 
 pub copy_run-requires : goal.copy_run-requires
-copy_run-requires c = let f = upper_fits _ c.requires.0 in omega (arith, c.fill.ensures.size)
+copy_run-requires c = let f = upper_fits _ c.args.code.lawful in omega (arith, c.fill.ensures.size)
 
 pub returns : goal.returns
-returns c = raised_copied _ c.requires.0 _ _ _ c.fill.ensures c.copy_run.ensures
+returns c = raised_copied _ c.args.code.lawful _ _ _ c.fill.ensures c.copy_run.ensures

@@ -6,4 +6,4 @@ use Rattle.parity.specs.Lists.{Written}
 use Rattle.encoder.proofs.checks.stack_by.Given as goal
 
 abbrev pub invariant-loop-r : goal.invariant-loop-r
-invariant-loop-r l = (1 ≤ l.r) × (l.r ≤ l.q) × Written 0 l.q (λ c. xor_sum l.r (λ k. at l.initial.word (k * l.q + c))) l.initial.word l.word
+invariant-loop-r g l = (1 ≤ l.r) × (l.r ≤ g.row.Q) × Written 0 g.row.Q (λ c. xor_sum l.r (λ k. at l.initial.word (k * g.row.Q + c))) l.initial.word l.word

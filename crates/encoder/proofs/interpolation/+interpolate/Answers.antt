@@ -1,10 +1,6 @@
 -- The proof of the cycle of calls {interpolate}.
-use native.Mathlib.Omega.{arith}
-use Rattle.encoder.proofs.Newtons.{interpolated_last, ready_next, interpolated_more}
+use Rattle.encoder.proofs.Newtons.{interpolated_last, interpolated_more}
 use Rattle.encoder.proofs.interpolation.+interpolate.Goals as goal
-
-pub interpolate-requires : goal.interpolate-requires
-interpolate-requires t c = (omega arith, ready_next _ _ _ _ c.requires c.if-k-n.true c.divide.ensures)
 
 pub returns-then-k-n : goal.returns-then-k-n
 returns-then-k-n t c = interpolated_more _ _ _ _ c.requires c.if-k-n.true c.divide.ensures _ _ c.interpolate.ensures c.join.ensures

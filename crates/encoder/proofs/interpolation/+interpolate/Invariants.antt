@@ -3,4 +3,4 @@ use Prim.Native.Nat.{◌-◌}
 use Rattle.encoder.proofs.interpolation.+interpolate.Given as goal
 
 abbrev pub decreases-interpolate : goal.decreases-interpolate
-decreases-interpolate l = l.shape.n - l.k
+decreases-interpolate l = l.code.shape.n - l.k

@@ -10,13 +10,13 @@ use Rattle.gtb.specs.Rows.{shift_of}
 use Rattle.encoder.proofs.interpolation.shift.Goals as goal
 
 pub slope-requires : goal.slope-requires
-slope-requires c = omega (arith, (bounds _ c.requires.0).n8, c.requires.1)
+slope-requires c = omega (arith, (bounds _ c.args.code.lawful).n8, c.requires)
 
 pub overflow_sub-result : goal.overflow_sub-result
 overflow_sub-result c = let a = c.args in
-    omega (arith, c.slope.ensures, slope_lt a.shape c.requires.0 (a.t + 1) (omega arith) (omega arith))
+    omega (arith, c.slope.ensures, slope_lt a.code.shape c.args.code.lawful (a.t + 1) (omega arith) (omega arith))
 
 pub returns : goal.returns
 unfolding shift_of
 returns c = let a = c.args in
-    ap (λ (x : ℕ). a.shape.q - x) (c.slope.ensures ∙ ap (slope_of a.shape) (add-one a.t))
+    ap (λ (x : ℕ). a.code.shape.q - x) (c.slope.ensures ∙ ap (slope_of a.code.shape) (add-one a.t))

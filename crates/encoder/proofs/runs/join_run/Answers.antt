@@ -2,20 +2,13 @@
 use mathlib.Core.Path.{◌≡◌, ap₂}
 use Prim.Native.Nat.{ℕ, ◌+◌, ◌≤◌}
 use native.Mathlib.Omega.{arith}
-use borrow.Author.Rules.{rules}
 use Rattle.parity.specs.Xor.{◌⊕◌}
 use Rattle.gtb.specs.Square.{at}
-use Rattle.parity.proofs.Writes.{written_none, written_more, written_end}
+use Rattle.parity.proofs.Writes.{written_more}
 use Rattle.encoder.proofs.runs.join_run.Goals as goal
-
-pub loop-c-init : goal.loop-c-init
-loop-c-init c = (search rules, written_none _ _ _)
 
 pub loop-c-preserved : goal.loop-c-preserved
 unfolding ◌⊕◌
 loop-c-preserved c = let a = c.args in
     let kept : (j : ℕ) → a.a + c.loop-c.c ≤ j → at c.loop-c.word j ≡ at a.word.now j = c.loop-c.invariant.1.above in
     (omega arith, written_more _ _ _ _ _ _ (omega arith) (ap₂ (λ (x y : ℕ). x ⊕ y) (kept (a.a + c.loop-c.c) (omega arith)) (kept (a.from + c.loop-c.c) (omega arith))) c.loop-c.invariant.1)
-
-pub returns : goal.returns
-returns c = written_end c.loop-c.invariant.1 (omega arith)

@@ -1,5 +1,5 @@
 -- `energy::number::billed` meets its contract.
 use Rattle.energy.proofs.number.billed.Goals as goal
 
-pub returns-in-Refused : goal.returns-in-Refused
-returns-in-Refused c = rw (c.in-Refused.is, c.refusal.ensures)
+pub returns-in-Err : goal.returns-in-Err
+returns-in-Err c = rw (c.in-Err.is, c.from.ensures)

@@ -1,9 +1,10 @@
--- `erasure::list::apply` meets its contract, which with k for the length is the loop's invariant.
+-- `erasure::list::apply` meets its contract. The loop's invariant: the first k changes are XORed on.
 use mathlib.Core.Path.{◌≡◌}
 use Prim.Native.Nat.{◌≤◌}
 use lib.ListN.{length}
-use Rattle.erasure.specs.Steps.{Applied}
+use Rattle.gtb.specs.Square.{at}
+use Rattle.correction.specs.Steps.{Toggled}
 use Rattle.erasure.proofs.list.apply.Given as goal
 
 abbrev pub invariant-loop-k : goal.invariant-loop-k
-invariant-loop-k l = (l.k-end ≡ length l.places) × (l.k ≤ length l.places) × Applied l.places l.changes l.k l.initial.word l.word l.changed
+invariant-loop-k l = (l.k-end ≡ length l.places) × (l.k ≤ length l.places) × Toggled l.k (at l.places) (at l.changes) l.initial.word l.word

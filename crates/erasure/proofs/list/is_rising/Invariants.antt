@@ -7,5 +7,6 @@ use Rattle.parity.specs.Count.{all}
 use Rattle.erasure.specs.Steps.{fits, Above}
 use Rattle.erasure.proofs.list.is_rising.Given as goal
 
-abbrev pub invariant-loop-i : goal.invariant-loop-i
-invariant-loop-i l = (l.i-end ≡ length l.places) × (l.i ≤ length l.places) × (all l.i (fits l.size l.places) ≡ true) × Above l.places l.i l.next
+abbrev pub invariant-loop-place : goal.invariant-loop-place
+invariant-loop-place l = (l.place-index-end ≡ length l.places) × (l.place-index ≤ length l.places)
+    × (all l.place-index (fits l.size l.places) ≡ true) × Above l.places l.place-index l.next

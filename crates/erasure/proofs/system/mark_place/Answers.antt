@@ -5,18 +5,11 @@ use borrow.Author.Rules.{rules}
 use Rattle.erasure.proofs.system.mark_place.Goals as goal
 
 pub loop-t-init : goal.loop-t-init
-loop-t-init c = let a = c.args in (search rules, directions_none a.shape a.k a.j _)
-
-pub mark_check-requires : goal.mark_check-requires
-mark_check-requires c = let p = c.requires in
-    (p.0, p.1, c.loop-t-test.true, p.2, p.3, rw c.loop-t.invariant.1.size p.4)
+loop-t-init c = let a = c.args in (search rules, directions_none a.checks.shape a.k a.j _)
 
 pub loop-t-preserved : goal.loop-t-preserved
 loop-t-preserved c = let a = c.args in
-    (search rules, directions_more a.shape a.k a.j c.loop-t.t c.loop-t.invariant.1 c.mark_check.ensures)
-
-pub shape_of-scratch : goal.shape_of-scratch
-shape_of-scratch c = c.loop-t.invariant.1.size
+    (search rules, directions_more a.checks.shape a.k a.j c.loop-t.t c.loop-t.invariant.1 c.mark_check.ensures)
 
 pub returns : goal.returns
-returns c = directions_all c.args.shape c.args.k c.args.j c.requires.0 (rw (le_antisymm c.loop-t.invariant.0 c.loop-t-test.false) at c.loop-t.invariant.1)
+returns c = directions_all c.args.checks.shape c.args.k c.args.j c.args.checks.lawful (rw (le_antisymm c.loop-t.invariant.0 c.loop-t-test.false) at c.loop-t.invariant.1)

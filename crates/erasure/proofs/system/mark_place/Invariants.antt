@@ -6,4 +6,4 @@ use Rattle.erasure.proofs.Systems.{up_to}
 use Rattle.erasure.proofs.system.mark_place.Given as goal
 
 abbrev pub invariant-loop-t : goal.invariant-loop-t
-invariant-loop-t l = (l.t ≤ l.n) × Flipped l.width (kept_checks l.shape) (up_to l.shape l.k l.j l.t) l.initial.scratch l.scratch
+invariant-loop-t l = (l.t ≤ l.n) × Flipped l.width (kept_checks l.checks.shape) (up_to l.checks.shape l.k l.j l.t) l.initial.scratch l.scratch

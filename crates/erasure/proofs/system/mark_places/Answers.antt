@@ -1,12 +1,11 @@
--- `erasure::system::mark_places` meets its contract: the columns are set with the table or without.
-use mathlib.Core.Path.{sym, ◌∙◌}
+-- `erasure::system::mark_places` meets its contract. The loop's invariant: the kept checks on the places passed have their columns.
+use Rattle.erasure.proofs.Systems.{places_none, places_more}
 use borrow.Author.Rules.{rules}
-use Rattle.correction.proofs.Tabulated.{tabled, untabled}
 use Rattle.erasure.proofs.system.mark_places.Goals as goal
 
-pub mark_places_by-requires : goal.mark_places_by-requires
-mark_places_by-requires c = let p = c.requires in
-    (p.0, tabled _ (sym c.is_shipped.ensures ∙ c.if-is_shipped.true) _ c.check_numbers-table.ensures, p.1, p.2)
+pub loop-k-init : goal.loop-k-init
+loop-k-init c = let a = c.args in (search rules, search rules, places_none a.checks.shape a.places.now _)
 
-pub mark_places_by-requires-2 : goal.mark_places_by-requires-2
-mark_places_by-requires-2 c = search (rules, untabled)
+pub loop-k-preserved : goal.loop-k-preserved
+loop-k-preserved c = let a = c.args in
+    (search rules, search rules, places_more a.checks.shape a.places.now c.loop-k.k c.loop-k.invariant.2 c.mark_place.ensures)

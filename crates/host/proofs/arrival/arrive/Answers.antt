@@ -19,13 +19,13 @@ slice_bounds-load_shape-end-2 c = sym (length-take-le 10 c.args.session.now (ome
 pub load_shape-shape-requires : goal.load_shape-shape-requires
 load_shape-shape-requires c = length-take-le 10 c.args.session.now (omega (arith, c.requires))
 
-pub returns-in-Refused : goal.returns-in-Refused
+pub returns-in-Err : goal.returns-in-Err
 unfolding consistent session_of
-returns-in-Refused c =
+returns-in-Err c =
     let same : (session_of c.args.session.now).shape ≡ c.load_shape-shape.result = sym c.load_shape-shape.ensures in
     let agrees : c.agree-agree.result ≡ consistent (session_of c.args.session.now) = c.agree-agree.ensures in
     let s = c.args in
-    at_kept refl (tests_refused (session_of s.session.now) same agrees s.way s.word.now s.scratch.now (sym c.word_status.ensures ∙ c.in-Refused.is) (refl, refl))
+    at_kept refl (tests_refused (session_of s.session.now) same agrees s.way s.word.now s.scratch.now (sym c.word_status.ensures ∙ c.in-Err.is) (refl, refl))
 
 pub take_word-outcome-requires : goal.take_word-outcome-requires
 unfolding consistent session_of
@@ -45,4 +45,4 @@ returns c =
     let passed : let s = c.args in let σ = session_of s.session.now in Consistent σ × Openable σ.shape s.way s.word.now × (length s.scratch.now ≡ scratch_length σ.shape) = let s = c.args in
     tests_passed (session_of s.session.now) same agrees s.way s.word.now s.scratch.now (sym c.word_status.ensures ∙ c.in_default.is) in
     let (right, fits, room) = passed in
-    at_other c.take_word-outcome.ensures (λ a decides _. decides_arrives _ c.args.scratch.now right fits room (c.clear.ensures ∙ ap (λ (k : ℕ). replicate k 0) c.take_word-outcome.auto.scratch) decides)
+    at_other c.take_word-outcome.ensures (λ a decides _. decides_arrives _ c.args.scratch.now right fits room (c.fill.ensures.after (λ y h. h) ∙ ap (λ (k : ℕ). replicate k 0) c.take_word-outcome.auto.scratch) decides)

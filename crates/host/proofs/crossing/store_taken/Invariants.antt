@@ -7,4 +7,4 @@ use Rattle.parity.specs.Count.{bit}
 use Rattle.host.proofs.crossing.store_taken.Given as goal
 
 abbrev pub invariant-loop-i : goal.invariant-loop-i
-invariant-loop-i l = (l.i ≤ 1024) × (length l.values ≡ 1024) × (take l.i l.values ++ map bit (drop l.i l.taken) ≡ map bit l.taken)
+invariant-loop-i l = (l.i ≤ 1024) × (length l.values ≡ 1024) × (take l.i l.values ++ map bit (drop l.i l.mark-items) ≡ map bit l.mark-items)

@@ -1,34 +1,38 @@
--- `host::figures::unmarked_in` meets its contract: after the turns up to i the marks before i that are no have been counted.
-use mathlib.Core.Path.{◌≡◌, ap, ◌∙◌}
-use Prim.Native.Nat.{ℕ, ◌+◌, ◌-◌}
+-- `host::figures::unmarked_in` meets its contract: of the marks so far each is no, and counted, or yes.
+use mathlib.Core.Path.{◌≡◌, refl, ap}
+use mathlib.Core.Bool.{Bool, true, false, not}
+use mathlib.Core.List.{map}
+use Prim.Native.Nat.{ℕ, ◌+◌}
 use native.Mathlib.Omega.{arith}
 use lib.Dec.{eqb}
-use lib.ListN.{get_or}
-use Rattle.parity.proofs.Sums.{bit_le, count_bound}
-use Rattle.session.proofs.Progress.{none_counted, counted_more, bit_byte}
+use lib.ListN.{length, get_or, get_or-map, length-map}
+use mir.Val.{bool_byte}
+use Rattle.parity.specs.Count.{bit, count}
+use Rattle.parity.proofs.Sums.{count_zero, count_more}
+use Rattle.session.specs.Session.{marked}
+use Rattle.host.specs.Crossing.{is_yes}
 use Rattle.host.proofs.figures.unmarked_in.Goals as goal
 
-pub loop-i-init : goal.loop-i-init
-loop-i-init c = (omega arith, c.requires.0, none_counted (λ k. eqb (get_or c.args.marks.now k 0) 0) c.args.from)
+-- a mark is no or yes
+one : (no : Bool) → bool_byte no + bit (not no) ≡ 1
+unfolding bit
+one true = refl
+one false = refl
 
-pub offset_bounds-marks-i : goal.offset_bounds-marks-i
-offset_bounds-marks-i c = omega (arith, c.loop-i-test.true, c.requires.1)
-
-pub bounds-marks-i : goal.bounds-marks-i
-bounds-marks-i c = omega (arith, c.loop-i-test.true, c.requires.1, c.requires.2)
+pub loop-mark-init : goal.loop-mark-init
+loop-mark-init c = omega (arith, count_zero (marked (map is_yes c.args.marks.now)))
 
 pub overflow_add-unmarked : goal.overflow_add-unmarked
-overflow_add-unmarked c = let no : ℕ → _ = λ k. eqb (get_or c.args.marks.now k 0) 0 in
-    let from = c.args.from in
-    omega (arith, c.loop-i.invariant.2, c.loop-i-test.true, c.requires.1, count_bound (c.loop-i.i - from) (λ k. no (from + k)), bit_byte (no c.loop-i.i), bit_le (no c.loop-i.i))
+overflow_add-unmarked c = omega (arith, c.loop-mark.invariant, one (eqb (get_or c.args.marks.now c.loop-mark.mark-index 0) 0))
 
-pub loop-i-preserved : goal.loop-i-preserved
-loop-i-preserved c = (
-  omega (arith, c.loop-i.invariant.0),
-  omega (arith, c.loop-i-test.true),
-  ap (λ (x : ℕ). c.loop-i.unmarked + x) (bit_byte _) ∙ counted_more (λ k. eqb (get_or c.args.marks.now k 0) 0) c.args.from c.loop-i.i c.loop-i.invariant.0 c.loop-i.invariant.2,
-)
+pub loop-mark-preserved : goal.loop-mark-preserved
+loop-mark-preserved c =
+    let marks = c.args.marks.now in
+    let i = c.loop-mark.mark-index in
+    omega (arith, c.loop-mark.invariant, count_more i (marked (map is_yes marks)), ap bit (get_or-map is_yes marks i 0), one (eqb (get_or marks i 0) 0))
 
 pub returns : goal.returns
-returns c = let end : c.loop-i.i ≡ c.args.to = omega (arith, c.loop-i.invariant.1, c.loop-i-test.false) in
-    rw (← end) c.loop-i.invariant.2
+returns c =
+    let marks = c.args.marks.now in
+    let end : c.loop-mark.mark-index ≡ length (map is_yes marks) = omega (arith, length-map marks is_yes) in
+    omega (arith, c.loop-mark.invariant, ap (λ (n : ℕ). count n (marked (map is_yes marks))) end)

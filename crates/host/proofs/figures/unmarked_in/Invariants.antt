@@ -1,10 +1,11 @@
--- `host::figures::unmarked_in` meets its contract: after the turns up to i the marks before i that are no have been counted.
+-- `host::figures::unmarked_in` meets its contract: of the marks so far each is no, and counted, or yes.
 use mathlib.Core.Path.{◌≡◌}
-use Prim.Native.Nat.{◌+◌, ◌-◌, ◌≤◌}
-use lib.Dec.{eqb}
-use lib.ListN.{get_or}
+use mathlib.Core.List.{map}
+use Prim.Native.Nat.{◌+◌}
 use Rattle.parity.specs.Count.{count}
+use Rattle.session.specs.Session.{marked}
+use Rattle.host.specs.Crossing.{is_yes}
 use Rattle.host.proofs.figures.unmarked_in.Given as goal
 
-abbrev pub invariant-loop-i : goal.invariant-loop-i
-invariant-loop-i l = (l.from ≤ l.i) × (l.i ≤ l.to) × (l.unmarked ≡ count (l.i - l.from) (λ k. eqb (get_or l.marks (l.from + k) 0) 0))
+abbrev pub invariant-loop-mark : goal.invariant-loop-mark
+invariant-loop-mark l = l.unmarked + count l.mark-index (marked (map is_yes l.marks)) ≡ l.mark-index

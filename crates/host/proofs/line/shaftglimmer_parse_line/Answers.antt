@@ -11,10 +11,10 @@ returns-in_default c = let parsed = c.parse.ensures in
     line_malformed _ _ _ parsed c.in_default.is c.refused-in_default.ensures
 
 pub overflow_cast-result : goal.overflow_cast-result
-overflow_cast-result c = let few = count_few (c.parse.ensures.accepted _ c.in-Values.is) in
+overflow_cast-result c = let few = count_few (c.parse.ensures.accepted _ c.in-Some.is) in
     record { fits = omega (arith, c.if-line-gt-LONGEST.false) }
 
 pub returns : goal.returns
 returns c = let stored = c.parse.ensures in
     let short = c.if-line-gt-LONGEST.false in
-    line_parsed _ _ _ short stored.size (stored.accepted _ c.in-Values.is) c.keep.ensures
+    line_parsed _ _ _ short stored.size (stored.accepted _ c.in-Some.is) c.keep.ensures

@@ -6,4 +6,4 @@ use Rattle.host.proofs.Paper.{crossing_session}
 use Rattle.host.proofs.sessions.shaftglimmer_cover.Goals as goal
 
 pub returns : goal.returns
-returns c = crossing_session (λ σ (lists : List ℕ × List ℕ). paper.Covering σ lists.0 lists.1) _ c.load.ensures c.covered.ensures (_, _) c.cover.ensures.paper
+returns c = crossing_session (λ σ (lists : List ℕ × List ℕ). paper.Covering σ lists.0 lists.1) _ c.load.ensures c.answer.ensures (_, _) c.cover.ensures.paper

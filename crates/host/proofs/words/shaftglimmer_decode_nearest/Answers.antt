@@ -4,4 +4,4 @@ use Rattle.host.proofs.Paper.{two_lists}
 use Rattle.host.proofs.words.shaftglimmer_decode_nearest.Goals as goal
 
 pub returns : goal.returns
-returns c = two_lists _ c.load_shape.ensures c.decoded.ensures paper.Nearest _ _ c.decode_nearest.ensures.paper
+returns c = two_lists _ c.load_shape.ensures c.answer.ensures paper.Nearest _ _ c.decode_nearest.ensures.paper

@@ -4,4 +4,4 @@ use Rattle.host.proofs.Paper.{five_lists}
 use Rattle.host.proofs.words.shaftglimmer_restore.Goals as goal
 
 pub returns : goal.returns
-returns c = five_lists _ c.load_shape.ensures c.decoded.ensures paper.Restoring _ _ _ _ _ c.restore.ensures.paper
+returns c = five_lists _ c.load_shape.ensures c.answer.ensures paper.Restoring _ _ _ _ _ c.restore.ensures.paper

@@ -6,4 +6,4 @@ use Rattle.majority.specs.Steps.{voted_in}
 use Rattle.majority.proofs.correct.evaluate.Given as goal
 
 abbrev pub invariant-loop-x : goal.invariant-loop-x
-invariant-loop-x l = (l.x ≤ l.count) × Begins 8 l.x (λ y. voted_in l.shape l.syn (at l.places y)) l.errors
+invariant-loop-x l = (l.x ≤ l.count) × Begins 8 l.x (λ y. voted_in l.checks.shape l.syn (at l.places y)) l.errors

@@ -6,4 +6,4 @@ use Rattle.correction.specs.Steps.{check_in}
 use Rattle.majority.proofs.locate.is_quiet.Given as goal
 
 abbrev pub invariant-loop-t : goal.invariant-loop-t
-invariant-loop-t l = (1 ≤ l.t) × (l.t ≤ l.n) × (l.silent ≡ shows l.t (check_in l.shape l.syn (l.row * l.shape.q + l.column)) 0)
+invariant-loop-t l = (1 ≤ l.t) × (l.t ≤ l.n) × (l.silent ≡ shows l.t (check_in l.row.checks.shape l.syn (l.row.number * l.row.checks.shape.q + l.column)) 0)

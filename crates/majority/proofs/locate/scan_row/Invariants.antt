@@ -5,4 +5,4 @@ use Rattle.majority.specs.Steps.{found_in}
 use Rattle.majority.proofs.locate.scan_row.Given as goal
 
 abbrev pub invariant-loop-c : goal.invariant-loop-c
-invariant-loop-c l = (l.c ≤ l.q) × (l.k < l.limit) × Listed (found_in l.shape l.syn l.loud) (l.row * l.q + l.c) l.k l.places
+invariant-loop-c l = (l.c ≤ l.q) × (l.k < l.limit) × Listed (found_in l.checks.shape l.syn l.loud) (l.row * l.q + l.c) l.k l.places

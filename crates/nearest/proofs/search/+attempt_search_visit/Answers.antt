@@ -1,95 +1,77 @@
 -- The proof of the cycle of calls {attempt, search, visit}.
-use mathlib.Core.Path.{refl, ◌∙◌}
-use native.Mathlib.Nat.{le_antisymm, pos_of_ne-zero}
+use mathlib.Core.Path.{◌∙◌}
+use native.Mathlib.Nat.{le_antisymm}
 use native.Mathlib.Omega.{arith}
 use borrow.Author.Rules.{rules}
 use Rattle.gtb.proofs.Bounds.{bounds}
 use Rattle.nearest.proofs.Guessing.{guess_narrow}
-use Rattle.nearest.proofs.Searching.{attempt_fails, attempt_works, missed_none, missed_more, visit_met, visit_far, search_silent, search_none, search_many, passed_none, passed_more, search_met, search_far}
+use Rattle.nearest.proofs.Searching.{attempt_fails, attempt_works, missed_more, visit_far, search_silent, search_none, search_many, passed_more, search_far}
 use Rattle.nearest.proofs.search.+attempt_search_visit.Goals as goal
+use Rattle.nearest.proofs.search.+attempt_search_visit.Goals.{search-then-k-eq0-via-then-k-eq0, search-then-k-eq0-via-else-k-eq0+then-too_many_not_silent}
 
-pub attempt-search-found-requires : goal.attempt-search-found-requires
-attempt-search-found-requires t c =
+pub attempt-returns-in_default : goal.attempt-returns-in_default
+attempt-returns-in_default t c =
     let p = c.requires in
-    (omega (arith, p.3), (p.0, p.1, record { table = c.cancel_one.ensures.size ∙ p.2.table; positions = p.2.positions; values = p.2.values }, omega (arith, p.4)))
-
-pub attempt-returns-then-k-found : goal.attempt-returns-then-k-found
-attempt-returns-then-k-found t c =
-    let p = c.requires in
-    attempt_fails p.0 p.3 p.4 p.5 c.cancel_one.ensures c.search-found.ensures c.if-k-found.true c.cancel_one-then-k-found.ensures
+    attempt_fails c.args.checks.lawful p.0 p.1 p.2 c.cancel_one.ensures c.in_default.ensures c.cancel_one-in_default.ensures
 
 -- the list has room for one more
 pub attempt-bounds-places-found : goal.attempt-bounds-places-found
-attempt-bounds-places-found t c = omega (arith, c.if-k-found.false, c.requires.4, (bounds _ c.requires.0).n8)
+attempt-bounds-places-found t c = omega (arith, c.in-Some.ensures.few, c.requires.1, (bounds _ c.args.checks.lawful).n8)
 
 pub attempt-bounds-errors-found : goal.attempt-bounds-errors-found
-attempt-bounds-errors-found t c = omega (arith, c.if-k-found.false, c.requires.4, (bounds _ c.requires.0).n8)
+attempt-bounds-errors-found t c = omega (arith, c.in-Some.ensures.few, c.requires.1, (bounds _ c.args.checks.lawful).n8)
 
 pub attempt-returns : goal.attempt-returns
 attempt-returns t c =
     let p = c.requires in
-    attempt_works p.0 p.3 p.4 p.5 c.cancel_one.ensures c.search-found.ensures c.if-k-found.false p.6
+    attempt_works c.args.checks.lawful p.0 p.1 p.2 c.cancel_one.ensures c.search.array_long2 c.search.array_long3 c.in-Some.ensures p.3
 
-pub search-returns-then-n-q : goal.search-returns-then-n-q
-search-returns-then-n-q t c = search_silent c.requires.0 c.requires.2 c.first_not_silent-check.ensures c.if-n-q.true
+pub search-returns-in_default : goal.search-returns-in_default
+search-returns-in_default t c = search_silent c.args.checks.lawful c.in_default.ensures
 
 pub search-returns-then-k-eq0 : goal.search-returns-then-k-eq0
-search-returns-then-k-eq0 t c = search_none c.requires.0 c.if-n-q.false c.first_not_silent-check.ensures c.requires.2 c.if-k-eq0.true
+search-returns-then-k-eq0 t c =
+    let law = c.args.checks.lawful in
+    elim c.then-k-eq0.branch [
+      | search-then-k-eq0-via-then-k-eq0 w ↦ search_none law c.in-Some.ensures w.if-k-eq0.true
+      | search-then-k-eq0-via-else-k-eq0+then-too_many_not_silent w ↦ search_many law (w.too_many_not_silent.ensures w.if-too_many_not_silent.true)
+    ]
 
-pub search-returns-then-too_many_not_silent : goal.search-returns-then-too_many_not_silent
-search-returns-then-too_many_not_silent t c =
-    search_many c.requires.0 c.requires.2 (c.too_many_not_silent.ensures c.if-too_many_not_silent.true)
-
-pub search-loop-i-init : goal.search-loop-i-init
-search-loop-i-init t c = (search rules, refl, c.requires.2, passed_none _ _ _ _ _)
-
-pub search-visit-found-requires : goal.search-visit-found-requires
-search-visit-found-requires t c =
-    let p = c.requires in
-    let pos = pos_of_ne-zero c.if-k-eq0.false in
-    (omega arith, (p.0, p.1, c.loop-i.invariant.2, pos, p.3, c.place_of-j.ensures.below))
-
-pub search-returns-then-found-k : goal.search-returns-then-found-k
-search-returns-then-found-k t c = search_met c.loop-i.invariant.1 c.visit-found.ensures c.if-found-k.true
+pub search-returns-in-Some-visit : goal.search-returns-in-Some-visit
+search-returns-in-Some-visit t c = rw c.loop-i.invariant.1 at c.in-Some-visit.ensures
 
 pub search-loop-i-preserved : goal.search-loop-i-preserved
-search-loop-i-preserved t c = (
-  search rules,
-  c.visit-found.ensures.tried.kept c.if-found-k.false ∙ c.loop-i.invariant.1,
-  c.visit-found.ensures.tried.room,
-  passed_more c.loop-i.invariant.1 c.visit-found.ensures c.loop-i.invariant.3 c.place_of-j.ensures c.if-found-k.false,
-)
+search-loop-i-preserved t c =
+    let same = c.loop-i.invariant.1 in
+    let none = c.in_default-visit.ensures in
+    (search rules, none.0 ∙ same, passed_more same c.loop-i.invariant.2 c.place_of-j.ensures none.1)
 
 pub search-returns : goal.search-returns
 search-returns t c =
-    search_far c.requires.0 c.if-n-q.false c.first_not_silent-check.ensures c.loop-i.invariant.1 c.loop-i.invariant.2
-    (rw (le_antisymm c.loop-i.invariant.0 c.loop-i-test.false) at c.loop-i.invariant.3)
-
-pub visit-loop-t-init : goal.visit-loop-t-init
-visit-loop-t-init t c = (search rules, refl, c.requires.2, missed_none _ _ _ _ _)
+    search_far c.args.checks.lawful c.in-Some.ensures c.loop-i.invariant.1
+    (rw (le_antisymm c.loop-i.invariant.0 c.loop-i-test.false) at c.loop-i.invariant.2)
 
 pub visit-candidate-value-requires : goal.visit-candidate-value-requires
-visit-candidate-value-requires t c = ((bounds _ c.requires.0).n8, c.loop-t-test.true)
+visit-candidate-value-requires t c = ((bounds _ c.args.checks.lawful).n8, c.loop-t-test.true)
 
-pub visit-attempt-found-requires : goal.visit-attempt-found-requires
-visit-attempt-found-requires t c =
-    let p = c.requires in (
-      omega (arith, p.3),
-      (p.0, p.1, c.loop-t.invariant.2, p.3, p.4, p.5, rw (c.candidate-value.ensures, c.loop-t.invariant.1) (guess_narrow p.0 p.5 c.gather-values.ensures _ c.loop-t-test.true)),
+pub visit-attempt-requires : goal.visit-attempt-requires
+visit-attempt-requires t c =
+    let (pos, lk, lj) = c.requires in
+    let same = c.loop-t.invariant.1 in (
+      omega (arith, pos),
+      (pos, lk, lj, rw (c.candidate-value.ensures, same) (guess_narrow c.args.checks.lawful lj c.gather-values.ensures _ c.loop-t-test.true)),
     )
 
-pub visit-returns-then-found-k : goal.visit-returns-then-found-k
-visit-returns-then-found-k t c = visit_met c.loop-t.invariant.1 c.attempt-found.ensures c.if-found-k.true
+pub visit-returns-in-Some : goal.visit-returns-in-Some
+visit-returns-in-Some t c = rw c.loop-t.invariant.1 at c.in-Some.ensures
 
 pub visit-loop-t-preserved : goal.visit-loop-t-preserved
-visit-loop-t-preserved t c = (
-  search rules,
-  c.attempt-found.ensures.tried.kept c.if-found-k.false ∙ c.loop-t.invariant.1,
-  c.attempt-found.ensures.tried.room,
-  missed_more c.loop-t.invariant.1 c.loop-t.invariant.3 c.candidate-value.ensures c.attempt-found.ensures c.if-found-k.false,
-)
+visit-loop-t-preserved t c =
+    let same = c.loop-t.invariant.1 in
+    let none = c.in_default.ensures in
+    (search rules, none.0 ∙ same, missed_more same c.loop-t.invariant.2 c.candidate-value.ensures none.1)
 
 pub visit-returns : goal.visit-returns
 visit-returns t c =
-    visit_far c.loop-t.invariant.1 c.requires.0 c.requires.4 c.requires.5 c.gather-values.ensures c.loop-t.invariant.2
-    (rw (le_antisymm c.loop-t.invariant.0 c.loop-t-test.false) at c.loop-t.invariant.3)
+    visit_far c.loop-t.invariant.1 c.args.checks.lawful c.requires.1 c.requires.2 c.gather-values.ensures
+    (rw (le_antisymm c.loop-t.invariant.0 c.loop-t-test.false) at c.loop-t.invariant.2)

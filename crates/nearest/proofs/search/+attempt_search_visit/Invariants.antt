@@ -2,7 +2,6 @@
 -- `search`, 3 k - 1 for `visit`, 3 k - 2 for `attempt`. The loops' invariants: what was tried so far meets no codeword, and the table is as it came.
 use mathlib.Core.Path.{◌≡◌}
 use Prim.Native.Nat.{◌+◌, ◌-◌, ◌≤◌}
-use Rattle.nearest.specs.Steps.{Room}
 use Rattle.nearest.proofs.Searching.{Missed, Passed}
 use Rattle.nearest.proofs.search.+attempt_search_visit.Given as goal
 
@@ -16,7 +15,7 @@ abbrev pub decreases-visit : goal.decreases-visit
 decreases-visit l = l.k + l.k + l.k - 1
 
 abbrev pub invariant-search-loop-i : goal.invariant-search-loop-i
-invariant-search-loop-i l = (l.i ≤ l.q) × (l.syn ≡ l.initial.syn) × Room l.syn l.places l.errors × Passed l.shape l.k l.initial.syn l.t l.line l.i
+invariant-search-loop-i l = (l.i ≤ l.q) × (l.syn ≡ l.initial.syn) × Passed l.checks.shape l.k l.initial.syn l.t l.line l.i
 
 abbrev pub invariant-visit-loop-t : goal.invariant-visit-loop-t
-invariant-visit-loop-t l = (l.t ≤ l.n) × (l.syn ≡ l.initial.syn) × Room l.syn l.places l.errors × Missed l.shape l.k l.j l.initial.syn l.values l.t
+invariant-visit-loop-t l = (l.t ≤ l.n) × (l.syn ≡ l.initial.syn) × Missed l.checks.shape l.k l.j l.initial.syn l.values l.t

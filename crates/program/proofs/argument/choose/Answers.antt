@@ -11,6 +11,6 @@ pub returns-then-count-gt2 : goal.returns-then-count-gt2
 unfolding choice_of
 returns-then-count-gt2 c = rw (le-ltb _ 2 c.if-count-lt2.false, lt-ltb 2 _ c.if-count-gt2.true)
 
-pub returns : goal.returns
+pub returns-else-count-gt2 : goal.returns-else-count-gt2
 unfolding choice_of
-returns c = rw (le-ltb _ 2 c.if-count-lt2.false, le-ltb 2 _ c.if-count-gt2.false) c.meaning.ensures
+returns-else-count-gt2 c = rw (le-ltb _ 2 c.if-count-lt2.false, le-ltb 2 _ c.if-count-gt2.false) c.meaning.ensures

@@ -1,8 +1,7 @@
 -- `program::argument::meaning` meets its contract.
-use Rattle.std.proofs.Common.{sym, eq-eqb}
-use borrow.Author.Tests.{ne_eqb}
+use Rattle.std.proofs.Common.{sym, ◌∙◌}
 use Rattle.program.specs.Choice.{meaning_of}
-use Rattle.program.proofs.Texts.{empty_dash}
+use Rattle.program.proofs.Texts.{dashed_is}
 use Rattle.program.proofs.argument.meaning.Goals as goal
 
 pub returns-then-is_text : goal.returns-then-is_text
@@ -21,35 +20,24 @@ pub returns-then-is_text-4 : goal.returns-then-is_text-4
 unfolding meaning_of
 returns-then-is_text-4 c = rw (sym c.if-is_text.ensures, sym c.if-is_text-2.ensures, sym c.if-is_text-3.ensures, sym c.if-is_text-4.ensures)
 
-pub returns-then-argument-eq0 : goal.returns-then-argument-eq0
+pub returns-then-starts_with : goal.returns-then-starts_with
 unfolding meaning_of
-returns-then-argument-eq0 c =
+returns-then-starts_with c =
     rw (
       sym c.if-is_text.ensures,
       sym c.if-is_text-2.ensures,
       sym c.if-is_text-3.ensures,
       sym c.if-is_text-4.ensures,
-      ne_eqb _ _ (empty_dash c.args.argument.now c.if-argument-eq0.true),
+      sym (dashed_is c.args.argument.now c.starts_with.ensures.value) ∙ c.if-starts_with.true,
     )
 
-pub returns-then-argument-eq45 : goal.returns-then-argument-eq45
+pub returns-else-starts_with : goal.returns-else-starts_with
 unfolding meaning_of
-returns-then-argument-eq45 c =
+returns-else-starts_with c =
     rw (
       sym c.if-is_text.ensures,
       sym c.if-is_text-2.ensures,
       sym c.if-is_text-3.ensures,
       sym c.if-is_text-4.ensures,
-      eq-eqb _ _ c.if-argument-eq45.true,
-    )
-
-pub returns : goal.returns
-unfolding meaning_of
-returns c =
-    rw (
-      sym c.if-is_text.ensures,
-      sym c.if-is_text-2.ensures,
-      sym c.if-is_text-3.ensures,
-      sym c.if-is_text-4.ensures,
-      ne_eqb _ _ c.if-argument-eq45.false,
+      sym (dashed_is c.args.argument.now c.starts_with.ensures.value) ∙ c.if-starts_with.false,
     )

@@ -1,13 +1,14 @@
 -- `program::said::put_fault` meets its contract.
-use Rattle.std.proofs.Common.{arith}
-use Rattle.lines.proofs.Pasting.{put_both}
+use mathlib.Core.Path.{ap}
+use mathlib.Core.List.{append_assoc}
+use native.Mathlib.Omega.{arith}
+use lib.ListN.{length, length-append}
 use Rattle.program.specs.Said.{fault_text}
 use Rattle.program.proofs.said.put_fault.Goals as goal
 
 pub returns : goal.returns
 unfolding fault_text
-returns c =
-    let line = c.line_number-number.ensures in (
-      put_both (put_both c.put_expected-a.ensures.0 (rw line at c.put_noted-b.ensures.0)) (rw line at c.put_noted.ensures.0),
-      omega (arith, c.put_expected-a.ensures.1, c.put_noted-b.ensures.1, c.put_noted.ensures.1),
-    )
+returns c = (
+  simp (c.put_noted-2.ensures.0, c.put_noted.ensures.0, c.put.ensures, c.expected_text.ensures.0, c.line_number-number.ensures, append_assoc),
+  omega (arith, rw length-append at (ap length c.put.ensures), c.expected_text.ensures.1, c.put_noted.ensures.1, c.put_noted-2.ensures.1),
+)

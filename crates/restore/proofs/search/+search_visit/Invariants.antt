@@ -14,4 +14,5 @@ abbrev pub decreases-visit : goal.decreases-visit
 decreases-visit l = l.k + l.k - 1
 
 abbrev pub invariant-search-loop-i : goal.invariant-search-loop-i
-invariant-search-loop-i l = (l.i ≤ l.count) × (l.word ≡ l.initial.word) × (length l.scratch ≡ scratch_length l.shape) × Passed l.shape l.k l.initial.word l.places l.check l.i
+invariant-search-loop-i l = (l.i ≤ l.count) × (l.word ≡ l.initial.word) × (length l.scratch ≡ scratch_length l.checks.shape)
+    × Passed l.checks.shape l.k l.initial.word l.places l.check l.i

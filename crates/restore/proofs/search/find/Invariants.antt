@@ -6,4 +6,4 @@ use Rattle.gtb.specs.Shape.{scratch_length}
 use Rattle.restore.proofs.search.find.Given as goal
 
 abbrev pub invariant-loop-k : goal.invariant-loop-k
-invariant-loop-k l = (l.k ≤ l.most) × (l.word ≡ l.initial.word) × (length l.scratch ≡ scratch_length l.shape)
+invariant-loop-k l = (l.k ≤ l.most) × (l.word ≡ l.initial.word) × (length l.scratch ≡ scratch_length l.checks.shape)

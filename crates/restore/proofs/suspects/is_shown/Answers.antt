@@ -1,23 +1,20 @@
--- `restore::suspects::is_shown` meets its contract. The loop's invariant: no value passed is a candidate.
-use mathlib.Core.Path.{refl, sym, ◌∙◌}
+-- `restore::suspects::is_shown` meets its contract.
+use mathlib.Core.Path.{◌≡◌, sym, ◌∙◌}
+use mathlib.Core.Bool.{not, ◌&&◌}
+use lib.Dec.{eqb, leb}
 use native.Mathlib.Omega.{arith}
-use borrow.Author.Count.{below_none, below_more}
 use borrow.Author.Rules.{rules}
-use Rattle.parity.proofs.Tests.{clash}
+use Rattle.std.specs.Prelude.{take}
+use Rattle.std.specs.List.{list_any}
+use Rattle.std.proofs.lemmas.Iterator.Search.{any_from_yields_List}
+use Rattle.std.proofs.lemmas.Iterator.{YieldsList-from_slice}
+use Rattle.gtb.specs.Square.{at}
+use Rattle.correction.specs.Error.{shows}
 use Rattle.restore.proofs.Choosing.{outvoted}
 use Rattle.restore.proofs.suspects.is_shown.Goals as goal
 
-pub loop-t-init : goal.loop-t-init
-loop-t-init c = (search rules, below_none _)
-
-pub candidate-requires : goal.candidate-requires
-candidate-requires c = (c.requires.0, c.loop-t-test.true)
-
-pub returns-then-candidate-ne0 : goal.returns-then-candidate-ne0
-returns-then-candidate-ne0 c e = absurd (clash refl e)
-
-pub loop-t-preserved : goal.loop-t-preserved
-loop-t-preserved c = (search rules, below_more _ _ c.loop-t.invariant.1 (sym c.candidate.ensures ∙ c.if-candidate-ne0.false))
-
 pub returns : goal.returns
-returns c e = outvoted c.requires.1 (λ t lt. c.loop-t.invariant.1 t (omega (arith, c.loop-t-test.false)))
+returns c none =
+    let shown : c.any.result ≡ list_any (λ x. not (eqb x 0) && leb c.args.least (shows c.args.n (at c.args.values.now) x)) (take c.args.n c.args.values.now) =
+    any_from_yields_List (λ x. not (eqb x 0) && leb c.args.least (shows c.args.n (at c.args.values.now) x)) _ _ _ c.any.ensures.ran (YieldsList-from_slice (take c.args.n c.args.values.now) (search rules)) (λ x b q h. search rules) in
+    outvoted (omega (arith, c.requires.0, c.told-values)) c.requires.1 (sym shown ∙ none)

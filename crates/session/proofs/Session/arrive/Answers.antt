@@ -18,14 +18,14 @@ use Rattle.session.proofs.Session.arrive.Goals as goal
 both : {A B : Type 0} → A × B → record { arrived : A; paper : B }
 both x = record { arrived = x.0; paper = x.1 }
 
-pub returns-in-Refused : goal.returns-in-Refused
+pub returns-in-Err : goal.returns-in-Err
 unfolding consistent
-returns-in-Refused c =
+returns-in-Err c =
     let marks-size : length c.args.self.taken ≡ 1024 = sized Boolean 1024 c.args.self.taken _ c.well_formed.0.1.1.1.0 in
     let agrees : c.agree-agree.result ≡ consistent c.args.self = c.agree-agree.ensures in
     both (let s = c.args in
     arrival_asked s.self marks-size s.word.now s.scratch.now s.way
-    (tests_refused s.self refl agrees s.way s.word.now s.scratch.now (sym c.word_status.ensures ∙ c.in-Refused.is) c.refused.ensures))
+    (tests_refused s.self refl agrees s.way s.word.now s.scratch.now (sym c.word_status.ensures ∙ c.in-Err.is) c.refused.ensures))
 
 pub info_length-info-requires : goal.info_length-info-requires
 unfolding consistent
@@ -92,4 +92,4 @@ returns c =
     both (let (right, fits, room) = passed in
     let s = c.args in
     arrival_asked s.self marks-size s.word.now s.scratch.now s.way
-    (decides_arrives _ s.scratch.now right fits room c.clear.ensures c.settle_word.ensures))
+    (decides_arrives _ s.scratch.now right fits room (c.fill.ensures.after (λ y h. h)) c.settle_word.ensures))

@@ -1,47 +1,34 @@
--- `session::figures::marked_below` meets its contract: the marks are counted in pieces of 128.
-use mathlib.Core.Path.{◌≡◌, sym, ap₂, ◌∙◌}
-use Prim.Native.Nat.{ℕ, ◌+◌, zero-le}
+-- `session::figures::marked_below` meets its contract: the marks before the piece at hand have been counted.
+use mathlib.Core.Path.{◌≡◌, sym, ap, ◌∙◌}
+use Prim.Native.Nat.{ℕ, ◌+◌}
+use mathlib.Core.Bool.{Bool}
+use mathlib.Core.List.{List}
 use native.Mathlib.Omega.{arith}
+use lib.ListN.{take}
 use Rattle.parity.specs.Count.{count}
-use Rattle.parity.proofs.Sums.{count_zero, count_bound}
+use Rattle.std.specs.Slice.Iter.{chunks_rest}
+use Rattle.parity.proofs.Sums.{count_bound}
 use Rattle.session.specs.Session.{marked}
-use Rattle.session.proofs.Progress.{piece_more}
+use Rattle.session.specs.Steps.{marks_in}
+use Rattle.session.proofs.Progress.{marks_joined, marks_front, marks_none}
 use Rattle.session.proofs.figures.marked_below.Goals as goal
+use Rattle.session.proofs.figures.marked_below.Goals.{After-marked_in}
 
-pub loop-from-init : goal.loop-from-init
-loop-from-init c = (zero-le, sym (count_zero (marked c.args.taken.now)))
+-- what is left to count begins with the piece at hand
+split : (c : After-marked_in) → marks_in (chunks_rest c.loop-part.part-iterator) ≡ c.marked_in.result + marks_in (chunks_rest c.next.new.self)
+split c = ap (λ (xs : List Bool). marks_in xs) c.in-Some.ensures.steps.1.0 ∙ marks_joined c.in-Some.part.now (chunks_rest c.next.new.self)
+    ∙ ap (λ (x : ℕ). x + marks_in (chunks_rest c.next.new.self)) (sym c.marked_in.ensures)
 
-pub overflow_sub-end : goal.overflow_sub-end
-overflow_sub-end c = c.loop-from.invariant.0
-
-pub overflow_add-next : goal.overflow_add-next
-overflow_add-next c = omega (arith, c.loop-from.invariant.0, c.requires)
-
-pub marked_in-requires : goal.marked_in-requires
-marked_in-requires c = (omega arith, omega arith, omega (arith, c.loop-from-test.true, c.requires))
+pub loop-part-init : goal.loop-part-init
+loop-part-init c =
+    let front : marks_in (take c.args.end c.args.taken.now) ≡ count c.args.end (marked c.args.taken.now) = marks_front c.args.taken.now c.args.end (omega arith) in
+    rw (c.into_iter-part-iterator.ensures.into_iter_gives, c.chunks-part-items.ensures.rest) (c.chunks-part-items.ensures.size, omega (arith, front))
 
 pub overflow_add-pages : goal.overflow_add-pages
-overflow_add-pages c =
-    let more : c.loop-from.pages + c.marked_in.result ≡ count (c.loop-from.from + 128) (marked c.args.taken.now) = ap₂ (λ (x y : ℕ). x + y) c.loop-from.invariant.1 c.marked_in.ensures ∙ piece_more (marked c.args.taken.now) c.loop-from.from (c.loop-from.from + 128) (omega arith) in
-    omega (arith, more, c.loop-from-test.true, c.requires, count_bound (c.loop-from.from + 128) (marked c.args.taken.now))
+overflow_add-pages c = omega (arith, c.loop-part.invariant.1, split c, count_bound c.args.end (marked c.args.taken.now), c.requires)
 
-pub loop-from-smaller : goal.loop-from-smaller
-loop-from-smaller c = omega (arith, c.loop-from-test.true)
-
-pub loop-from-preserved : goal.loop-from-preserved
-loop-from-preserved c =
-    let more : c.loop-from.pages + c.marked_in.result ≡ count (c.loop-from.from + 128) (marked c.args.taken.now) = ap₂ (λ (x y : ℕ). x + y) c.loop-from.invariant.1 c.marked_in.ensures ∙ piece_more (marked c.args.taken.now) c.loop-from.from (c.loop-from.from + 128) (omega arith) in
-    (omega (arith, c.loop-from-test.true), more)
-
-pub marked_in-requires-2 : goal.marked_in-requires-2
-marked_in-requires-2 c = (c.loop-from.invariant.0, omega (arith, c.loop-from-test.false), c.requires)
-
-pub overflow_add-result : goal.overflow_add-result
-overflow_add-result c =
-    let whole : c.loop-from.pages + c.marked_in-2.result ≡ count c.args.end (marked c.args.taken.now) = ap₂ (λ (x y : ℕ). x + y) c.loop-from.invariant.1 c.marked_in-2.ensures ∙ piece_more (marked c.args.taken.now) c.loop-from.from c.args.end c.loop-from.invariant.0 in
-    omega (arith, whole, c.requires, count_bound c.args.end (marked c.args.taken.now))
+pub loop-part-preserved : goal.loop-part-preserved
+loop-part-preserved c = (c.in-Some.ensures.steps.0 ∙ c.loop-part.invariant.0, omega (arith, c.loop-part.invariant.1, split c))
 
 pub returns : goal.returns
-returns c =
-    let whole : c.loop-from.pages + c.marked_in-2.result ≡ count c.args.end (marked c.args.taken.now) = ap₂ (λ (x y : ℕ). x + y) c.loop-from.invariant.1 c.marked_in-2.ensures ∙ piece_more (marked c.args.taken.now) c.loop-from.from c.args.end c.loop-from.invariant.0 in
-    whole
+returns c = omega (arith, c.loop-part.invariant.1, marks_none (chunks_rest c.loop-part.part-iterator) c.in-None.ensures.steps.1.0)

@@ -1,8 +1,8 @@
 -- `session::number::counted` meets its contract.
 use Rattle.session.proofs.number.counted.Goals as goal
 
-pub returns-in-Calls : goal.returns-in-Calls
-returns-in-Calls c = rw c.in-Calls.is
+pub returns-in-Ok : goal.returns-in-Ok
+returns-in-Ok c = rw c.in-Ok.is
 
-pub returns-in-Refused : goal.returns-in-Refused
-returns-in-Refused c = rw (c.in-Refused.is, c.refusal.ensures)
+pub returns-in-Err : goal.returns-in-Err
+returns-in-Err c = rw (c.in-Err.is, c.from.ensures)

@@ -1,35 +1,31 @@
--- `verify::compare::any_masked` meets its contract. The loop's invariant: none of the places passed is on a silent check.
-use mathlib.Core.Path.{sym, ap₂, ◌∙◌}
-use mathlib.Core.Bool.{Bool, ◌||◌}
-use Prim.Native.Nat.{◌<◌}
-use Rattle.parity.proofs.Tests.{any_zero, any_more, any_intro}
-use native.Mathlib.Nat.{le_antisymm}
+-- `verify::compare::any_masked` meets its contract.
+use mathlib.Core.Path.{◌≡◌, refl, ◌∙◌}
+use Prim.Native.Nat.{◌<◌, ◌≤◌}
 use native.Mathlib.Omega.{arith}
 use borrow.Author.Rules.{rules}
+use lib.ListN.{length, take}
+use Rattle.std.proofs.lemmas.Iterator.{YieldsList-from_slice}
+use Rattle.std.proofs.lemmas.Iterator.Adapters.{serves_from_places}
+use Rattle.std.proofs.lemmas.Iterator.Search.{any_from_yields_List}
+use Rattle.std.proofs.lemmas.List.{get_or-take, get_or_read_under, length-take-le}
+use Rattle.gtb.specs.Shape.{word_length}
+use Rattle.gtb.specs.Square.{at}
+use Rattle.verify.specs.Steps.{is_masked}
+use Rattle.verify.proofs.Lists.{any_first}
 use Rattle.verify.proofs.compare.any_masked.Goals as goal
 
-pub loop-x-init : goal.loop-x-init
-loop-x-init c = (search rules, any_zero _)
-
-pub offset_bounds-places-x : goal.offset_bounds-places-x
-offset_bounds-places-x c =
-    let inside : c.loop-x.x < 8 = omega (arith, c.requires.2.few) in
-    omega (arith, inside)
-
-pub bounds-places-x : goal.bounds-places-x
-bounds-places-x c =
-    let inside : c.loop-x.x < 8 = omega (arith, c.requires.2.few) in
-    inside
-
-pub is_masked-requires : goal.is_masked-requires
-is_masked-requires c = let p = c.requires in
-    (p.0, p.1, p.2.below c.loop-x.x c.loop-x-test.true)
-
-pub returns-then-is_masked : goal.returns-then-is_masked
-returns-then-is_masked c = sym (any_intro _ _ c.loop-x.x c.loop-x-test.true (sym c.is_masked.ensures ∙ c.if-is_masked.true))
-
-pub loop-x-preserved : goal.loop-x-preserved
-loop-x-preserved c = (search rules, any_more _ _ ∙ ap₂ (λ (x y : Bool). x || y) c.loop-x.invariant.1 (sym c.is_masked.ensures ∙ c.if-is_masked.false))
+pub any-requires-clause-callable : goal.any-requires-clause-callable
+any-requires-clause-callable c =
+    serves_from_places (YieldsList-from_slice (take c.args.count c.args.places.now) c.iter.ensures.rest) (λ j q k. search rules)
+    (λ j k l e.
+    let fits : c.args.count ≤ length c.args.places.now = omega (arith, c.requires.few, c.told-places) in
+    let lk : k < c.args.count = omega (arith, l, length-take-le c.args.count c.args.places.now fits) in
+    let entry : j.now ≡ at c.args.places.now k = get_or_read_under _ k _ j.now 0 e l refl ∙ get_or-take c.args.count c.args.places.now k 0 lk in
+    let inside : j.now < word_length c.args.checks.shape = rw entry (c.requires.below k lk) in
+    search (rules, inside))
 
 pub returns : goal.returns
-returns c = sym (rw (le_antisymm c.loop-x.invariant.0 c.loop-x-test.false) at c.loop-x.invariant.1)
+returns c =
+    any_from_yields_List (is_masked c.args.checks.shape c.args.syn.now) _ _ c.any.result c.any.ensures.ran
+    (YieldsList-from_slice (take c.args.count c.args.places.now) c.iter.ensures.rest) (λ j b q k. search rules)
+    ∙ any_first _ c.args.places.now c.args.count (omega (arith, c.requires.few, c.told-places))

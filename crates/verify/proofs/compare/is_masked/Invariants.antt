@@ -9,4 +9,4 @@ use Rattle.correction.specs.Error.{check_of}
 use Rattle.verify.proofs.compare.is_masked.Given as goal
 
 abbrev pub invariant-loop-t : goal.invariant-loop-t
-invariant-loop-t l = (l.t ≤ l.n) × (any l.t (λ u. eqb (at l.syn (check_of l.shape l.j u)) 0) ≡ false)
+invariant-loop-t l = (l.t ≤ l.n) × (any l.t (λ u. eqb (at l.syn (check_of l.checks.shape l.j u)) 0) ≡ false)

@@ -7,14 +7,14 @@ use Rattle.verify.proofs.Answers.{no_codeword, codeword_decides}
 use Rattle.verify.proofs.compare.is_restored.Goals as goal
 
 pub returns-then-not-is_silent : goal.returns-then-not-is_silent
-returns-then-not-is_silent c = no_codeword _ _ _ (sym (silent_shown _ c.requires.0 _ _ c.fill.ensures) ∙ sym c.is_silent.ensures ∙ c.if-not-is_silent.true)
+returns-then-not-is_silent c = no_codeword _ _ _ (sym (silent_shown _ c.args.checks.lawful _ _ c.fill.ensures) ∙ sym c.is_silent.ensures ∙ c.if-not-is_silent.true)
 
 pub is_clean-requires : goal.is_clean-requires
 is_clean-requires c =
-    let silent : silent_test c.args.shape (at c.args.proposed.now) ≡ true = sym (silent_shown _ c.requires.0 _ _ c.fill.ensures) ∙ sym c.is_silent.ensures ∙ c.if-not-is_silent.false in
-    let p = c.requires in (p.0, p.1, p.2, c.fill.ensures, silent)
+    let silent : silent_test c.args.checks.shape (at c.args.proposed.now) ≡ true = sym (silent_shown _ c.args.checks.lawful _ _ c.fill.ensures) ∙ sym c.is_silent.ensures ∙ c.if-not-is_silent.false in
+    (c.requires.0, c.requires.1, c.fill.ensures, silent)
 
 pub returns : goal.returns
 returns c =
-    let silent : silent_test c.args.shape (at c.args.proposed.now) ≡ true = sym (silent_shown _ c.requires.0 _ _ c.fill.ensures) ∙ sym c.is_silent.ensures ∙ c.if-not-is_silent.false in
+    let silent : silent_test c.args.checks.shape (at c.args.proposed.now) ≡ true = sym (silent_shown _ c.args.checks.lawful _ _ c.fill.ensures) ∙ sym c.is_silent.ensures ∙ c.if-not-is_silent.false in
     codeword_decides _ _ _ silent c.is_clean.ensures

@@ -7,7 +7,6 @@ use Rattle.parity.specs.Xor.{◌⊕◌}
 use Rattle.parity.specs.Count.{all}
 use Rattle.parity.proofs.Tests.{all_more}
 use Rattle.verify.specs.Verify.{difference}
-use native.Mathlib.Nat.{le_antisymm}
 use borrow.Author.Rules.{rules}
 use Rattle.correction.proofs.Silence.{no_bits}
 use Rattle.verify.proofs.locate.are_same.Goals as goal
@@ -21,6 +20,3 @@ unfolding ◌⊕◌
 loop-i-preserved c = let a = c.args in
     let entry = difference a.received.now a.proposed.now (a.from + c.loop-i.i) in
     (search rules, no_bits c.loop-i.bits entry ∙ ap (λ (b : Bool). b && eqb entry 0) c.loop-i.invariant.1 ∙ sym (all_more _ _))
-
-pub returns : goal.returns
-returns c = rw (le_antisymm c.loop-i.invariant.0 c.loop-i-test.false) at c.loop-i.invariant.1

@@ -1,0 +1,12 @@
+-- `program::text::Text::put_number` meets its contract.
+use mathlib.Core.Path.{ap}
+use native.Mathlib.Omega.{arith}
+use lib.ListN.{length, length-append}
+use Rattle.program.proofs.Texts.{put_after}
+use Rattle.program.proofs.text.Text.put_number.Goals as goal
+
+pub returns : goal.returns
+returns c =
+    let put = c.put_number-self-inside.ensures in
+    let new = put_after c.self.view_is (omega (arith, c.self.invariant, c.self.told)) (omega (arith, c.requires, c.self.told, put.0.next, put.1)) put.0 in
+    (new, omega (arith, rw length-append at (ap length new), put.0.next, put.1))
