@@ -4,6 +4,7 @@
 ghost use Rattle.std.specs.Prelude.{◌≡◌, length};
 ghost use Rattle.gtb.specs.Shape.{Lawful, word_length, info_length};
 ghost use Rattle.session.specs.Arrival.{way_of};
+ghost use Rattle.session.specs.Named.{number_of, Admits};
 ghost use Rattle.session.specs.Steps.{Openable};
 ghost use Rattle.batch.specs.Batch.{whole_run, batch_status, Arrivals, Batching};
 ghost use Rattle.batch.specs.Steps.{Tested, Looked};
@@ -11,6 +12,7 @@ ghost use Rattle.batch.specs.Steps.{Tested, Looked};
 use gtb::size::{info_length, scratch_length, word_length};
 use gtb::{Refusal, Shape};
 use session::open::open_kept;
+use session::way::Way;
 use session::{Brought, Outcome, Session};
 
 // A run has at most so many words.
@@ -42,17 +44,17 @@ fn is_run(shape: Shape, words: &[u32]) -> bool
     count <= WORDS
 }
 
-// The tests for the whole call: those of an arrival, then 2.
+// The tests for the whole call: those of an arrival, then 2. They are passed by the way that is named.
 fn judge(
     session: Session,
-    way: u32,
+    number: u32,
     words: &[u32],
     scratch: &[u32],
     outcomes: &[u32],
-) -> Result<(), Refusal>
-    ensures { result ≡ batch_status session way words.now scratch.now outcomes.now }
+) -> Result<Way, Refusal>
+    ensures { Admits (batch_status session number words.now scratch.now outcomes.now) number result }
 {
-    session.arrival_status(way)?;
+    let way = session.admit(number)?;
     let shape = session.shape;
     if !is_run(shape, words) {
         return Err(Refusal::Length);
@@ -63,21 +65,21 @@ fn judge(
     if outcomes.len() != OUTCOMES {
         return Err(Refusal::Length);
     }
-    Ok(())
+    Ok(way)
 }
 
 // One word, past all tests of the call: answered where that leaves the session as it is; else its page, which is new.
 fn look(
     taken: &[bool; Session::PAGES],
     shape: Shape,
-    way: u32,
+    way: Way,
     word: &mut [u32],
     came: &mut [u32],
     symbols: &mut [u32],
     values: &mut [u32],
 ) -> Option<Brought>
-    requires { Openable shape way word.old × (length came.old ≡ length word.old) × (length symbols.old ≡ info_length shape) × (length values.old ≡ 3) }
-    ensures { Looked (way_of way) shape taken.now word.old word.new came.new symbols.new values.new result }
+    requires { Openable shape (number_of way) word.old × (length came.old ≡ length word.old) × (length symbols.old ≡ info_length shape) × (length values.old ≡ 3) }
+    ensures { Looked (way_of (number_of way)) shape taken.now word.old word.new came.new symbols.new values.new result }
 {
     match open_kept(shape, way, word, came, symbols) {
         Err(e) => {
@@ -99,15 +101,15 @@ fn look(
 // The run word by word, first word first. A refused word keeps its digits, and the others go on; the session moves where a page is new. Room for a word and for its symbols is lent, so that it is made once.
 fn run(
     session: Session,
-    way: u32,
+    way: Way,
     words: &mut [u32],
     scratch: &mut [u32],
     outcomes: &mut [u32],
     came: &mut [u32],
     symbols: &mut [u32],
 ) -> Session
-    requires { Tested session way words.old scratch.old outcomes.old × (length came.old ≡ word_length session.shape) × (length symbols.old ≡ info_length session.shape) }
-    ensures { Arrivals session way words.old scratch.old words.new scratch.new outcomes.new result }
+    requires { Tested session (number_of way) words.old scratch.old outcomes.old × (length came.old ≡ word_length session.shape) × (length symbols.old ≡ info_length session.shape) }
+    ensures { Arrivals session (number_of way) words.old scratch.old words.new scratch.new outcomes.new result }
 {
     let shape = session.shape;
     let size = came.len();
@@ -148,7 +150,7 @@ pub fn arrive_all(
             session,
             status: Err(e),
         },
-        Ok(()) => {
+        Ok(way) => {
             let shape = session.shape;
             let size = word_length(shape);
             let info = info_length(shape);

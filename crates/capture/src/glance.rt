@@ -10,6 +10,7 @@ use crate::{Phase, Seen, Tally};
 use gtb::size::{info_length, word_length};
 use gtb::{Refusal, Shape};
 use session::open::open;
+use session::way::Way;
 use session::{Brought, Outcome, Session};
 
 // What the values of a line bring, read the clean way: tests 1, 18 and 2, then the first step.
@@ -31,7 +32,7 @@ fn open_values(
     let info = info_length(shape);
     open(
         shape,
-        Session::CLEAN,
+        Way::Clean,
         &mut values[..count],
         &mut symbols[..info],
     )

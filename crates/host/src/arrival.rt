@@ -3,6 +3,7 @@ ghost use Rattle.std.specs.Prelude.{◌≡◌, ◌<◌, length};
 ghost use Rattle.gtb.specs.Shape.{info_length, scratch_length};
 ghost use Rattle.session.specs.Session.{Consistent};
 ghost use Rattle.session.specs.Arrival.{way_of, the_ways, Opened, Arriving};
+ghost use Rattle.session.specs.Named.{number_of};
 ghost use Rattle.session.specs.Steps.{Functions, Settling, Deciding};
 ghost use Rattle.host.specs.Crossing.{session_of};
 ghost use Rattle.host.specs.Steps.{AtValues, Fitting};
@@ -14,6 +15,7 @@ use gtb::size::info_length;
 use session::Outcome;
 use session::open::open_kept;
 use session::status::word_status;
+use session::way::Way;
 
 // The symbols of a word that can be longer than its scratch, and of its data: orders up to 13.
 const FEW: usize = 169;
@@ -40,13 +42,13 @@ fn take_page(session: &mut [u32], number: u32, corrected: u32, marks: &[u32]) ->
 fn settle_word(
     session: &mut [u32],
     shape: Shape,
-    way: u32,
+    way: Way,
     word: &mut [u32],
     came: &mut [u32],
     symbols: &mut [u32],
 ) -> Outcome
-    requires { Fitting session.old shape way word.old × (length came.old ≡ length word.old) × (length symbols.old ≡ info_length shape) }
-    ensures { AtValues session.old (λ σ a. Deciding (way_of way) σ word.old word.new a) session.new result }
+    requires { Fitting session.old shape (number_of way) word.old × (length came.old ≡ length word.old) × (length symbols.old ≡ info_length shape) }
+    ensures { AtValues session.old (λ σ a. Deciding (way_of (number_of way)) σ word.old word.new a) session.new result }
 {
     match open_kept(shape, way, word, came, symbols) {
         Err(e) => Outcome::Refused(e),
@@ -67,12 +69,12 @@ fn settle_word(
 fn take_word(
     session: &mut [u32],
     shape: Shape,
-    way: u32,
+    way: Way,
     word: &mut [u32],
     scratch: &mut [u32],
 ) -> Outcome
-    requires { Fitting session.old shape way word.old × (length scratch.old ≡ scratch_length shape) }
-    ensures { AtValues session.old (λ σ a. Deciding (way_of way) σ word.old word.new a) session.new result }
+    requires { Fitting session.old shape (number_of way) word.old × (length scratch.old ≡ scratch_length shape) }
+    ensures { AtValues session.old (λ σ a. Deciding (way_of (number_of way)) σ word.old word.new a) session.new result }
 {
     let size = word.len();
     let info = info_length(shape);
@@ -117,9 +119,10 @@ pub fn arrive(session: &mut [u32], way: u32, word: &mut [u32], scratch: &mut [u3
 {
     let shape = load_shape(&session[..SHAPE]);
     let agree = figures::agree(&session[MARKS..CALLS], session[PAGES], session[LOWEST]);
-    if let Err(e) = word_status(shape, way, agree, word, scratch) {
-        return Outcome::Refused(e);
-    }
+    let way = match word_status(shape, way, agree, word, scratch) {
+        Ok(way) => way,
+        Err(e) => return Outcome::Refused(e),
+    };
     let outcome = take_word(session, shape, way, word, scratch);
     scratch.fill(0);
     outcome

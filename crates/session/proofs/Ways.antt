@@ -3,9 +3,8 @@ use mathlib.Core.Path.{◌≡◌, refl}
 use mathlib.Core.Bool.{true}
 use mathlib.Core.List.{List}
 use mathlib.Core.Logic.{◌⊎◌, inl, inr}
-use Prim.Native.Nat.{ℕ, zero, suc, ◌/◌, ◌<◌, ◌≤◌, zero-le}
+use Prim.Native.Nat.{ℕ, zero, suc, ◌/◌, zero-le}
 use native.Mathlib.Omega.{arith}
-use lib.Dec.{leb}
 use borrow.Author.Tests.{ltb-true, le-leb, leb-true}
 use Rattle.gtb.specs.declared.Shape.{Shape}
 use Rattle.gtb.specs.Shape.{Lawful}
@@ -78,29 +77,14 @@ all_sound s legal = record { sound = λ way known. (all_read way).sound s legal 
 
 -- what each reader ensures is what its way gives
 module _ {s : Shape} {w w' : List ℕ} {r : Result ℕ Refusal} where
-  pub reads_clean : (way : ℕ) → way ≡ 0 → Decoding s w w' r → Reading (way_of way) s w w' r
+  pub reads_clean : Decoding s w w' r → Reading (way_of 0) s w w' r
   unfolding way_of
-  reads_clean way h read = rw h (record { answer = read.answer; word = read.word })
+  reads_clean read = record { answer = read.answer; word = read.word }
 
-  pub reads_vote : (way : ℕ) → way ≡ 1 → Voting s w w' r → Reading (way_of way) s w w' r
+  pub reads_vote : Voting s w w' r → Reading (way_of 1) s w w' r
   unfolding way_of
-  reads_vote way h read = rw h (record { answer = read.answer; word = read.word })
+  reads_vote read = record { answer = read.answer; word = read.word }
 
-  pub reads_two : (way : ℕ) → (way ≡ 0 → ⊥) → (way ≡ 1 → ⊥) → ReadingTwo s w w' r → Reading (way_of way) s w w' r
+  pub reads_two : ReadingTwo s w w' r → Reading (way_of 2) s w w' r
   unfolding way_of
-  reads_two zero h g read = absurd (h refl)
-  reads_two (suc zero) h g read = absurd (g refl)
-  reads_two (suc (suc way)) h g read = record { answer = read.answer; word = read.word }
-
--- test 16: the first two suit every shape, the last one those with three directions or more
-pub suits_early : (way : ℕ) (s : Shape) → way < 2 → (way_of way).suits s ≡ true
-unfolding way_of
-suits_early zero s l = refl
-suits_early (suc zero) s l = refl
-suits_early (suc (suc way)) s l = absurd (omega arith)
-
-pub suits_late : (way : ℕ) (s : Shape) → 2 ≤ way → (way_of way).suits s ≡ leb 3 s.n
-unfolding way_of
-suits_late zero s l = absurd (omega arith)
-suits_late (suc zero) s l = absurd (omega arith)
-suits_late (suc (suc way)) s l = refl
+  reads_two read = record { answer = read.answer; word = read.word }

@@ -4,3 +4,4 @@ pub mod Recording
 pub mod Claim
 pub mod Left
 pub mod Steps
+pub mod Named

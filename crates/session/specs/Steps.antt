@@ -39,6 +39,10 @@ pub record Settling (σ : Session) (o : Opened) (r : Arrived) : Type 0 where
 abbrev pub session_tests : Shape → Bool → Result (Unit {0}) Refusal
 session_tests s agree = unless (lawful s) (Err (shape_refusal s)) (unless agree (Err Refusal.Figures) (Ok tt))
 
+-- test 1 on the number of a way
+abbrev pub way_test : ℕ → Result (Unit {0}) Refusal
+way_test k = unless (is_way k) (Err Refusal.Shape) (Ok tt)
+
 -- those of an arrival that names way k, and those of its word
 abbrev pub arrival_tests : Shape → ℕ → Bool → Result (Unit {0}) Refusal
 arrival_tests s k agree =

@@ -5,7 +5,7 @@ mod figures;
 pub mod number;
 pub mod open;
 pub mod status;
-mod way;
+pub mod way;
 
 ghost use Rattle.std.specs.Prelude.{◌≡◌, cond, ◌<◌, length};
 ghost use Rattle.paper.specs.Session as paper;
@@ -13,10 +13,12 @@ ghost use Rattle.gtb.specs.Answer.{status_number};
 ghost use Rattle.gtb.specs.Shape.{of, info_length};
 ghost use Rattle.session.specs.Session.{plain, Consistent, session_status, counted_of, counted_number, fresh_of, begun_session, begun_status, Beginning};
 ghost use Rattle.session.specs.Arrival.{handed, left, way_of, the_ways, Opened, arrival_status, Arriving, is_accepted, outcome_values};
+ghost use Rattle.session.specs.Named.{number_of, Admits};
 ghost use Rattle.session.specs.Steps.{Adding, Counts, Functions, Settling, Openable, Deciding};
 
 use crate::open::open_kept;
 use crate::status::word_status;
+use crate::way::Way;
 use gtb::code::Code;
 use gtb::size::info_length;
 use gtb::{Refusal, Shape};
@@ -93,12 +95,20 @@ impl Session {
         status::session_status(self.shape, agree)
     }
 
-    // Tests 1, 18, 11 and 16, for arrivals that name this way.
-    pub fn arrival_status(self, way: u32) -> Result<(), Refusal>
-        ensures { result ≡ arrival_status the_ways self way }
+    // Tests 1, 18, 11 and 16, for arrivals that name the way with this number: that way, where they are passed.
+    pub fn admit(self, way: u32) -> Result<Way, Refusal>
+        ensures { Admits (arrival_status the_ways self way) way result }
     {
         let agree = figures::agree(&self.taken, self.pages, self.lowest);
         status::arrival_status(self.shape, way, agree)
+    }
+
+    // The same tests alone.
+    pub fn arrival_status(self, way: u32) -> Result<(), Refusal>
+        ensures { result ≡ arrival_status the_ways self way }
+    {
+        self.admit(way)?;
+        Ok(())
     }
 
     // How often a function was called: tests 1, 18, 11, then 7.
@@ -121,9 +131,10 @@ impl Session {
         ensures paper { paper.Arriving (plain self) (handed way word.old scratch.old) (left result word.new scratch.new) }
     {
         let agree = figures::agree(&self.taken, self.pages, self.lowest);
-        if let Err(e) = word_status(self.shape, way, agree, word, scratch) {
-            return self.refused(e);
-        }
+        let way = match word_status(self.shape, way, agree, word, scratch) {
+            Ok(way) => way,
+            Err(e) => return self.refused(e),
+        };
         scratch.fill(0);
         let size = word.len();
         let info = info_length(self.shape);
@@ -145,13 +156,13 @@ impl Session {
     // Both steps past all tests. Room for what came and for the information symbols is lent.
     fn settle_word(
         self,
-        way: u32,
+        way: Way,
         word: &mut [u32],
         came: &mut [u32],
         symbols: &mut [u32],
     ) -> Arrived
-        requires { Consistent self × Openable self.shape way word.old × (length came.old ≡ length word.old) × (length symbols.old ≡ info_length self.shape) }
-        ensures { Deciding (way_of way) self word.old word.new result }
+        requires { Consistent self × Openable self.shape (number_of way) word.old × (length came.old ≡ length word.old) × (length symbols.old ≡ info_length self.shape) }
+        ensures { Deciding (way_of (number_of way)) self word.old word.new result }
     {
         match open_kept(self.shape, way, word, came, symbols) {
             Err(e) => self.refused(e),

@@ -2,24 +2,25 @@
 ghost use Rattle.std.specs.Prelude.{◌≡◌, length};
 ghost use Rattle.gtb.specs.Shape.{info_length};
 ghost use Rattle.session.specs.Arrival.{way_of};
+ghost use Rattle.session.specs.Named.{number_of};
 ghost use Rattle.session.specs.Steps.{Openable, Opens, Keeps};
 
 use crate::Brought;
-use crate::way::read_word;
+use crate::way::Way;
 use gtb::{Refusal, Shape};
 use page::read_narrow;
 
 // A word past tests 1, 18, 16 and 2, read the way that is named. Where it brings a page, the marks are the symbols from place 2 on.
 pub fn open(
     shape: Shape,
-    way: u32,
+    way: Way,
     word: &mut [u32],
     symbols: &mut [u32],
 ) -> Result<Brought, Refusal>
-    requires { Openable shape way word.old × (length symbols.old ≡ info_length shape) }
-    ensures { Opens (way_of way) shape word.old word.new symbols.new result }
+    requires { Openable shape (number_of way) word.old × (length symbols.old ≡ info_length shape) }
+    ensures { Opens (way_of (number_of way)) shape word.old word.new symbols.new result }
 {
-    let corrected = read_word(shape, way, word)?;
+    let corrected = way.read(shape, word)?;
     gtb::gather(shape, word, symbols);
     let (number, count) = read_narrow(shape, symbols)?;
     Ok(Brought {
@@ -32,13 +33,13 @@ pub fn open(
 // The same for a word that is to stay as it came where it brings no page: what came is kept beside it, and put back.
 pub fn open_kept(
     shape: Shape,
-    way: u32,
+    way: Way,
     word: &mut [u32],
     came: &mut [u32],
     symbols: &mut [u32],
 ) -> Result<Brought, Refusal>
-    requires { Openable shape way word.old × (length came.old ≡ length word.old) × (length symbols.old ≡ info_length shape) }
-    ensures { Keeps (way_of way) shape word.old word.new came.new symbols.new result }
+    requires { Openable shape (number_of way) word.old × (length came.old ≡ length word.old) × (length symbols.old ≡ info_length shape) }
+    ensures { Keeps (way_of (number_of way)) shape word.old word.new came.new symbols.new result }
 {
     came.copy_from_slice(word);
     let opening = open(shape, way, word, symbols);

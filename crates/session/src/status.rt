@@ -1,8 +1,9 @@
 // The tests that come before a word is looked at, in their order. `agree` says whether the session's figures are what its marks say, so that one order serves a session by value and one that is lent as values.
 ghost use Rattle.std.specs.Prelude.{◌≡◌};
+ghost use Rattle.session.specs.Named.{Admits};
 ghost use Rattle.session.specs.Steps.{session_tests, arrival_tests, word_tests};
 
-use crate::way::{is_way, suits};
+use crate::way::Way;
 use gtb::code::Code;
 use gtb::size::{scratch_length, word_length};
 use gtb::{Refusal, Shape};
@@ -18,36 +19,34 @@ pub fn session_status(shape: Shape, agree: bool) -> Result<(), Refusal>
     Ok(())
 }
 
-// Tests 1, 18, 11 and 16, for arrivals that name this way.
-pub fn arrival_status(shape: Shape, way: u32, agree: bool) -> Result<(), Refusal>
-    ensures { result ≡ arrival_tests shape way agree }
+// Tests 1, 18, 11 and 16, for arrivals that name the way with this number.
+pub fn arrival_status(shape: Shape, number: u32, agree: bool) -> Result<Way, Refusal>
+    ensures { Admits (arrival_tests shape number agree) number result }
 {
-    if !is_way(way) {
-        return Err(Refusal::Shape);
-    }
+    let way = Way::try_from(number)?;
     session_status(shape, agree)?;
-    if !suits(shape, way) {
+    if !way.suits(shape) {
         return Err(Refusal::Directions);
     }
-    Ok(())
+    Ok(way)
 }
 
 // These and test 2, for one word.
 pub fn word_status(
     shape: Shape,
-    way: u32,
+    number: u32,
     agree: bool,
     word: &[u32],
     scratch: &[u32],
-) -> Result<(), Refusal>
-    ensures { result ≡ word_tests shape way agree word.now scratch.now }
+) -> Result<Way, Refusal>
+    ensures { Admits (word_tests shape number agree word.now scratch.now) number result }
 {
-    arrival_status(shape, way, agree)?;
+    let way = arrival_status(shape, number, agree)?;
     if word.len() != word_length(shape) {
         return Err(Refusal::Length);
     }
     if scratch.len() != scratch_length(shape) {
         return Err(Refusal::Length);
     }
-    Ok(())
+    Ok(way)
 }

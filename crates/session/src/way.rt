@@ -1,7 +1,8 @@
 // The ways of reading that an arrival may name.
-ghost use Rattle.std.specs.Prelude.{◌≡◌, true};
-ghost use Rattle.session.specs.Arrival.{is_way, way_of};
-ghost use Rattle.session.specs.Steps.{Reading};
+ghost use Rattle.std.specs.Prelude.{◌≡◌};
+ghost use Rattle.session.specs.Arrival.{way_of};
+ghost use Rattle.session.specs.Named.{number_of, Admits};
+ghost use Rattle.session.specs.Steps.{way_test, Reading};
 
 use crate::Session;
 use gtb::{Refusal, Shape};
@@ -20,33 +21,49 @@ impl Session {
     pub const TWO: u32 = 2;
 }
 
-// The number names a way.
-pub fn is_way(way: u32) -> bool
-    ensures { result ≡ is_way way }
-{
-    way < Session::WAYS
+// A way that an arrival names, past test 1.
+#[derive(Clone, Copy)]
+pub enum Way {
+    Clean,
+    Vote,
+    Two,
 }
 
-// Test 16: the way can be used with the shape.
-pub fn suits(shape: Shape, way: u32) -> bool
-    ensures { result ≡ (way_of way).suits shape }
-{
-    if way < Session::TWO {
-        return true;
+impl TryFrom<u32> for Way {
+    type Error = Refusal;
+
+    ghost try_from_gives = { λ k r. Admits (way_test k) k r };
+
+    fn try_from(way: u32) -> Result<Way, Refusal> {
+        match way {
+            Session::CLEAN => Ok(Way::Clean),
+            Session::VOTE => Ok(Way::Vote),
+            Session::TWO => Ok(Way::Two),
+            _ => Err(Refusal::Shape),
+        }
     }
-    shape.n >= 3
 }
 
-// A word read the way that is named: here the ways meet.
-pub fn read_word(shape: Shape, way: u32, word: &mut [u32]) -> Result<u32, Refusal>
-    requires { is_way way ≡ true }
-    ensures { Reading (way_of way) shape word.old word.new result }
-{
-    if way == Session::CLEAN {
-        return decoder::decode(shape, word);
+impl Way {
+    // Test 16: the way can be used with the shape.
+    pub fn suits(self, shape: Shape) -> bool
+        ensures { result ≡ (way_of (number_of self)).suits shape }
+    {
+        match self {
+            Way::Clean => true,
+            Way::Vote => true,
+            Way::Two => shape.n >= 3,
+        }
     }
-    if way == Session::VOTE {
-        return majority::decode_majority(shape, word);
+
+    // A word read this way: here the ways meet.
+    pub fn read(self, shape: Shape, word: &mut [u32]) -> Result<u32, Refusal>
+        ensures { Reading (way_of (number_of self)) shape word.old word.new result }
+    {
+        match self {
+            Way::Clean => decoder::decode(shape, word),
+            Way::Vote => majority::decode_majority(shape, word),
+            Way::Two => double::decode_two(shape, word),
+        }
     }
-    double::decode_two(shape, word)
 }
