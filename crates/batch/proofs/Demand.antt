@@ -1,5 +1,4 @@
 -- Arrivals that come in bundles of any sizes: which they are, and demand 3 of them.
-use Rattle.gtb.specs.declared.Refusal.{Refusal}
 use Rattle.std.specs.Prelude.{Result}
 use mathlib.Core.Path.{◌≡◌, refl, ◌∙◌}
 use mathlib.Core.List.{List, [], ◌∷◌}
@@ -11,6 +10,7 @@ use lib.ListN.{length, length-append, get_or-append}
 use lib.Seq.{get_or_at}
 use Rattle.gtb.specs.declared.Shape.{Shape}
 use Rattle.session.specs.declared.Session.{Session}
+use Rattle.session.specs.declared.Unlawful.{Unlawful}
 use Rattle.session.specs.declared.Outcome.{Outcome}
 use Rattle.session.specs.Session.{begun_session, Beginning}
 use Rattle.session.specs.Arrival.{the_ways}
@@ -49,7 +49,7 @@ batches_run (more bundle whole rest) = run_join (bundle.done whole).run (batches
 batches_run (turned {e = e} bundle is rest) = rw (bundle.refused e is).0 at (batches_run rest)
 
 -- so demand 3 holds of them
-pub demand3_batches : (s : Shape) (pages : List Sheet) (arrivals : List Arrival) (answers : List Outcome) (begin : Result Session Refusal) (end : Session)
-    → Recording s pages → Fits the_ways s pages arrivals → Beginning s begin → Batches (begun_session s begin) arrivals answers end
+pub demand3_batches : (s : Shape) (pages : List Sheet) (arrivals : List Arrival) (answers : List Outcome) (begin : Result Session Unlawful) (end : Session)
+    → Recording s pages → Fits the_ways s pages arrivals → Beginning s begin → Batches (begun_session begin) arrivals answers end
     → Demand3 the_ways s pages begin arrivals answers end
 demand3_batches s pages arrivals answers begin end r fits made batches = demand3_ways s pages arrivals answers begin end r fits made (batches_run batches)

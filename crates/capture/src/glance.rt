@@ -30,12 +30,15 @@ fn open_values(
         return Err(Refusal::Length);
     }
     let info = info_length(shape);
-    open(
+    match open(
         shape,
         Way::Clean,
         &mut values[..count],
         &mut symbols[..info],
-    )
+    ) {
+        Ok(page) => Ok(page),
+        Err(unopened) => Err(unopened.refusal),
+    }
 }
 
 // What a word line brings.

@@ -58,7 +58,7 @@ fn start_session(session: Session, shape: Shape, wrong: Fault) -> Judged
 {
     match Session::fresh(shape) {
         Ok(fresh) => pass(Phase::WordNames, fresh),
-        Err(e) => fail(session, wrong, e),
+        Err(e) => fail(session, wrong, e.refusal),
     }
 }
 

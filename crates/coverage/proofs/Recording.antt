@@ -18,6 +18,7 @@ use Rattle.parity.proofs.Lists.{at_tabulate, length_tabulate}
 use Rattle.gtb.specs.declared.Shape.{Shape}
 use Rattle.gtb.specs.Shape.{lawful}
 use Rattle.session.specs.declared.Session.{Session}
+use Rattle.session.specs.declared.Unlawful.{Unlawful}
 use Rattle.session.specs.declared.Outcome.{Outcome}
 use Rattle.session.specs.Session.{begun_session, Beginning, is_call, count_of, session_status}
 use Rattle.session.specs.Arrival.{Ways, the_ways}
@@ -119,7 +120,7 @@ unfolding bit
 no_is true h = absurd (h refl)
 no_is false h = refl
 
-pub recording_cover : {ways : Ways} {s : Shape} {pages : List Sheet} {begin : Result Session Refusal} {arrivals : List Arrival} {answers : List Outcome} {end : Session} {bytes bytes' : List ℕ} {r : Result ℕ Refusal}
+pub recording_cover : {ways : Ways} {s : Shape} {pages : List Sheet} {begin : Result Session Unlawful} {arrivals : List Arrival} {answers : List Outcome} {end : Session} {bytes bytes' : List ℕ} {r : Result ℕ Refusal}
     → Recording s pages → Demand3 ways s pages begin arrivals answers end → length bytes ≡ 256 → Covering end bytes bytes' r → Viewed pages bytes' r
 unfolding cover_of session_status cover_bytes cover_count
 recording_cover {pages = pages} {end = end} {bytes = bytes} {bytes' = bytes'} {r = r} recording d size c =
@@ -138,8 +139,8 @@ recording_cover {pages = pages} {end = end} {bytes = bytes} {bytes' = bytes'} {r
     byte f l = ap (λ (x : List ℕ). get_or x f 0) left ∙ at_tabulate 256 (cover_byte end.calls) f l ∙ ap bit (called f l)
 
 -- from a recording, a list that fits it and a run to the bytes, if demand 3 is claimed: the crate above shows that
-pub claimed_cover : {s : Shape} → ClaimOf the_ways s → {pages : List Sheet} {begin : Result Session Refusal} {arrivals : List Arrival} {answers : List Outcome} {end : Session} {bytes bytes' : List ℕ} {r : Result ℕ Refusal}
-    → Recording s pages → Fits the_ways s pages arrivals → Beginning s begin → Run the_ways (begun_session s begin) arrivals answers end
+pub claimed_cover : {s : Shape} → ClaimOf the_ways s → {pages : List Sheet} {begin : Result Session Unlawful} {arrivals : List Arrival} {answers : List Outcome} {end : Session} {bytes bytes' : List ℕ} {r : Result ℕ Refusal}
+    → Recording s pages → Fits the_ways s pages arrivals → Beginning s begin → Run the_ways (begun_session begin) arrivals answers end
     → length bytes ≡ 256 → Covering end bytes bytes' r → Viewed pages bytes' r
 claimed_cover claim {pages} {begin} {arrivals} {answers} {end} recording fits made run =
     recording_cover recording (claim pages arrivals answers begin end recording fits made run)

@@ -17,6 +17,7 @@ use Rattle.gtb.specs.Shape.{lawful, Lawful}
 use Rattle.gtb.specs.Answer.{unless}
 use Rattle.gtb.specs.Alike.{Alike}
 use Rattle.session.specs.declared.Session.{Session}
+use Rattle.session.specs.declared.Unlawful.{Unlawful}
 use Rattle.session.specs.declared.Outcome.{Outcome}
 use Rattle.session.specs.Session.{begun_session, Beginning, session_status, past}
 use Rattle.session.specs.Arrival.{Ways, the_ways}
@@ -42,7 +43,7 @@ unfolding bill_of
 bill_alike σ slopes alike prices =
     ap (λ (t : Result (Unit {0}) Refusal). past t Err (unless (eqb (length prices) 256) (Err Refusal.Length) (due (millis (calls_of σ) prices)))) (session_status_alike σ slopes alike)
 
-pub recording_bill : {ways : Ways} {s : Shape} {pages : List Sheet} {begin : Result Session Refusal} {arrivals : List Arrival} {answers : List Outcome} {end : Session}
+pub recording_bill : {ways : Ways} {s : Shape} {pages : List Sheet} {begin : Result Session Unlawful} {arrivals : List Arrival} {answers : List Outcome} {end : Session}
     → Recording s pages → Demand3 ways s pages begin arrivals answers end → (prices : List ℕ) → length prices ≡ 256
     → bill_of end prices
     ≡ unless (ltb (millis (tally pages (λ p. true)) prices) (2 ^ 64)) (Err Refusal.Bill) (Ok (rounded_up (millis (tally pages (λ p. true)) prices)))
@@ -71,8 +72,8 @@ never_over {end = end} legal every prices size priced =
     rw (ap lawful every.shape ∙ legal, every.consistent, eq-eqb (length prices) 256 size, lt-ltb _ (2 ^ 64) (millis_few (calls_of end) prices every.few priced))
 
 -- and for every recording and every list of arrivals that fits it the bill is that of its own tally
-pub fitting_bill : {s : Shape} {pages : List Sheet} {begin : Result Session Refusal} {arrivals : List Arrival} {answers : List Outcome} {end : Session}
-    → Recording s pages → Fits the_ways s pages arrivals → Beginning s begin → Run the_ways (begun_session s begin) arrivals answers end
+pub fitting_bill : {s : Shape} {pages : List Sheet} {begin : Result Session Unlawful} {arrivals : List Arrival} {answers : List Outcome} {end : Session}
+    → Recording s pages → Fits the_ways s pages arrivals → Beginning s begin → Run the_ways (begun_session begin) arrivals answers end
     → (prices : List ℕ) → length prices ≡ 256 → ((f : ℕ) → f < 256 → get_or prices f 0 < 2 ^ 32)
     → bill_of end prices ≡ Ok (rounded_up (millis (tally pages (λ p. true)) prices))
 fitting_bill {s} {pages} {begin} {arrivals} {answers} {end} recording fits made run prices size priced =

@@ -125,6 +125,6 @@ fn main(rt: HostRuntime) {
     });
     match fresh {
         Ok(session) => show(&rt, session),
-        Err(e) => print_refusal(&rt, e),
+        Err(e) => print_refusal(&rt, e.refusal),
     }
 }

@@ -1,6 +1,6 @@
 -- Demand 3 as a program in C meets it: the values that `shaftglimmer_fresh` leaves, then calls, each on the values that the last one left.
 use Rattle.session.specs.declared.Session.{Session}
-use Rattle.gtb.specs.declared.Refusal.{Refusal}
+use Rattle.session.specs.declared.Unlawful.{Unlawful}
 use Rattle.std.specs.Prelude.{Result, ◌≡◌, true, List, [], ◌∷◌, ◌++◌, ℕ, ◌+◌, ◌*◌, ◌<◌, length, get_or, take, Ok}
 use Rattle.gtb.specs.declared.Shape.{Shape}
 use Rattle.session.specs.declared.Outcome.{Outcome}
@@ -27,7 +27,7 @@ pub data Calls : List ℕ → List Arrival → List ℕ → List ℕ → Type 0 
       → Calls values rest later end
 
 -- what a fresh session's values stand for
-abbrev pub begun_with : List ℕ → Result Session Refusal
+abbrev pub begun_with : List ℕ → Result Session Unlawful
 begun_with start = Ok (session_of start)
 
 -- what such calls must show, of a list of arrivals that fits a recording

@@ -16,7 +16,7 @@ pub fn shaftglimmer_fresh(shape: &[u32; 10], session: &mut [u32; SESSION]) -> u3
             store(fresh, session);
             0
         }
-        Err(e) => gtb::number::refused(e),
+        Err(e) => gtb::number::refused(e.refusal),
     }
 }
 

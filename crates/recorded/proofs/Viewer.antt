@@ -10,6 +10,7 @@ use Rattle.std.specs.Prelude.{Result, Ok, Err}
 use Rattle.gtb.specs.Answer.{unless}
 use Rattle.gtb.specs.Alike.{Alike}
 use Rattle.session.specs.declared.Session.{Session}
+use Rattle.session.specs.declared.Unlawful.{Unlawful}
 use Rattle.session.specs.declared.Outcome.{Outcome}
 use Rattle.session.specs.Session.{begun_session, Beginning, past}
 use Rattle.session.specs.Arrival.{the_ways}
@@ -20,8 +21,8 @@ use Rattle.session.proofs.Alikes.{resloped, session_status_alike}
 use Rattle.coverage.specs.Coverage.{cover_count, cover_of, bytes_after, Covering, Viewed}
 use Rattle.coverage.proofs.Recording.{claimed_cover}
 
-pub fitting_cover : {s : Shape} {pages : List Sheet} {begin : Result Session Refusal} {arrivals : List Arrival} {answers : List Outcome} {end : Session} {bytes bytes' : List ℕ} {r : Result ℕ Refusal}
-    → Recording s pages → Fits the_ways s pages arrivals → Beginning s begin → Run the_ways (begun_session s begin) arrivals answers end
+pub fitting_cover : {s : Shape} {pages : List Sheet} {begin : Result Session Unlawful} {arrivals : List Arrival} {answers : List Outcome} {end : Session} {bytes bytes' : List ℕ} {r : Result ℕ Refusal}
+    → Recording s pages → Fits the_ways s pages arrivals → Beginning s begin → Run the_ways (begun_session begin) arrivals answers end
     → length bytes ≡ 256 → Covering end bytes bytes' r → Viewed pages bytes' r
 fitting_cover {s} = claimed_cover (demand3_ways s)
 

@@ -1,5 +1,4 @@
 -- Demand 3 of arrivals whose words were restored first, by the nearest codeword or with a list of dead cells.
-use Rattle.gtb.specs.declared.Refusal.{Refusal}
 use Rattle.std.specs.Prelude.{Result, Ok}
 use mathlib.Core.Path.{◌≡◌, refl, ◌∙◌}
 use mathlib.Core.Bool.{true}
@@ -26,6 +25,7 @@ use Rattle.nearest.proofs.Alikes.{nearest_alike}
 use Rattle.restore.specs.Restore.{reach, weight_beside}
 use Rattle.restore.proofs.Recovering.{recovering_there, restore_right, damage_reaches}
 use Rattle.session.specs.declared.Session.{Session}
+use Rattle.session.specs.declared.Unlawful.{Unlawful}
 use Rattle.session.specs.declared.Outcome.{Outcome}
 use Rattle.session.specs.Session.{begun_session, Beginning}
 use Rattle.session.specs.Arrival.{way_by, is_way, way_of, the_ways}
@@ -83,8 +83,8 @@ repaired_fits law f = record {
 }
 
 -- demand 3
-pub repaired_demand3 : (s : Shape) (pages : List Sheet) (arrivals : List Arrival) (answers : List Outcome) (begin : Result Session Refusal) (end : Session)
-    → Recording s pages → RepairedFits s pages arrivals → Beginning s begin → Run the_ways (begun_session s begin) arrivals answers end
+pub repaired_demand3 : (s : Shape) (pages : List Sheet) (arrivals : List Arrival) (answers : List Outcome) (begin : Result Session Unlawful) (end : Session)
+    → Recording s pages → RepairedFits s pages arrivals → Beginning s begin → Run the_ways (begun_session begin) arrivals answers end
     → Demand3 the_ways s pages begin arrivals answers end
 repaired_demand3 s pages arrivals answers begin end r f = demand3_ways s pages arrivals answers begin end r (repaired_fits r.lawful f)
 

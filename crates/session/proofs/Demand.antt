@@ -17,6 +17,7 @@ use Rattle.gtb.specs.declared.Shape.{Shape}
 use Rattle.gtb.specs.declared.Refusal.{Refusal}
 use Rattle.gtb.specs.Shape.{lawful, Lawful}
 use Rattle.session.specs.declared.Session.{Session}
+use Rattle.session.specs.declared.Unlawful.{Unlawful}
 use Rattle.session.specs.declared.Outcome.{Outcome}
 use Rattle.session.specs.declared.Arrived.{Arrived}
 use Rattle.session.specs.Session.{fresh_of, fresh_status, Beginning, session_status, count_of, counted_of}
@@ -179,17 +180,17 @@ module _ (ways : Ways) (s : Shape) (sound : AllSound ways s) (pages : List Sheet
       ∙ total_end (λ p. 1) ∙ sum_const (length pages) 1 ∙ mul-one (length pages)
 
 -- what `Session::fresh` gives of a lawful shape
-abbrev pub made : Shape → Result Session Refusal
+abbrev pub made : Shape → Result Session Unlawful
 made s = Ok (fresh_of s)
 
 pub made_begins : (s : Shape) → Lawful s → Beginning s (made s)
 unfolding fresh_status
 made_begins s legal = record { session = refl; status = rw legal refl }
 
-begins_made : {s : Shape} {begin : Result Session Refusal} → Lawful s → Beginning s begin → begin ≡ made s
+begins_made : {s : Shape} {begin : Result Session Unlawful} → Lawful s → Beginning s begin → begin ≡ made s
 unfolding fresh_status
 begins_made {begin = Ok σ} legal b = ap Ok b.session
-begins_made {begin = Err e} legal b = let status : ◌≡◌ {A = Result (Unit {0}) Refusal} (Err e) (Ok tt) = rw legal at b.status in absurd (never_done e status)
+begins_made {begin = Err e} legal b = let status : ◌≡◌ {A = Result (Unit {0}) Refusal} (Err e.refusal) (Ok tt) = rw legal at b.status in absurd (never_done e.refusal status)
 
 from_made : (ways : Ways) (s : Shape) → AllSound ways s → (pages : List Sheet) (arrivals : List Arrival) (answers : List Outcome) (end : Session)
     → Recording s pages → Fits ways s pages arrivals → Run ways (fresh_of s) arrivals answers end → Demand3 ways s pages (made s) arrivals answers end

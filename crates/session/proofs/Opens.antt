@@ -1,6 +1,6 @@
 -- The first step of an arrival, and both steps: what a word brings, and what the session makes of it.
 use mathlib.Core.Path.{◌≡◌, sym, ap, ap₂, ◌∙◌, subst}
-use mathlib.Core.Bool.{true, false, cond}
+use mathlib.Core.Bool.{Bool, true, false, cond}
 use mathlib.Core.List.{List}
 use Prim.Native.Nat.{ℕ, ◌+◌, ◌-◌, ◌^◌}
 use native.Mathlib.Omega.{arith}
@@ -21,10 +21,11 @@ use Rattle.page.proofs.Pages.{marks_of_lem, page_facts, marks_within}
 use Rattle.page.proofs.Parts.{marks_part}
 use Rattle.session.specs.declared.Session.{Session}
 use Rattle.session.specs.declared.Brought.{Brought}
+use Rattle.session.specs.declared.Unopened.{Unopened}
 use Rattle.session.specs.declared.Outcome.TheVariants.{Again, Refused}
 use Rattle.session.specs.declared.Arrived.{Arrived}
 use Rattle.session.specs.Arrival.{Way, way_of, Opened, Page, Bad, open_page, open_word, is_accepted}
-use Rattle.session.specs.Steps.{Functions, Reading, Settling, page_brought, told, Readable, Tells, Opens, Keeps, Deciding}
+use Rattle.session.specs.Steps.{Functions, Reading, Settling, page_brought, told, Readable, Tells, brought_or, is_restored, Opens, Keeps, Deciding}
 use Rattle.session.proofs.Settle.{settle_bad, settle_again}
 use Rattle.session.proofs.Ways.{all_read}
 
@@ -68,8 +69,12 @@ gathered_narrow s word {symbols} h is =
 
 -- ---- a word, read by the way with this number
 module _ (way : ℕ) (s : Shape) {word word' : List ℕ} {found : Result ℕ Refusal} (read : Reading (way_of way) s word word' found) where
-  pub opens_refused : {e : Refusal} {symbols : List ℕ} → found ≡ Err e → Opens (way_of way) s word word' symbols (Err e)
-  opens_refused h = record { tells = tells_refused (rw (sym read.answer ∙ h)); left = read.word ∙ ap (decoded_word word ((way_of way).word s word)) read.answer }
+  pub opens_refused : {e : Refusal} {symbols : List ℕ} → found ≡ Err e → Opens (way_of way) s word word' symbols (Err (record { refusal = e; restored = false }))
+  opens_refused h = record {
+    tells = tells_refused (rw (sym read.answer ∙ h));
+    left = read.word ∙ ap (decoded_word word ((way_of way).word s word)) read.answer;
+    told_left = read.word ∙ ap (decoded_word word ((way_of way).word s word)) h;
+  }
 
   module _ {k : ℕ} (h : found ≡ Ok k) where
     answered : (way_of way).answer s word ≡ Ok k
@@ -81,10 +86,12 @@ module _ (way : ℕ) (s : Shape) {word word' : List ℕ} {found : Result ℕ Ref
     pub opens_word : Word s word'
     opens_word = rw restored ((all_read way).reached s word k answered).codeword.word
 
-    pub opens_page : {symbols : List ℕ} {r : Result Brought Refusal} → Tells (open_word s word' (Ok k)) symbols r → Opens (way_of way) s word word' symbols r
-    opens_page {symbols} {r} tells = record {
-      tells = subst (λ (o : Opened). Tells o symbols r) (rw (answered, ← restored)) tells;
+    pub opens_page : {symbols : List ℕ} {r : Result Brought Unopened} → is_restored r ≡ true → Tells (open_word s word' (Ok k)) symbols (brought_or r)
+        → Opens (way_of way) s word word' symbols r
+    opens_page {symbols} {r} stands tells = record {
+      tells = subst (λ (o : Opened). Tells o symbols (brought_or r)) (rw (answered, ← restored)) tells;
       left = read.word ∙ ap (decoded_word word ((way_of way).word s word)) read.answer;
+      told_left = restored ∙ sym (ap (λ (b : Bool). cond b ((way_of way).word s word) word) stands);
     }
 
 -- the marks as the code lends them

@@ -16,6 +16,7 @@ use Rattle.gtb.specs.Answer.{unless, status_number}
 use Rattle.gtb.proofs.Judging.{Decides, decides_eqb, decides_both, test}
 use Rattle.gtb.proofs.Conditions.{shape_tests}
 use Rattle.session.specs.declared.Session.{Session}
+use Rattle.session.specs.declared.Unlawful.{Unlawful}
 use Rattle.session.specs.Session.{begun_session, begun_status, plain, marked, pages_of, lowest_of, consistent, session_status, past, fresh_of, fresh_status, Beginning, counted_of, counted_number}
 
 -- ---- test 11
@@ -67,9 +68,9 @@ module _ (σ : Session) where
   counting_asked f h = (h, counting f h)
 
 -- ---- the fresh session
-pub beginning : (s : Shape) (r : Result Session Refusal) → Beginning s r → paper.Beginning (of s) (plain (begun_session s r)) (status_number (begun_status r))
+pub beginning : (s : Shape) (r : Result Session Unlawful) → Beginning s r → paper.Beginning (of s) (plain (begun_session r)) (status_number (begun_status r))
 unfolding fresh_status fresh_of
 beginning s r x = shape_tests s Err _ (ap status_number) (ap status_number) (λ _ h. (ap status_number h, ap plain x.session)) x.status
 
-pub beginning_asked : {s : Shape} {r : Result Session Refusal} → Beginning s r → Beginning s r × paper.Beginning (of s) (plain (begun_session s r)) (status_number (begun_status r))
+pub beginning_asked : {s : Shape} {r : Result Session Unlawful} → Beginning s r → Beginning s r × paper.Beginning (of s) (plain (begun_session r)) (status_number (begun_status r))
 beginning_asked {s} {r} x = (x, beginning s r x)

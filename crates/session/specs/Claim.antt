@@ -4,6 +4,7 @@ use Rattle.parity.specs.Count.{any, count, lowest_not}
 use Rattle.gtb.specs.declared.Shape.{Shape}
 use Rattle.gtb.specs.declared.Refusal.{Refusal}
 use Rattle.session.specs.declared.Session.{Session}
+use Rattle.session.specs.declared.Unlawful.{Unlawful}
 use Rattle.session.specs.declared.Outcome.{Outcome}
 use Rattle.session.specs.declared.Outcome.TheVariants.{Taken, Again, Refused}
 use Rattle.session.specs.declared.Arrived.{Arrived}
@@ -96,11 +97,11 @@ pub record SameSheets (pages others : List Sheet) : Type 0 where
   pub back : (j : ℕ) → j < length others → (i : ℕ) × (i < length pages) × (sheet_at pages i ≡ sheet_at others j)
 
 -- what such a list must show, from what `Session::fresh` gave on
-pub record Demand3 (ways : Ways) (s : Shape) (pages : List Sheet) (begin : Result Session Refusal) (arrivals : List Arrival) (answers : List Outcome) (end : Session) : Type 0 where
+pub record Demand3 (ways : Ways) (s : Shape) (pages : List Sheet) (begin : Result Session Unlawful) (arrivals : List Arrival) (answers : List Outcome) (end : Session) : Type 0 where
   -- the session was made
   pub made : begun_status begin ≡ Ok tt
   -- after every prefix the counts are those of the pages that have come unrefused so far
-  pub sofar : (m : ℕ) → m ≤ length arrivals → (first : List Outcome) (σ : Session) → Run ways (begun_session s begin) (take m arrivals) first σ
+  pub sofar : (m : ℕ) → m ≤ length arrivals → (first : List Outcome) (σ : Session) → Run ways (begun_session begin) (take m arrivals) first σ
       → (first ≡ take m answers) × ((f : ℕ) → f < 256 → get_or σ.calls f 0 ≡ tally pages (λ p. come ways s arrivals m p.number) f)
   -- and a page of the recording has come so far exactly if an arrival so far brings it
   pub came : (m : ℕ) → m ≤ length arrivals → (i : ℕ) → i < length pages
@@ -116,14 +117,14 @@ pub record Demand3 (ways : Ways) (s : Shape) (pages : List Sheet) (begin : Resul
   -- taken is answered as often as the recording has pages
   pub taken : count (length answers) (λ j. is_taken (answer_at answers j)) ≡ length pages
   -- an arrival that is turned down is answered with that number, and what holds of every list holds of this one
-  pub every : EveryList ways s (begun_session s begin) arrivals answers end
+  pub every : EveryList ways s (begun_session begin) arrivals answers end
   -- the list fits no other recording of this shape
   pub only : (others : List Sheet) → Recording s others → Fits ways s others arrivals → SameSheets pages others
 
 -- for every recording, every list of arrivals, each by its own way, that fits it, and whatever run of them from what `Session::fresh` ensures on
 abbrev pub ClaimOf : Ways → Shape → Type 0
-ClaimOf ways s = (pages : List Sheet) (arrivals : List Arrival) (answers : List Outcome) (begin : Result Session Refusal) (end : Session)
-    → Recording s pages → Fits ways s pages arrivals → Beginning s begin → Run ways (begun_session s begin) arrivals answers end
+ClaimOf ways s = (pages : List Sheet) (arrivals : List Arrival) (answers : List Outcome) (begin : Result Session Unlawful) (end : Session)
+    → Recording s pages → Fits ways s pages arrivals → Beginning s begin → Run ways (begun_session begin) arrivals answers end
     → Demand3 ways s pages begin arrivals answers end
 
 -- the one claim, of any ways of reading that are sound

@@ -8,6 +8,7 @@ use Rattle.gtb.specs.declared.Refusal.{Refusal}
 use Rattle.gtb.specs.Shape.{of, lawful, shape_refusal}
 use Rattle.gtb.specs.Answer.{refusal_number, unless}
 use Rattle.session.specs.declared.Session.{Session}
+use Rattle.session.specs.declared.Unlawful.{Unlawful}
 
 -- a session in the paper's numbers
 abbrev pub plain : Session → paper.Session
@@ -40,18 +41,19 @@ fresh_of s = record { shape = s; taken = replicate 1024 false; calls = replicate
 unfoldable pub fresh_status : Shape → Result (Unit {0}) Refusal
 fresh_status s = unless (lawful s) (Err (shape_refusal s)) (Ok tt)
 
--- what making one gives: the session, beside a refusal that of the shape, of use to nobody
-abbrev pub begun_session : Shape → Result Session Refusal → Session
-begun_session s (Ok σ) = σ
-begun_session s (Err e) = fresh_of s
+-- the session that is made; beside a refusal stands that of the shape, of use to nobody
+abbrev pub begun_session : Result Session Unlawful → Session
+begun_session (Ok σ) = σ
+begun_session (Err e) = e.session
 
 -- and the answer
-abbrev pub begun_status : Result Session Refusal → Result (Unit {0}) Refusal
+abbrev pub begun_status : Result Session Unlawful → Result (Unit {0}) Refusal
 begun_status (Ok σ) = Ok tt
-begun_status (Err e) = Err e
+begun_status (Err e) = Err e.refusal
 
-pub record Beginning (s : Shape) (r : Result Session Refusal) : Type 0 where
-  pub session : begun_session s r ≡ fresh_of s
+-- what making one gives
+pub record Beginning (s : Shape) (r : Result Session Unlawful) : Type 0 where
+  pub session : begun_session r ≡ fresh_of s
   pub status : begun_status r ≡ fresh_status s
 
 -- a mark that is a call: 0 is the idle loop (N5)

@@ -9,6 +9,7 @@ use Rattle.correction.specs.Answer.{decoded_word}
 use Rattle.session.specs.declared.Session.{Session}
 use Rattle.session.specs.declared.Arrived.{Arrived}
 use Rattle.session.specs.declared.Brought.{Brought}
+use Rattle.session.specs.declared.Unopened.{Unopened}
 use Rattle.session.specs.Session.{marked, Consistent, past, added, overflows}
 use Rattle.session.specs.Arrival.{Way, is_way, way_of, Opened, Page, Bad, open_word, outcome_of, session_after, word_after}
 
@@ -96,10 +97,21 @@ pub record Tells (o : Opened) (symbols : List ℕ) (r : Result Brought Refusal) 
   pub brought : told r symbols ≡ o
   pub readable : (number c k : ℕ) → r ≡ page_brought number c k → Readable number c symbols
 
--- the first step of an arrival: the word stands restored where it was read
-pub record Opens (way : Way) (s : Shape) (word word' symbols' : List ℕ) (r : Result Brought Refusal) : Type 0 where
-  pub tells : Tells (opened_by way s word) symbols' r
+-- the page, or the refusal alone
+abbrev pub brought_or : Result Brought Unopened → Result Brought Refusal
+brought_or (Ok page) = Ok page
+brought_or (Err e) = Err e.refusal
+
+-- the answer tells whether the word was read, so that it stands restored
+abbrev pub is_restored : Result Brought Unopened → Bool
+is_restored (Ok page) = true
+is_restored (Err e) = e.restored
+
+-- the first step of an arrival: the word stands restored where it was read, as the answer tells
+pub record Opens (way : Way) (s : Shape) (word word' symbols' : List ℕ) (r : Result Brought Unopened) : Type 0 where
+  pub tells : Tells (opened_by way s word) symbols' (brought_or r)
   pub left : word' ≡ decoded_word word (way.word s word) (way.answer s word)
+  pub told_left : word' ≡ cond (is_restored r) (way.word s word) word
 
 -- the same with what came kept, and put back where it brings no page
 pub record Keeps (way : Way) (s : Shape) (word word' came' symbols' : List ℕ) (r : Result Brought Refusal) : Type 0 where

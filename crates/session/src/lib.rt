@@ -58,6 +58,36 @@ pub struct Brought {
     pub corrected: u32,
 }
 
+// No page: the refusal, and whether the word was read, so that it stands restored.
+#[derive(Clone, Copy)]
+pub struct Unopened {
+    pub refusal: Refusal,
+    pub restored: bool,
+}
+
+impl From<Unopened> for Refusal {
+    ghost from_gives = { λ e r. r ≡ e.refusal };
+
+    fn from(unopened: Unopened) -> Refusal {
+        unopened.refusal
+    }
+}
+
+// No session begins with an unlawful shape. Beside the refusal stands the session of that shape with only no and zeros, which every entry refuses alike.
+#[derive(Clone, Copy)]
+pub struct Unlawful {
+    pub refusal: Refusal,
+    pub session: Session,
+}
+
+impl From<Unlawful> for Refusal {
+    ghost from_gives = { λ e r. r ≡ e.refusal };
+
+    fn from(unlawful: Unlawful) -> Refusal {
+        unlawful.refusal
+    }
+}
+
 impl Session {
     // Page numbers are below this.
     pub const PAGES: usize = 1024;
@@ -79,12 +109,15 @@ impl Session {
     }
 
     // One of a shape that tests 1 and 18 let pass.
-    pub fn fresh(shape: Shape) -> Result<Session, Refusal>
+    pub fn fresh(shape: Shape) -> Result<Session, Unlawful>
         ensures begun { Beginning shape result }
-        ensures paper { paper.Beginning (of shape) (plain (begun_session shape result)) (status_number (begun_status result)) }
+        ensures paper { paper.Beginning (of shape) (plain (begun_session result)) (status_number (begun_status result)) }
     {
-        let code = Code::of(shape)?;
-        Ok(Session::blank(code.shape))
+        let session = Session::blank(shape);
+        match Code::of(shape) {
+            Ok(_) => Ok(session),
+            Err(refusal) => Err(Unlawful { refusal, session }),
+        }
     }
 
     // Tests 1, 18 and 11.

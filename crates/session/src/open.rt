@@ -5,7 +5,7 @@ ghost use Rattle.session.specs.Arrival.{way_of};
 ghost use Rattle.session.specs.Named.{number_of};
 ghost use Rattle.session.specs.Steps.{Openable, Opens, Keeps};
 
-use crate::Brought;
+use crate::{Brought, Unopened};
 use crate::way::Way;
 use gtb::{Refusal, Shape};
 use page::read_narrow;
@@ -16,18 +16,31 @@ pub fn open(
     way: Way,
     word: &mut [u32],
     symbols: &mut [u32],
-) -> Result<Brought, Refusal>
+) -> Result<Brought, Unopened>
     requires { Openable shape (number_of way) word.old × (length symbols.old ≡ info_length shape) }
     ensures { Opens (way_of (number_of way)) shape word.old word.new symbols.new result }
 {
-    let corrected = way.read(shape, word)?;
+    let corrected = match way.read(shape, word) {
+        Ok(corrected) => corrected,
+        Err(refusal) => {
+            return Err(Unopened {
+                refusal,
+                restored: false,
+            });
+        }
+    };
     gtb::gather(shape, word, symbols);
-    let (number, count) = read_narrow(shape, symbols)?;
-    Ok(Brought {
-        number,
-        count,
-        corrected,
-    })
+    match read_narrow(shape, symbols) {
+        Ok((number, count)) => Ok(Brought {
+            number,
+            count,
+            corrected,
+        }),
+        Err(refusal) => Err(Unopened {
+            refusal,
+            restored: true,
+        }),
+    }
 }
 
 // The same for a word that is to stay as it came where it brings no page: what came is kept beside it, and put back.
@@ -42,9 +55,13 @@ pub fn open_kept(
     ensures { Keeps (way_of (number_of way)) shape word.old word.new came.new symbols.new result }
 {
     came.copy_from_slice(word);
-    let opening = open(shape, way, word, symbols);
-    if opening.is_err() {
-        word.copy_from_slice(came);
+    match open(shape, way, word, symbols) {
+        Ok(page) => Ok(page),
+        Err(unopened) => {
+            if unopened.restored {
+                word.copy_from_slice(came);
+            }
+            Err(unopened.refusal)
+        }
     }
-    opening
 }

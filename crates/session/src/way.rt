@@ -21,6 +21,9 @@ impl Session {
     pub const TWO: u32 = 2;
 }
 
+// There is no way past the last one.
+const _: () = prove!(Session::WAYS == Session::TWO + 1);
+
 // A way that an arrival names, past test 1.
 #[derive(Clone, Copy)]
 pub enum Way {

@@ -55,8 +55,16 @@ open-requires c =
     let info-room : c.info_length-info.result ≤ length c.args.symbols.now = omega (arith, c.info_length-info.ensures, (sizes _ legal).info, c.requires.1) in
     (record { known = refl; lawful = legal; suits = refl; size = length-take-le _ _ word_room ∙ size }, length-take-le _ _ info-room ∙ c.info_length-info.ensures)
 
-pub returns : goal.returns
-returns c =
+pub returns-in-Ok : goal.returns-in-Ok
+returns-in-Ok c =
     let legal : Lawful c.args.shape = sym c.is_lawful.ensures ∙ c.if-not-is_lawful.false in
     let size : c.args.count ≡ word_length c.args.shape = c.if-count-word_length.false ∙ c.word_length.ensures in
-    λ line h. tells_front c.open.ensures.tells (brings_word _ h legal size c.requires.0) _
+    let told = c.open.ensures.tells in
+    λ line h. tells_front (rw c.in-Ok.is at told) (brings_word _ h legal size c.requires.0) _
+
+pub returns-in-Err : goal.returns-in-Err
+returns-in-Err c =
+    let legal : Lawful c.args.shape = sym c.is_lawful.ensures ∙ c.if-not-is_lawful.false in
+    let size : c.args.count ≡ word_length c.args.shape = c.if-count-word_length.false ∙ c.word_length.ensures in
+    let told = c.open.ensures.tells in
+    λ line h. tells_front (rw c.in-Err.is at told) (brings_word _ h legal size c.requires.0) _

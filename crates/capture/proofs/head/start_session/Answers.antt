@@ -6,7 +6,7 @@ use Rattle.capture.proofs.head.start_session.Goals as goal
 
 pub returns-in-Ok : goal.returns-in-Ok
 returns-in-Ok c = let f = c.fresh.ensures.begun in
-    rw (sym f.status ∙ ap begun_status c.in-Ok.is) (c.pass.ensures ∙ ap (passed _) (sym (ap (begun_session c.args.shape) c.in-Ok.is) ∙ f.session))
+    rw (sym f.status ∙ ap begun_status c.in-Ok.is) (c.pass.ensures ∙ ap (passed _) (sym (ap begun_session c.in-Ok.is) ∙ f.session))
 
 pub returns-in-Err : goal.returns-in-Err
 returns-in-Err c = let f = c.fresh.ensures.begun in

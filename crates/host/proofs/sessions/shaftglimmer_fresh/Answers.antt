@@ -23,7 +23,7 @@ pub returns-in-Ok : goal.returns-in-Ok
 returns-in-Ok c =
     let loaded = c.load_shape.ensures in
     let ten : length c.args.shape.now ≡ 10 = search rules in
-    let same : begun_session c.load_shape.result c.fresh.result ≡ c.in-Ok.fresh = ap (begun_session c.load_shape.result) c.in-Ok.is in
+    let same : begun_session c.fresh.result ≡ c.in-Ok.fresh = ap begun_session c.in-Ok.is in
     let begun : c.in-Ok.fresh ≡ fresh_of c.load_shape.result = sym same ∙ c.fresh.ensures.begun.session in
     let asked : paper.Beginning (of c.load_shape.result) (plain c.in-Ok.fresh) (status_number (begun_status c.fresh.result)) =
     subst (λ (σ : Session). paper.Beginning (of c.load_shape.result) (plain σ) (status_number (begun_status c.fresh.result))) same c.fresh.ensures.paper in
