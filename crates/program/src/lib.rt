@@ -132,6 +132,13 @@ impl State {
         self.onward(input, Action::Take, self.size)
     }
 
+    // The read failed.
+    pub fn read_failed(self) -> State
+        ensures { result ≡ toward_of Action.BlameInput self }
+    {
+        self.toward(Action::BlameInput)
+    }
+
     // After a block, whose answers make the output this long. After a fault, and past the limit, nothing is read.
     fn moved(self, ended: bool, size: usize) -> State
         ensures { result ≡ taken_of self ended size }
@@ -184,6 +191,13 @@ impl State {
         }
     }
 
+    // The write failed.
+    pub fn write_failed(self) -> State
+        ensures { result ≡ toward_of Action.BlameOutput self }
+    {
+        self.toward(Action::BlameOutput)
+    }
+
     // The clock's second. The progress line is drawn once a second at most.
     pub fn looked(self, second: u64) -> State
         ensures { result ≡ looked_of self second }
@@ -200,5 +214,19 @@ impl State {
             },
             ..self
         }
+    }
+
+    // The progress line is drawn.
+    pub fn drew(self) -> State
+        ensures { result ≡ toward_of Action.Read self }
+    {
+        self.toward(Action::Read)
+    }
+
+    // All is said.
+    pub fn stopped(self) -> State
+        ensures { result ≡ toward_of Action.Stop self }
+    {
+        self.toward(Action::Stop)
     }
 }

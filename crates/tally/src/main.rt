@@ -83,7 +83,7 @@ fn read(
         Ok(count) => state.received(count),
         Err(error) => {
             *reason = error;
-            state.toward(Action::BlameInput)
+            state.read_failed()
         }
     }
 }
@@ -97,7 +97,7 @@ fn write(rt: &HostRuntime, state: State, text: &[u8], reason: &mut io::Error) ->
         Ok(()) => state.written(),
         Err(error) => {
             *reason = error;
-            state.toward(Action::BlameOutput)
+            state.write_failed()
         }
     }
 }
@@ -107,7 +107,7 @@ fn blame(rt: &HostRuntime, state: State, name: &[u8], reason: io::Error) -> Stat
     ensures { result ≡ toward_of action.Stop state }
 {
     complain(rt, state.watch.drawn, name, reason);
-    state.toward(Action::Stop)
+    state.stopped()
 }
 
 // What is to be done, where the reader stays as it is. Of the others there is nothing to do here.
@@ -130,15 +130,15 @@ fn act(
         Action::Look => state.looked(second(rt)),
         Action::Draw => {
             say(rt, program::progress(state, reader).as_slice());
-            state.toward(Action::Read)
+            state.drew()
         }
         Action::Say => {
             say(rt, program::ending(state, reader).as_slice());
-            state.toward(Action::Stop)
+            state.stopped()
         }
         Action::BlameInput => blame(rt, state, name, *reason),
         Action::BlameOutput => blame(rt, state, b"standard output", *reason),
-        Action::Take | Action::Close | Action::Stop => state.toward(Action::Stop),
+        Action::Take | Action::Close | Action::Stop => state.stopped(),
     }
 }
 

@@ -7,10 +7,10 @@ pub returns-in-Look : goal.returns-in-Look
 returns-in-Look g c = λ pos. stepped_by c.looked.ensures (looked_stepped _ c.requires _ c.in-Look.is)
 
 pub returns-in-Draw : goal.returns-in-Draw
-returns-in-Draw g c = λ pos. stepped_by c.toward.ensures (drawn_stepped _ c.requires c.in-Draw.is)
+returns-in-Draw g c = λ pos. stepped_by c.drew.ensures (drawn_stepped _ c.requires c.in-Draw.is)
 
 pub returns-in-Say : goal.returns-in-Say
-returns-in-Say g c = λ pos. stopped_stepped c.requires pos c.toward-in-Say.ensures
+returns-in-Say g c = λ pos. stopped_stepped c.requires pos c.stopped.ensures
 
 pub returns-in-BlameInput : goal.returns-in-BlameInput
 returns-in-BlameInput g c = λ pos. stopped_stepped c.requires pos c.blame.ensures
@@ -19,4 +19,4 @@ pub returns-in-BlameOutput : goal.returns-in-BlameOutput
 returns-in-BlameOutput g c = λ pos. stopped_stepped c.requires pos c.blame-in-BlameOutput.ensures
 
 pub returns-in-Take : goal.returns-in-Take
-returns-in-Take g c = λ pos. stopped_stepped c.requires pos c.toward-in-Take.ensures
+returns-in-Take g c = λ pos. stopped_stepped c.requires pos c.stopped-in-Take.ensures

@@ -15,4 +15,4 @@ returns-in-Ok g c =
     stepped_by c.received.ensures (received_stepped _ c.requires.0 _ c.requires.1 few.0 few.1)
 
 pub returns-in-Err : goal.returns-in-Err
-returns-in-Err g c = stepped_by c.toward.ensures (ended_stepped _ c.requires.0 BlameInput (omega (arith, ap rank c.requires.1)) (omega arith))
+returns-in-Err g c = stepped_by c.read_failed.ensures (ended_stepped _ c.requires.0 BlameInput (omega (arith, ap rank c.requires.1)) (omega arith))

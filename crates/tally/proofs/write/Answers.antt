@@ -9,4 +9,4 @@ pub returns-in-Ok : goal.returns-in-Ok
 returns-in-Ok c = stepped_by c.written.ensures (written_stepped _ c.requires.0 c.requires.1)
 
 pub returns-in-Err : goal.returns-in-Err
-returns-in-Err c = stepped_by c.toward.ensures (ended_stepped _ c.requires.0 BlameOutput (omega (arith, ap rank c.requires.1)) (omega arith))
+returns-in-Err c = stepped_by c.write_failed.ensures (ended_stepped _ c.requires.0 BlameOutput (omega (arith, ap rank c.requires.1)) (omega arith))
