@@ -1,4 +1,5 @@
 pub mod Texts
+pub mod Filled
 pub mod Moves
 pub mod Stands
 pub mod Worlds

@@ -1,23 +1,30 @@
 // A short text that is put together piece by piece.
-ghost use Rattle.std.specs.Prelude.{◌≡◌, cond, List, [], ◌++◌, ℕ, ◌+◌, ◌≤◌, length, take};
+ghost use Rattle.std.specs.Prelude.{◌≡◌, cond, [], ◌++◌, ◌+◌, ◌≤◌, length};
 ghost use Rattle.lines.specs.Text.{decimal};
 ghost use Rattle.program.specs.Shown.{numbered};
 
 use std::marker::Model;
 
-// The first `size` bytes.
-#[derive(Drop)]
+// The first `size` bytes. Those behind are zeros, so that the text alone says which bytes there are.
+#[derive(Clone, Copy)]
 pub struct Text {
     bytes: [u8; 400],
     size: usize,
 }
 
 impl Model for Text {
+    ghost use Rattle.std.specs.Prelude.{List, ◌++◌, ℕ, ◌-◌, length, take, replicate};
+    ghost use Rattle.program.specs.Filled.{Filled, given_size, given_bytes};
+
     ghost Value = { List ℕ };
 
     ghost view = { λ t. take t.size t.bytes };
 
-    ghost invariant = { λ t. t.size ≤ 400 };
+    ghost invariant = { λ t. Filled t.size t.bytes };
+
+    ghost inverse = { λ text. record { bytes = text ++ replicate (400 - length text) 0; size = length text } };
+
+    ghost inverse_ok = { λ t h i. record { bytes = given_bytes h i; size = given_size h i } };
 }
 
 impl Text {
