@@ -1,7 +1,7 @@
 // The tally of a capture, a file or standard input, to standard output. What to do is decided in `program`; this reads, writes and looks at the clock, and reports what came of it.
 #![tactic(auto)]
 
-ghost use Rattle.std.specs.Prelude.{◌≡◌, ◌<◌};
+ghost use Rattle.std.specs.Prelude.{◌≡◌, ◌≤◌, ◌<◌, length};
 ghost use Rattle.program.specs.declared.Action.TheVariants as action;
 ghost use Rattle.program.specs.Moves.{toward_of};
 ghost use Rattle.program.specs.Steps.{rank, Sound, Stepped};
@@ -25,7 +25,9 @@ fn say(rt: &HostRuntime, text: &[u8]) {
 }
 
 // What the system says of an error, in this buffer. Of `std`'s text the number that ends it is left out.
-fn put_reason(reason: io::Error, text: &mut [u8]) -> &[u8] {
+fn put_reason(reason: io::Error, text: &mut [u8]) -> &[u8]
+    ensures { length result.now ≤ length text.old }
+{
     let all = text.len();
     let mut rest = &mut text[..];
     let _ = write!(rest, "{reason}");
