@@ -143,6 +143,17 @@ pub fn is_narrow(symbols: &[u32], b: u32) -> bool
     are_below(symbols, b)
 }
 
+// Copies `from` to the front of `to`.
+// Kept as a loop: between two lists that are both lent, `copy_from_slice` is a call of memmove, which the archive for C is not to need.
+pub fn copy(from: &[u32], to: &mut [u32])
+    requires { length from.now ≤ length to.old }
+    ensures { to.new ≡ from.now ++ drop (length from.now) to.old }
+{
+    for i in 0..from.len() {
+        to[i] = from[i];
+    }
+}
+
 // Copies `count` symbols of `from`, from place `start` on, to place `a` of `to`.
 // Kept as a loop: with copy_from_slice the compiler makes no code of its own for each order any more, and writing takes up to twice as long.
 pub fn copy_run(to: &mut [u32], from: &[u32], a: usize, start: usize, count: usize)

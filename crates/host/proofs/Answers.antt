@@ -14,7 +14,7 @@ use Rattle.gtb.specs.Answer.{refusal_number, status_number}
 use Rattle.session.specs.declared.Session.{Session}
 use Rattle.session.specs.declared.Brought.{Brought}
 use Rattle.session.specs.declared.Outcome.{Outcome}
-use Rattle.session.specs.declared.Outcome.TheVariants.{Again, Refused}
+use Rattle.session.specs.declared.Outcome.TheVariants.{Taken, Again, Refused}
 use Rattle.session.specs.declared.Arrived.{Arrived}
 use Rattle.session.specs.Session.{marked, fresh_of, fresh_status}
 use Rattle.session.specs.Arrival.{way_of, the_ways, Page, is_accepted, outcome_values, Arriving}
@@ -42,6 +42,12 @@ module _ (s : Shape) (session : List ℕ) where
 
   pub fresh_done : {σ : Session} {session' : List ℕ} → fresh_status s ≡ Ok tt → σ ≡ fresh_of s → session' ≡ values_of σ → FreshCrossing s session session' 0
   fresh_done h f v = record { answer = rw h; left = rw h (v ∙ ap values_of f) }
+
+-- ---- the session is written after a page was taken, and is as it was after every other answer
+pub as_it_was : (session : List ℕ) (σ : Session) (o : Outcome) → ((p k : ℕ) → o ≡ Taken p k → ⊥) → session ≡ session_in session σ o
+as_it_was session σ (Taken p k) other = absurd (other p k refl)
+as_it_was session σ (Again p k) other = refl
+as_it_was session σ (Refused e) other = refl
 
 -- ---- an arrival's steps at lent values
 module _ {values : List ℕ} {Promise : Session → Arrived → Type 0} where

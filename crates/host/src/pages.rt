@@ -20,7 +20,7 @@ pub fn shaftglimmer_marks(shape: &[u32; 10], data: &[u32], marks: &mut [u32]) ->
         return gtb::number::refused(Refusal::Length);
     }
     let part = page::marks(load_shape(shape), data);
-    marks[..part.len()].copy_from_slice(part);
+    gtb::copy(part, marks);
     part.len() as u32
 }
 

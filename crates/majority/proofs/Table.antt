@@ -7,7 +7,7 @@ use Prim.Native.Nat.{ℕ, ◌+◌, ◌*◌, ◌/◌, ◌<◌, ◌≤◌}
 use native.Mathlib.Nat.{zero-add}
 use native.Mathlib.Omega.{arith}
 use lib.Arith.{digits_div}
-use lib.Dec.{eqb}
+use lib.Dec.{eqb, ltb}
 use borrow.Author.Tests.{eq-eqb, ne_eqb}
 use Rattle.parity.specs.Lists.{Begins}
 use Rattle.parity.specs.Count.{bit}
@@ -29,6 +29,11 @@ unfolding voted_in
 values_vote s syn j {values} h = majority_cong s.n (at values) (check_in s syn j) h.entry
 
 -- ---- the value that prevails
+-- a number that is not 0, by how many show it
+pub by_number : (n : ℕ) (v : ℕ → ℕ) (x c : ℕ) → (x ≡ 0 → ⊥) → c ≡ shows n v x → ltb n (2 * c) ≡ prevailing n v x
+unfolding prevailing
+by_number n v x c ne e = ap (λ (k : ℕ). ltb n (2 * k)) e ∙ sym (ap (λ (b : Bool). not b && ltb n (2 * shows n v x)) (ne_eqb x 0 ne))
+
 -- the first one that prevails, or none
 pub elects : {n : ℕ} (v : ℕ → ℕ) {t : ℕ} → t < n → ((u : ℕ) → u < t → prevailing n v (v u) ≡ false) → prevailing n v (v t) ≡ true → v t ≡ majority n v
 unfolding majority prevailing

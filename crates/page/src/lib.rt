@@ -119,7 +119,7 @@ fn fill(number: u32, marks: &[u32], symbols: &mut [u32])
     let c = marks.len();
     symbols[0] = number;
     symbols[1] = c as u32;
-    symbols[2..2 + c].copy_from_slice(marks);
+    gtb::copy(marks, &mut symbols[2..2 + c]);
     let rest = 2 + c;
     symbols[rest..].fill(0);
 }

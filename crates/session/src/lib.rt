@@ -269,7 +269,7 @@ impl Outcome {
         ensures { word.new ≡ cond (is_accepted self) word.old came.now }
     {
         if !self.is_accepted() {
-            word.copy_from_slice(came);
+            gtb::copy(came, word);
         }
     }
 

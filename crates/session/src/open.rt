@@ -54,12 +54,12 @@ pub fn open_kept(
     requires { Openable shape (number_of way) word.old × (length came.old ≡ length word.old) × (length symbols.old ≡ info_length shape) }
     ensures { Keeps (way_of (number_of way)) shape word.old word.new came.new symbols.new result }
 {
-    came.copy_from_slice(word);
+    gtb::copy(word, came);
     match open(shape, way, word, symbols) {
         Ok(page) => Ok(page),
         Err(unopened) => {
             if unopened.restored {
-                word.copy_from_slice(came);
+                gtb::copy(came, word);
             }
             Err(unopened.refusal)
         }

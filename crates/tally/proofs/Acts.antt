@@ -1,10 +1,10 @@
 -- What was asked for and came, and steps by what they promise.
 use mathlib.Core.Path.{◌≡◌}
 use mathlib.Core.Bool.{Bool}
-use mathlib.Core.List.{List}
+use mathlib.Core.List.{List, ◌++◌}
 use Prim.Native.Nat.{ℕ, ◌≤◌, ◌<◌, min}
 use native.Mathlib.Omega.{arith}
-use lib.ListN.{length, take}
+use lib.ListN.{length, take, drop, length-append, length-drop}
 use lib.Seq.{length-take-le}
 use Rattle.capture.specs.declared.Reader.{Reader}
 use Rattle.capture.specs.Feed.{is_ended}
@@ -20,6 +20,12 @@ pub asked : (left want count : ℕ) (block : List ℕ) → want ≡ min left 163
 asked left want count block w e c =
     let h = length-take-le want block (omega arith) in
     (omega arith, omega arith)
+
+-- what was not asked for stays behind what was
+pub rest_kept : (want : ℕ) (block part : List ℕ) → want ≤ 16384 → length block ≡ 16384 → length part ≡ length (take want block) → length (part ++ drop want block) ≡ 16384
+rest_kept want block part few e same =
+    let h = length-take-le want block (omega arith) in
+    rw (length-append, length-drop) (omega arith)
 
 pub begun_there : {r : State} {at : ℕ} (error output : Bool) (second : ℕ) → r ≡ begun at error output second → at ≡ 19 → Sound r
 begun_there error output second e a = rw (e, a) (begun_sound error output second)
