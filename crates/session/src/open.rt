@@ -5,8 +5,8 @@ ghost use Rattle.session.specs.Arrival.{way_of};
 ghost use Rattle.session.specs.Named.{number_of};
 ghost use Rattle.session.specs.Steps.{Openable, Opens, Keeps};
 
-use crate::{Brought, Unopened};
 use crate::way::Way;
+use crate::{Brought, Unopened};
 use gtb::{Refusal, Shape};
 use page::read_narrow;
 

@@ -2,7 +2,7 @@
 use Rattle.session.specs.declared.Session.{Session}
 use Rattle.session.specs.declared.Unlawful.{Unlawful}
 use Rattle.std.specs.Prelude.{Result, Ok, Err}
-use mathlib.Core.Path.{◌≡◌, refl, ap, ◌∙◌, subst}
+use mathlib.Core.Path.{◌≡◌, refl, ap, subst}
 use Rattle.gtb.specs.Shape.{Lawful}
 use Rattle.gtb.specs.declared.Shape.{Shape}
 use Rattle.session.specs.Session.{begun_session, begun_status, fresh_of, fresh_status, Beginning}
