@@ -4,7 +4,7 @@ use crate::terminal::Terminal;
 use std::ffi::OsStr;
 use std::fmt::Display;
 use std::fs::{self, File, Permissions};
-use std::io::{Read, Write};
+use std::io::{ErrorKind, Read, Write};
 use std::os::fd::OwnedFd;
 use std::os::unix::fs::PermissionsExt;
 use std::os::unix::net::UnixStream;
@@ -159,7 +159,14 @@ impl Program {
         command
     }
 
+    /// A copy that was just written can't be run as long as a process that another test is starting holds it open too.
     fn start(&self, command: &mut Command) -> Result<Child, String> {
+        for _ in 0..400 {
+            match command.spawn() {
+                Err(error) if error.kind() == ErrorKind::ExecutableFileBusy => thread::sleep(Duration::from_millis(5)),
+                started => return started.map_err(about(&self.0)),
+            }
+        }
         command.spawn().map_err(about(&self.0))
     }
 }
