@@ -19,7 +19,7 @@ impl Checks {
         }
     }
 
-    // The checks on the first `count` places. With no hint it is called, not inlined, and to check a damaged word of order 3 takes 1.3 to 1.6 times as long.
+    // The checks on the first `count` places. With no hint it is called, not inlined, and to check a damaged word of order 3 takes half as long again.
     #[inline]
     pub fn cancel(self, syn: &mut [u32; 248], places: &[usize; 8], errors: &[u32; 8], count: usize)
         requires { (length syn.old ≡ 248) × Within self.shape count places.now }
